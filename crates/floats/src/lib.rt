@@ -1,0 +1,35 @@
+// Floats and their bit patterns, for records and lists of energies.
+ghost use mathlib.Core.Path.{_≡_};
+ghost use lib.Ieee.{binary64, ofBits, toBits, isNan};
+
+// Whether x is a NaN: a NaN, and nothing else, differs from itself.
+pub fn is_nan(x: f64) -> bool
+    ensures { λ r. ⌜ r ≡ isNan x ⌝ }
+{
+    x != x
+}
+
+// The float that a pattern stands for. Every NaN pattern stands for NaN.
+pub fn float_of(pattern: u64) -> f64
+    ensures { λ r. ⌜ r ≡ ofBits binary64 pattern ⌝ }
+{
+    let field = pattern % 0x8000_0000_0000_0000 / 0x0010_0000_0000_0000;
+    if field != 2047 {
+        return f64::from_bits(pattern);
+    }
+    let digits = pattern % 0x0010_0000_0000_0000;
+    if digits == 0 {
+        return f64::from_bits(pattern);
+    }
+    0.0 / 0.0
+}
+
+// The pattern of a float. NaN has the one pattern 7FF8000000000000 hex, as document 01 writes it.
+pub fn pattern_of(x: f64) -> u64
+    ensures { λ r. ⌜ r ≡ toBits binary64 x ⌝ }
+{
+    if x != x {
+        return 0x7FF8_0000_0000_0000;
+    }
+    f64::to_bits(x)
+}

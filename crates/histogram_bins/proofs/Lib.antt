@@ -1,0 +1,5 @@
+pub mod Pairs
+pub mod Rules
+pub mod Bins
+pub mod Halving
+pub mod Readings

@@ -1,0 +1,135 @@
+-- The rules of the tables, at each entry. `checked` is one computed test over both whole tables; each rule is a part of it, read off at a place.
+-- From them: the boundaries rise, and no boundary is at or above a later one. Assumes nothing.
+use mathlib.Core.Path.{_≡_, refl, sym, subst}
+use mathlib.Core.Logic.{inl, inr}
+use mathlib.Core.Bool.{Bool, _&&_}
+use mathlib.Core.List.{List}
+use Prim.Native.Nat.{ℕ, zero, suc, _+_, _*_, _<_, _≤_}
+use native.Mathlib.Nat.{le-refl, lt-of-le-of-lt, le-of-suc-le-suc, eq-or-lt-of-le}
+use native.Mathlib.Numerals.{one-add}
+use native.Mathlib.Omega.{arith}
+use lib.Arith.{le-zero}
+use lib.Dec.{T}
+use lib.ListN.{length, getD, drop, length-drop, List·getD-eq-default}
+use lib.Seq.{getD-drop}
+use lib.Ieee.{Float, nan, lt, le, ofBits}
+use lib.Ieee.Fits.{and-l, and-r}
+use lib.Ieee.Positive.{positive, num, den, cross→le}
+use Rattle.floats.proofs.Order.{float-le-trans, lt→le, lt-not-le}
+use Rattle.histogram_bins.specs.Tables.{boundaries, energies, boundaryAt, energyAt}
+use Rattle.histogram_bins.specs.Rules.{tenfold}
+use Rattle.histogram_bins.proofs.Pairs.{pairs, at}
+
+-- ---- the test: `alone` over each table, `between` over the two
+abbrev first-positive : Float → Float → Bool
+first-positive x y = positive x
+
+abbrev alone : List Float → Bool
+alone xs = pairs first-positive xs xs && pairs tenfold xs (drop 100 xs)
+
+abbrev between : List Float → List Float → Bool
+between edges middles = pairs lt edges middles && pairs lt middles (drop 1 edges)
+
+unfoldable right : Bool
+unfolding lt boundaries energies
+right = alone boundaries && (alone energies && between boundaries energies)
+
+checked : T right
+unfolding right ofBits
+checked = tt
+
+boundaries-alone : T (alone boundaries)
+unfolding right
+boundaries-alone = and-l (alone boundaries) (alone energies && between boundaries energies) checked
+
+energies-alone : T (alone energies)
+unfolding right
+energies-alone =
+    and-l (alone energies) (between boundaries energies) (and-r (alone boundaries) (alone energies && between boundaries energies) checked)
+
+interleaved : T (between boundaries energies)
+unfolding right
+interleaved =
+    and-r (alone energies) (between boundaries energies) (and-r (alone boundaries) (alone energies && between boundaries energies) checked)
+
+-- ---- what the test says at a place, for any table
+alone-positive : (xs : List Float) → T (alone xs) → (i : ℕ) → i < length xs → T (positive (getD xs i nan))
+alone-positive xs t i h = at first-positive nan xs xs (and-l (pairs first-positive xs xs) (pairs tenfold xs (drop 100 xs)) t) i h h
+
+alone-tenfold : (xs : List Float) → T (alone xs) → (i : ℕ) → 100 + i < length xs → T (tenfold (getD xs i nan) (getD xs (100 + i) nan))
+alone-tenfold xs t i h =
+    subst (λ (y : Float). T (tenfold (getD xs i nan) y)) (getD-drop 100 xs i nan)
+    (at tenfold nan xs (drop 100 xs) (and-r (pairs first-positive xs xs) (pairs tenfold xs (drop 100 xs)) t) i (omega arith) (omega (arith, length-drop 100 xs)))
+
+-- ---- the rules
+pub boundaries-length : length boundaries ≡ 1001
+unfolding boundaries
+boundaries-length = refl
+
+pub energies-length : length energies ≡ 1000
+unfolding energies
+energies-length = refl
+
+-- past its end a table has NaN
+pub boundary-past : (i : ℕ) → 1001 ≤ i → boundaryAt i ≡ nan
+unfolding boundaryAt
+boundary-past i h = List·getD-eq-default boundaries nan {n = i} (subst (λ (n : ℕ). n ≤ i) (sym boundaries-length) h)
+
+pub energy-past : (i : ℕ) → 1000 ≤ i → energyAt i ≡ nan
+unfolding energyAt
+energy-past i h = List·getD-eq-default energies nan {n = i} (subst (λ (n : ℕ). n ≤ i) (sym energies-length) h)
+
+pub boundary-positive : (i : ℕ) → i < 1001 → T (positive (boundaryAt i))
+unfolding boundaryAt
+boundary-positive i h = alone-positive boundaries boundaries-alone i (omega (arith, boundaries-length))
+
+pub energy-positive : (i : ℕ) → i < 1000 → T (positive (energyAt i))
+unfolding energyAt
+energy-positive i h = alone-positive energies energies-alone i (omega (arith, energies-length))
+
+pub boundary-tenfold : (i : ℕ) → 100 + i < 1001 → T (tenfold (boundaryAt i) (boundaryAt (100 + i)))
+unfolding boundaryAt
+boundary-tenfold i h = alone-tenfold boundaries boundaries-alone i (omega (arith, boundaries-length))
+
+pub energy-tenfold : (i : ℕ) → 100 + i < 1000 → T (tenfold (energyAt i) (energyAt (100 + i)))
+unfolding energyAt
+energy-tenfold i h = alone-tenfold energies energies-alone i (omega (arith, energies-length))
+
+pub boundary-below-energy : (i : ℕ) → i < 1000 → T (lt (boundaryAt i) (energyAt i))
+unfolding boundaryAt energyAt
+boundary-below-energy i h =
+    at lt nan boundaries energies (and-l (pairs lt boundaries energies) (pairs lt energies (drop 1 boundaries)) interleaved) i
+    (omega (arith, boundaries-length)) (omega (arith, energies-length))
+
+pub energy-below-next : (i : ℕ) → i < 1000 → T (lt (energyAt i) (boundaryAt (1 + i)))
+unfolding boundaryAt energyAt
+energy-below-next i h =
+    subst (λ (y : Float). T (lt (getD energies i nan) y)) (getD-drop 1 boundaries i nan)
+    (at lt nan energies (drop 1 boundaries) (and-r (pairs lt boundaries energies) (pairs lt energies (drop 1 boundaries)) interleaved) i
+    (omega (arith, energies-length)) (omega (arith, boundaries-length, length-drop 1 boundaries)))
+
+-- ---- the boundaries rise
+next-boundary : (i : ℕ) → i < 1000 → T (le (boundaryAt i) (boundaryAt (1 + i)))
+next-boundary i h =
+    float-le-trans (boundaryAt i) (energyAt i) (boundaryAt (1 + i))
+    (lt→le (boundaryAt i) (energyAt i) (boundary-below-energy i h)) (lt→le (energyAt i) (boundaryAt (1 + i)) (energy-below-next i h))
+
+pub same-boundary : (i : ℕ) → i < 1001 → T (le (boundaryAt i) (boundaryAt i))
+same-boundary i l =
+    cross→le (boundaryAt i) (boundaryAt i) (boundary-positive i l) (boundary-positive i l) (le-refl (num (boundaryAt i) * den (boundaryAt i)))
+
+pub boundaries-rise : (i j : ℕ) → i ≤ j → j < 1001 → T (le (boundaryAt i) (boundaryAt j))
+boundaries-rise i zero h l = subst (λ (k : ℕ). T (le (boundaryAt i) (boundaryAt k))) (le-zero h) (same-boundary i (lt-of-le-of-lt h l))
+boundaries-rise i (suc j) h l = elim (eq-or-lt-of-le h) [
+  | inl e ↦ subst (λ (k : ℕ). T (le (boundaryAt i) (boundaryAt k))) e (same-boundary i (lt-of-le-of-lt h l))
+  | inr g ↦
+      float-le-trans (boundaryAt i) (boundaryAt j) (boundaryAt (suc j)) (boundaries-rise i j (le-of-suc-le-suc g) (omega arith))
+      (subst (λ (k : ℕ). T (le (boundaryAt j) (boundaryAt k))) (one-add j) (next-boundary j (omega arith)))
+]
+
+-- no boundary is at or above a later one
+pub boundaries-strict : (i j : ℕ) → i < j → j < 1001 → T (le (boundaryAt j) (boundaryAt i)) → ⊥
+boundaries-strict i j h l t =
+    lt-not-le (boundaryAt i) (energyAt i) (boundary-below-energy i (omega arith))
+    (float-le-trans (energyAt i) (boundaryAt (1 + i)) (boundaryAt i) (lt→le (energyAt i) (boundaryAt (1 + i)) (energy-below-next i (omega arith)))
+    (float-le-trans (boundaryAt (1 + i)) (boundaryAt j) (boundaryAt i) (boundaries-rise (1 + i) j (omega arith) l) t))

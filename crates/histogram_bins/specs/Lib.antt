@@ -1,0 +1,4 @@
+pub mod Tables
+pub mod Rules
+pub mod Bin
+pub mod Reading

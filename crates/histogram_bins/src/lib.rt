@@ -1,0 +1,50 @@
+// The histogram's tables, the bin of an energy, and its reading in tenths.
+ghost use mathlib.Core.Path.{_≡_};
+ghost use Rattle.refusals.specs.Outcome.{saidBy};
+ghost use Rattle.histogram_bins.specs.Bin.{binOf};
+ghost use Rattle.histogram_bins.specs.Reading.{readingOf, said};
+
+pub mod tables;
+
+// The answer of `reading`.
+pub enum Level {
+    Tenths(i32),
+    Refused(u8),
+}
+
+// The bin of an energy, by halving.
+pub fn find_histogram_index(energy: f64) -> usize
+    ensures { λ r. ⌜ r ≡ binOf energy ⌝ }
+{
+    let mut min = 0;
+    let mut max = 1000;
+    loop {
+        let mid = (min + max) / 2;
+        if energy >= tables::boundary(mid) {
+            min = mid;
+        } else {
+            max = mid;
+        }
+        if max - min == 1 {
+            break;
+        }
+    }
+    min
+}
+
+// The reading of an energy in tenths of a LUFS, or SCALE where the energy is off the table's scale.
+pub fn reading(energy: f64) -> Level
+    ensures { λ r. ⌜ said r ≡ saidBy (readingOf energy) ⌝ }
+{
+    if energy != energy {
+        return Level::Refused(refusals::SCALE);
+    }
+    if energy < tables::boundary(0) {
+        return Level::Refused(refusals::SCALE);
+    }
+    if energy >= tables::boundary(1000) {
+        return Level::Refused(refusals::SCALE);
+    }
+    let bin = find_histogram_index(energy);
+    Level::Tenths(-700 + bin as i32)
+}

@@ -1,0 +1,8 @@
+-- What each case of `Answer` says.
+use Rattle.refusals.specs.declared.Answer.{Answer}
+use Rattle.refusals.specs.declared.Answer.the-variants.{Done, Refused}
+use Rattle.refusals.specs.Outcome.{Said, says, refusal, NoValues, done}
+
+abbrev pub said : Answer → Said NoValues
+said Done = says done
+said (Refused n) = refusal n
