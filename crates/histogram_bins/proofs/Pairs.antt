@@ -1,5 +1,5 @@
--- A rule between two lists of floats, entry by entry: one test that is computed over the whole lists, and the rule at each place. Assumes nothing.
-use mathlib.Core.Bool.{Bool, true, _&&_}
+-- A rule between two lists holds at each place that both have, once its test over the whole lists passes. Assumes nothing.
+use mathlib.Core.Bool.{Bool}
 use mathlib.Core.List.{List, [], _∷_}
 use Prim.Native.Nat.{ℕ, zero, suc, _<_}
 use native.Mathlib.Nat.{le-of-suc-le-suc, not-suc-le-zero}
@@ -7,12 +7,7 @@ use lib.Dec.{T}
 use lib.ListN.{length, getD}
 use lib.Ieee.{Float}
 use lib.Ieee.Fits.{and-l, and-r}
-
--- the test passes at each place that both lists have
-abbrev pub pairs : (Float → Float → Bool) → List Float → List Float → Bool
-pairs f [] ys = true
-pairs f (x ∷ xs) [] = true
-pairs f (x ∷ xs) (y ∷ ys) = f x y && pairs f xs ys
+use Rattle.histogram_bins.specs.Rules.{pairs}
 
 pub at : (f : Float → Float → Bool) (d : Float) (xs ys : List Float) → T (pairs f xs ys)
     → (k : ℕ) → k < length xs → k < length ys → T (f (getD xs k d) (getD ys k d))

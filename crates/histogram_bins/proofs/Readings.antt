@@ -43,8 +43,8 @@ module _ (energy : Float) where
   unfolding offScale
   none-off h k l = rw (h, k, l)
 
--- the tenths fit an i32
-pub tenths-fit : (bin : ℕ) → bin < 1000 → SFits w32 (negsuc 699 +ℤ pos bin)
+-- the tenths fit an i32, those of boundary 1000 too
+pub tenths-fit : (bin : ℕ) → bin ≤ 1000 → SFits w32 (negsuc 699 +ℤ pos bin)
 tenths-fit bin h = go (ltb bin 700)
   where
     go : (b : Bool) → SFits w32 (cond b (negsuc (700 - suc bin)) (pos (bin - 700)))

@@ -2,7 +2,7 @@
 -- From them: the boundaries rise, and no boundary is at or above a later one. Assumes nothing.
 use mathlib.Core.Path.{_≡_, refl, sym, subst}
 use mathlib.Core.Logic.{inl, inr}
-use mathlib.Core.Bool.{Bool, _&&_}
+use mathlib.Core.Bool.{_&&_}
 use mathlib.Core.List.{List}
 use Prim.Native.Nat.{ℕ, zero, suc, _+_, _*_, _<_, _≤_}
 use native.Mathlib.Nat.{le-refl, lt-of-le-of-lt, le-of-suc-le-suc, eq-or-lt-of-le}
@@ -17,49 +17,35 @@ use lib.Ieee.Fits.{and-l, and-r}
 use lib.Ieee.Positive.{positive, num, den, cross→le}
 use Rattle.floats.proofs.Order.{float-le-trans, lt→le, lt-not-le}
 use Rattle.histogram_bins.specs.Tables.{boundaries, energies, boundaryAt, energyAt}
-use Rattle.histogram_bins.specs.Rules.{tenfold}
-use Rattle.histogram_bins.proofs.Pairs.{pairs, at}
+use Rattle.histogram_bins.specs.Rules.{pairs, firstPositive, tenfold, scaled, interleaved, rulesKept}
+use Rattle.histogram_bins.proofs.Pairs.{at}
 
--- ---- the test: `alone` over each table, `between` over the two
-abbrev first-positive : Float → Float → Bool
-first-positive x y = positive x
-
-abbrev alone : List Float → Bool
-alone xs = pairs first-positive xs xs && pairs tenfold xs (drop 100 xs)
-
-abbrev between : List Float → List Float → Bool
-between edges middles = pairs lt edges middles && pairs lt middles (drop 1 edges)
-
-unfoldable right : Bool
-unfolding lt boundaries energies
-right = alone boundaries && (alone energies && between boundaries energies)
-
-checked : T right
-unfolding right ofBits
+checked : T rulesKept
+unfolding rulesKept ofBits
 checked = tt
 
-boundaries-alone : T (alone boundaries)
-unfolding right
-boundaries-alone = and-l (alone boundaries) (alone energies && between boundaries energies) checked
+boundaries-scaled : T (scaled boundaries)
+unfolding rulesKept
+boundaries-scaled = and-l (scaled boundaries) (scaled energies && interleaved boundaries energies) checked
 
-energies-alone : T (alone energies)
-unfolding right
-energies-alone =
-    and-l (alone energies) (between boundaries energies) (and-r (alone boundaries) (alone energies && between boundaries energies) checked)
+energies-scaled : T (scaled energies)
+unfolding rulesKept
+energies-scaled =
+    and-l (scaled energies) (interleaved boundaries energies) (and-r (scaled boundaries) (scaled energies && interleaved boundaries energies) checked)
 
-interleaved : T (between boundaries energies)
-unfolding right
-interleaved =
-    and-r (alone energies) (between boundaries energies) (and-r (alone boundaries) (alone energies && between boundaries energies) checked)
+both-interleaved : T (interleaved boundaries energies)
+unfolding rulesKept
+both-interleaved =
+    and-r (scaled energies) (interleaved boundaries energies) (and-r (scaled boundaries) (scaled energies && interleaved boundaries energies) checked)
 
 -- ---- what the test says at a place, for any table
-alone-positive : (xs : List Float) → T (alone xs) → (i : ℕ) → i < length xs → T (positive (getD xs i nan))
-alone-positive xs t i h = at first-positive nan xs xs (and-l (pairs first-positive xs xs) (pairs tenfold xs (drop 100 xs)) t) i h h
+scaled-positive : (xs : List Float) → T (scaled xs) → (i : ℕ) → i < length xs → T (positive (getD xs i nan))
+scaled-positive xs t i h = at firstPositive nan xs xs (and-l (pairs firstPositive xs xs) (pairs tenfold xs (drop 100 xs)) t) i h h
 
-alone-tenfold : (xs : List Float) → T (alone xs) → (i : ℕ) → 100 + i < length xs → T (tenfold (getD xs i nan) (getD xs (100 + i) nan))
-alone-tenfold xs t i h =
+scaled-tenfold : (xs : List Float) → T (scaled xs) → (i : ℕ) → 100 + i < length xs → T (tenfold (getD xs i nan) (getD xs (100 + i) nan))
+scaled-tenfold xs t i h =
     subst (λ (y : Float). T (tenfold (getD xs i nan) y)) (getD-drop 100 xs i nan)
-    (at tenfold nan xs (drop 100 xs) (and-r (pairs first-positive xs xs) (pairs tenfold xs (drop 100 xs)) t) i (omega arith) (omega (arith, length-drop 100 xs)))
+    (at tenfold nan xs (drop 100 xs) (and-r (pairs firstPositive xs xs) (pairs tenfold xs (drop 100 xs)) t) i (omega arith) (omega (arith, length-drop 100 xs)))
 
 -- ---- the rules
 pub boundaries-length : length boundaries ≡ 1001
@@ -81,31 +67,31 @@ energy-past i h = List·getD-eq-default energies nan {n = i} (subst (λ (n : ℕ
 
 pub boundary-positive : (i : ℕ) → i < 1001 → T (positive (boundaryAt i))
 unfolding boundaryAt
-boundary-positive i h = alone-positive boundaries boundaries-alone i (omega (arith, boundaries-length))
+boundary-positive i h = scaled-positive boundaries boundaries-scaled i (omega (arith, boundaries-length))
 
 pub energy-positive : (i : ℕ) → i < 1000 → T (positive (energyAt i))
 unfolding energyAt
-energy-positive i h = alone-positive energies energies-alone i (omega (arith, energies-length))
+energy-positive i h = scaled-positive energies energies-scaled i (omega (arith, energies-length))
 
 pub boundary-tenfold : (i : ℕ) → 100 + i < 1001 → T (tenfold (boundaryAt i) (boundaryAt (100 + i)))
 unfolding boundaryAt
-boundary-tenfold i h = alone-tenfold boundaries boundaries-alone i (omega (arith, boundaries-length))
+boundary-tenfold i h = scaled-tenfold boundaries boundaries-scaled i (omega (arith, boundaries-length))
 
 pub energy-tenfold : (i : ℕ) → 100 + i < 1000 → T (tenfold (energyAt i) (energyAt (100 + i)))
 unfolding energyAt
-energy-tenfold i h = alone-tenfold energies energies-alone i (omega (arith, energies-length))
+energy-tenfold i h = scaled-tenfold energies energies-scaled i (omega (arith, energies-length))
 
 pub boundary-below-energy : (i : ℕ) → i < 1000 → T (lt (boundaryAt i) (energyAt i))
 unfolding boundaryAt energyAt
 boundary-below-energy i h =
-    at lt nan boundaries energies (and-l (pairs lt boundaries energies) (pairs lt energies (drop 1 boundaries)) interleaved) i
+    at lt nan boundaries energies (and-l (pairs lt boundaries energies) (pairs lt energies (drop 1 boundaries)) both-interleaved) i
     (omega (arith, boundaries-length)) (omega (arith, energies-length))
 
 pub energy-below-next : (i : ℕ) → i < 1000 → T (lt (energyAt i) (boundaryAt (1 + i)))
 unfolding boundaryAt energyAt
 energy-below-next i h =
     subst (λ (y : Float). T (lt (getD energies i nan) y)) (getD-drop 1 boundaries i nan)
-    (at lt nan energies (drop 1 boundaries) (and-r (pairs lt boundaries energies) (pairs lt energies (drop 1 boundaries)) interleaved) i
+    (at lt nan energies (drop 1 boundaries) (and-r (pairs lt boundaries energies) (pairs lt energies (drop 1 boundaries)) both-interleaved) i
     (omega (arith, energies-length)) (omega (arith, boundaries-length, length-drop 1 boundaries)))
 
 -- ---- the boundaries rise

@@ -4,6 +4,7 @@ use mathlib.Core.Path.{_≡_, sym, ap, _∙_}
 use mathlib.Core.Bool.{false}
 use Prim.Native.Nat.{_<_}
 use borrow.Author.Needs.{needs}
+use native.Mathlib.Nat.{le-of-lt}
 use native.Mathlib.Omega.{arith}
 use lib.Ieee.{Float, lt, le}
 use lib.IntN.{negsuc, pos, _+ℤ_}
@@ -50,7 +51,7 @@ signed : (c : tie.After-find-histogram-index) → toZ w32 (c .find-histogram-ind
 signed c = toZ-pos w32 (c .find-histogram-index .result) (omega (arith, small c))
 
 add-t6 : tie.Need-add-t6
-add-t6 c = rw (signed c) (tenths-fit (c .find-histogram-index .result) (small c))
+add-t6 c = rw (signed c) (tenths-fit (c .find-histogram-index .result) (le-of-lt (small c)))
 
 returns-4 : tie.Need-returns-4
 returns-4 c =
@@ -61,7 +62,7 @@ returns-4 c =
           (ap (lt e) (sym (c .before .before .before .before .boundary .ensures)) ∙ c .before .before .before .if2 .left)
           (ap (λ (b : Float). le b e) (sym (c .before .before .boundary2 .ensures)) ∙ c .before .if3 .left)),
       signed c,
-      toZ-ofZ w32 (negsuc 699 +ℤ pos bin) (tenths-fit bin (small c)),
+      toZ-ofZ w32 (negsuc 699 +ℤ pos bin) (tenths-fit bin (le-of-lt (small c))),
       ← c .find-histogram-index .ensures,
     )
 

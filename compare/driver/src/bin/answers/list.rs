@@ -1,0 +1,94 @@
+//! The fixed list that the proved program `replay` runs with no Rust at hand. Little-endian, sections
+//! to the end: u32 operation, u32 number of cases, u32 bytes a case, then the cases. A new operation
+//! is a new function here and a line in `bytes`.
+
+use driver::energies::{self, above, below};
+use driver::oracle::{self, BOUNDARIES, ENERGIES};
+use driver::rng::Rng;
+
+const SEED: u64 = 128;
+const BINS: usize = 4096;
+const READINGS: usize = 2048;
+
+pub fn bytes() -> Vec<u8> {
+    [tables(), bins(), readings()].concat()
+}
+
+/// A section: each case is as long as the first.
+fn section(operation: u32, cases: &[Vec<u8>]) -> Vec<u8> {
+    let size = cases[0].len();
+    assert!(cases.iter().all(|case| case.len() == size));
+    let head = [operation, cases.len() as u32, size as u32];
+    let head = head.iter().flat_map(|number| number.to_le_bytes());
+    head.chain(cases.concat()).collect()
+}
+
+/// Operation 1: u16 table (0 boundaries, 1 energies), u16 index, u64 float pattern.
+fn tables() -> Vec<u8> {
+    let entries = |table: u16, values: &'static [f64]| {
+        values.iter().enumerate().map(move |(i, value)| {
+            let mut case = table.to_le_bytes().to_vec();
+            case.extend((i as u16).to_le_bytes());
+            case.extend(value.to_bits().to_le_bytes());
+            case
+        })
+    };
+    let cases: Vec<_> = entries(0, &BOUNDARIES)
+        .chain(entries(1, &ENERGIES))
+        .collect();
+    section(1, &cases)
+}
+
+/// Operation 2: u64 float pattern of the energy, u16 bin. Each boundary and its neighbours, the
+/// specials, then random energies.
+fn bins() -> Vec<u8> {
+    let chosen = BOUNDARIES
+        .iter()
+        .copied()
+        .flat_map(energies::with_neighbours);
+    let cases: Vec<_> = filled(chosen, BINS)
+        .map(|energy| {
+            let mut case = energy.to_bits().to_le_bytes().to_vec();
+            case.extend((oracle::bin(energy) as u16).to_le_bytes());
+            case
+        })
+        .collect();
+    section(2, &cases)
+}
+
+/// Operation 3: u64 float pattern of the energy, u16 refusal (0: answered), u16 tenths + 700 (0 where
+/// refused). Each boundary, a unit below every other one, a unit above both ends, the specials, then
+/// random energies.
+fn readings() -> Vec<u8> {
+    let chosen = BOUNDARIES.iter().copied();
+    let chosen = chosen.chain(BOUNDARIES.iter().step_by(2).copied().map(below));
+    let chosen = chosen.chain([above(BOUNDARIES[0]), above(BOUNDARIES[1000])]);
+    let cases: Vec<_> = filled(chosen, READINGS)
+        .map(|energy| {
+            let (refusal, reading) = match oracle::reading(energy) {
+                Ok(tenths) => (0, tenths + 700),
+                Err(number) => (u16::from(number), 0),
+            };
+            let mut case = energy.to_bits().to_le_bytes().to_vec();
+            case.extend(refusal.to_le_bytes());
+            case.extend((reading as u16).to_le_bytes());
+            case
+        })
+        .collect();
+    section(3, &cases)
+}
+
+/// The chosen energies, the specials, and random ones up to `number`: of any kind and within the
+/// table in turn.
+fn filled(chosen: impl Iterator<Item = f64>, number: usize) -> impl Iterator<Item = f64> {
+    let mut energies: Vec<f64> = chosen.chain(energies::specials()).collect();
+    assert!(energies.len() <= number);
+    let mut rng = Rng::new(SEED);
+    while energies.len() < number {
+        energies.push(match energies.len() % 2 {
+            0 => energies::any(&mut rng),
+            _ => energies::in_table(&mut rng),
+        });
+    }
+    energies.into_iter()
+}

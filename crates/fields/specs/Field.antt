@@ -1,0 +1,18 @@
+-- A field is a run of bytes that stands for a number, low byte first.
+use Prim.Native.Nat.{ℕ, zero, suc, _+_, _*_}
+use mathlib.Core.List.{List}
+use mathlib.Core.Bool.{cond}
+use lib.Dec.{ltb}
+use lib.ListN.{getD}
+
+-- the widest field, in bytes: a number of 64 bits
+abbrev pub widest : ℕ
+widest = 8
+
+abbrev pub narrowed : ℕ → ℕ
+narrowed width = cond (ltb width widest) width widest
+
+-- the number in the field of so many bytes at a place. A byte past the end counts as 0
+unfoldable pub fieldAt : List ℕ → ℕ → ℕ → ℕ
+fieldAt bytes at zero = 0
+fieldAt bytes at (suc width) = getD bytes at 0 + 256 * fieldAt bytes (suc at) width

@@ -1,0 +1,38 @@
+// Numbers in bytes, low byte first: the fields of records and of lists of energies.
+ghost use mathlib.Core.Path.{_≡_};
+ghost use lib.ListN.{getD};
+ghost use Rattle.fields.specs.Field.{fieldAt, narrowed};
+
+const WIDEST: usize = 8;
+
+// The number in the field of `width` bytes at a place, and of the first eight where it is wider.
+pub fn number_at(bytes: &[u8], at: usize, width: usize) -> u64
+    ensures { λ r. ⌜ r ≡ fieldAt (now (bytes .entry)) at (narrowed width) ⌝ }
+{
+    if bytes.len() <= at {
+        return 0;
+    }
+    let mut left = narrow(width);
+    let mut number: u64 = 0;
+    while 0 < left {
+        left -= 1;
+        number = byte_at(bytes, at + left) + 256 * number;
+    }
+    number
+}
+
+// A byte past the end counts as 0.
+fn byte_at(bytes: &[u8], at: usize) -> u64
+    ensures { λ r. ⌜ r ≡ getD (now (bytes .entry)) at 0 ⌝ }
+{
+    if at < bytes.len() {
+        return bytes[at] as u64;
+    }
+    0
+}
+
+fn narrow(width: usize) -> usize
+    ensures { λ r. ⌜ r ≡ narrowed width ⌝ }
+{
+    if width < WIDEST { width } else { WIDEST }
+}
