@@ -16,11 +16,12 @@ pub enum Level {
 pub fn find_histogram_index(energy: f64) -> usize
     ensures { λ r. ⌜ r ≡ binOf energy ⌝ }
 {
+    let boundaries = tables::all_boundaries();
     let mut min = 0;
     let mut max = 1000;
     loop {
         let mid = (min + max) / 2;
-        if energy >= tables::boundary(mid) {
+        if energy >= boundaries[mid] {
             min = mid;
         } else {
             max = mid;
@@ -39,10 +40,10 @@ pub fn reading(energy: f64) -> Level
     if energy != energy {
         return Level::Refused(refusals::SCALE);
     }
-    if energy < tables::boundary(0) {
+    if energy < tables::lowest_boundary() {
         return Level::Refused(refusals::SCALE);
     }
-    if energy >= tables::boundary(1000) {
+    if energy >= tables::highest_boundary() {
         return Level::Refused(refusals::SCALE);
     }
     let bin = find_histogram_index(energy);

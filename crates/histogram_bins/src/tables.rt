@@ -1,6 +1,6 @@
 // Written by tools/make-tables from the Rust's histogram_bins.rs: edit that program and not this file.
 ghost use mathlib.Core.Path.{_≡_};
-ghost use Rattle.histogram_bins.specs.Tables.{boundaryAt, energyAt};
+ghost use Rattle.histogram_bins.specs.Tables.{boundaries, energies, boundaryAt, energyAt};
 
 const ENERGIES: [f64; 1000] = [
     0.000000118604181294802408330460116465,
@@ -2008,6 +2008,32 @@ const BOUNDARIES: [f64; 1001] = [
     1145.776735917112546303542330861091613770,
     1172.465304582295630098087713122367858887,
 ];
+
+// A whole table, for a loop: a constant array is built anew wherever it is indexed, so a loop takes it once.
+pub fn all_boundaries() -> [f64; 1001]
+    ensures { λ r. ⌜ r ≡ boundaries ⌝ }
+{
+    BOUNDARIES
+}
+
+pub fn all_energies() -> [f64; 1000]
+    ensures { λ r. ⌜ r ≡ energies ⌝ }
+{
+    ENERGIES
+}
+
+// The ends of the scale.
+pub fn lowest_boundary() -> f64
+    ensures { λ r. ⌜ r ≡ boundaryAt 0 ⌝ }
+{
+    BOUNDARIES[0]
+}
+
+pub fn highest_boundary() -> f64
+    ensures { λ r. ⌜ r ≡ boundaryAt 1000 ⌝ }
+{
+    BOUNDARIES[1000]
+}
 
 // Boundary i, which stands at -70 + i/10 LUFS. NaN past the table's end.
 pub fn boundary(i: usize) -> f64

@@ -1,35 +1,55 @@
-use Prim.Native.Nat.{_+_, _-_, _≤_, _<_}
+-- `histogram_bins::find_histogram_index` meets its contract. The loop's invariant is the bracket of two bins or more, and its measure the bracket's width.
+-- Assumes nothing.
+use mathlib.Core.Path.{_≡_, ap}
+use mathlib.Core.List.{List}
 use mathlib.Core.Logic.{⊎-elim}
+use Prim.Native.Nat.{ℕ, _+_, _-_, _/_, _≤_, _<_}
 use native.Mathlib.Nat.{le-of-lt}
 use native.Mathlib.Omega.{arith}
 use borrow.Author.Needs.{needs}
+use lib.ListN.{getD}
+use lib.Ieee.{Float, nan}
+use Rattle.histogram_bins.specs.Tables.{boundaries, boundaryAt}
 use Rattle.histogram_bins.proofs.Halving.{Bracket, start, turn-up, turn-down, done}
 use Rattle.histogram_bins.proofs.find_histogram_index.Statement.{statement}
 use Rattle.histogram_bins.proofs.find_histogram_index.Tie as tie
 
 abbrev Inv-loop : tie.InvT-loop
-Inv-loop energy min₀ max₀ min max = (min + 2 ≤ max) × Bracket energy min max
+Inv-loop energy boundaries min₀ max₀ min max = (min + 2 ≤ max) × Bracket energy min max
 
 abbrev μ-loop : tie.MeasureT-loop
-μ-loop energy min₀ max₀ min max = max - min
+μ-loop energy boundaries min₀ max₀ min max = max - min
+
+all-boundaries-requires : tie.Need-all-boundaries-requires Inv-loop μ-loop
+all-boundaries-requires c κs = search needs
 
 loop-holds : tie.Need-loop-holds Inv-loop μ-loop
-loop-holds c = (omega arith, start (c .args .energy))
+loop-holds c = (omega arith, start (c .before .args .energy))
 
 add-mid : tie.Need-add-mid Inv-loop μ-loop
 add-mid c = search needs
 
-boundary-requires : tie.Need-boundary-requires Inv-loop μ-loop
-boundary-requires c κs = search needs
+mul-if1 : tie.Need-mul-if1 Inv-loop μ-loop
+mul-if1 c = omega (arith, c .loop .inv .1 .within)
+
+array-read-if1 : tie.Need-array-read-if1 Inv-loop μ-loop
+array-read-if1 c = omega (arith, c .loop .inv .1 .within, c .loop .inv .1 .ordered)
+
+-- an entry of the array that was taken is the table's
+is-entry : (taken : List Float) → taken ≡ boundaries → (i : ℕ) → getD taken i nan ≡ boundaryAt i
+unfolding boundaryAt
+is-entry taken e i = ap (λ (l : List Float). getD l i nan) e
 
 joined : (c : tie.Joined1 Inv-loop μ-loop)
     → Bracket (c .before .before .before .args .energy) (c .if1 .min) (c .if1 .max)
-    × (c .if1 .max - c .if1 .min < c .before .before .loop .max - c .before .before .loop .min)
+    × (c .if1 .max - c .if1 .min < c .before .loop .max - c .before .loop .min)
 joined c =
-    let at = c .before .before .loop in
-    let got = c .before .boundary in
-    ⊎-elim (λ w. turn-up (at .inv .1) (at .inv .0) (got .result) (got .ensures) (c .if1 .min) (c .if1 .max) (w .0 .taken) (w .1) (w .2))
-    (λ w. turn-down (at .inv .1) (at .inv .0) (got .result) (got .ensures) (c .if1 .min) (c .if1 .max) (w .0 .left) (w .1) (w .2))
+    let at = c .before .loop in
+    let mid = (at .min + at .max) / 2 in
+    let entry = getD (c .before .before .all-boundaries .result) mid nan in
+    let read = is-entry (c .before .before .all-boundaries .result) (c .before .before .all-boundaries .ensures) mid in
+    ⊎-elim (λ w. turn-up (at .inv .1) (at .inv .0) entry read (c .if1 .min) (c .if1 .max) (w .0 .taken) (w .1) (w .2))
+    (λ w. turn-down (at .inv .1) (at .inv .0) entry read (c .if1 .min) (c .if1 .max) (w .0 .left) (w .1) (w .2))
     (c .if1 .came)
 
 sub-if2 : tie.Need-sub-if2 Inv-loop μ-loop
@@ -47,4 +67,5 @@ returns : tie.Need-returns Inv-loop μ-loop
 returns c = done (joined (c .before .before .before) .0) (c .if2 .taken)
 
 pub find-histogram-index-spec : {M : Type 1} → statement M
-find-histogram-index-spec = tie.close (tie.spec Inv-loop μ-loop loop-holds add-mid boundary-requires sub-if2 loop-less loop-again returns)
+find-histogram-index-spec =
+    tie.close (tie.spec Inv-loop μ-loop all-boundaries-requires loop-holds add-mid mul-if1 array-read-if1 sub-if2 loop-less loop-again returns)

@@ -22,21 +22,21 @@ use Rattle.histogram_bins.proofs.reading.Tie as tie
 returns : tie.Need-returns
 returns c = let e = c .before .args .energy in rw (off-scale e (nan-off e (sym (differs e) ∙ c .if1 .taken)))
 
-boundary-requires : tie.Need-boundary-requires
-boundary-requires c κs = search needs
+lowest-boundary-requires : tie.Need-lowest-boundary-requires
+lowest-boundary-requires c κs = search needs
 
 returns-2 : tie.Need-returns-2
 returns-2 c =
     let e = c .before .before .before .args .energy in
-    rw (off-scale e (low-off e (ap (lt e) (sym (c .before .boundary .ensures)) ∙ c .if2 .taken)))
+    rw (off-scale e (low-off e (ap (lt e) (sym (c .before .lowest-boundary .ensures)) ∙ c .if2 .taken)))
 
-boundary-requires-2 : tie.Need-boundary-requires-2
-boundary-requires-2 c κs = search needs
+highest-boundary-requires : tie.Need-highest-boundary-requires
+highest-boundary-requires c κs = search needs
 
 returns-3 : tie.Need-returns-3
 returns-3 c =
     let e = c .before .before .before .before .before .args .energy in
-    rw (off-scale e (high-off e (ap (λ (b : Float). le b e) (sym (c .before .boundary2 .ensures)) ∙ c .if3 .taken)))
+    rw (off-scale e (high-off e (ap (λ (b : Float). le b e) (sym (c .before .highest-boundary .ensures)) ∙ c .if3 .taken)))
 
 find-histogram-index-requires : tie.Need-find-histogram-index-requires
 find-histogram-index-requires c κs = search needs
@@ -59,8 +59,8 @@ returns-4 c =
     let bin = c .find-histogram-index .result in
     rw (
       on-scale e (none-off e (sym (differs e) ∙ c .before .before .before .before .before .if1 .left)
-          (ap (lt e) (sym (c .before .before .before .before .boundary .ensures)) ∙ c .before .before .before .if2 .left)
-          (ap (λ (b : Float). le b e) (sym (c .before .before .boundary2 .ensures)) ∙ c .before .if3 .left)),
+          (ap (lt e) (sym (c .before .before .before .before .lowest-boundary .ensures)) ∙ c .before .before .before .if2 .left)
+          (ap (λ (b : Float). le b e) (sym (c .before .before .highest-boundary .ensures)) ∙ c .before .if3 .left)),
       signed c,
       toZ-ofZ w32 (negsuc 699 +ℤ pos bin) (tenths-fit bin (le-of-lt (small c))),
       ← c .find-histogram-index .ensures,
@@ -68,4 +68,4 @@ returns-4 c =
 
 pub reading-spec : {M : Type 1} → statement M
 reading-spec =
-    tie.close (tie.spec returns boundary-requires returns-2 boundary-requires-2 returns-3 find-histogram-index-requires cast-t5 add-t6 returns-4)
+    tie.close (tie.spec returns lowest-boundary-requires returns-2 highest-boundary-requires returns-3 find-histogram-index-requires cast-t5 add-t6 returns-4)

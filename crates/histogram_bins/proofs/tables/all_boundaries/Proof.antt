@@ -1,0 +1,13 @@
+-- `histogram_bins::tables::all_boundaries` meets its contract: the constant is the table, bit for bit. Assumes nothing.
+use borrow.Author.Needs.{needs}
+use lib.Ieee.{ofBits}
+use Rattle.histogram_bins.specs.Tables.{boundaries}
+use Rattle.histogram_bins.proofs.tables.all_boundaries.Statement.{statement}
+use Rattle.histogram_bins.proofs.tables.all_boundaries.Tie as tie
+
+returns : tie.Need-returns
+unfolding boundaries ofBits
+returns c = search needs
+
+pub all-boundaries-spec : {M : Type 1} → statement M
+all-boundaries-spec = tie.close (tie.spec returns)

@@ -1,0 +1,13 @@
+-- `histogram_bins::tables::all_energies` meets its contract: the constant is the table, bit for bit. Assumes nothing.
+use borrow.Author.Needs.{needs}
+use lib.Ieee.{ofBits}
+use Rattle.histogram_bins.specs.Tables.{energies}
+use Rattle.histogram_bins.proofs.tables.all_energies.Statement.{statement}
+use Rattle.histogram_bins.proofs.tables.all_energies.Tie as tie
+
+returns : tie.Need-returns
+unfolding energies ofBits
+returns c = search needs
+
+pub all-energies-spec : {M : Type 1} → statement M
+all-energies-spec = tie.close (tie.spec returns)
