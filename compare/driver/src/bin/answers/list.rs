@@ -1,6 +1,7 @@
 //! The fixed list that the proved program `replay` runs with no Rust at hand. Little-endian, sections
-//! to the end: u32 operation, u32 number of cases, u32 bytes a case, then the cases. A new operation
-//! is a new function here and a line in `bytes`.
+//! to the end: u32 operation, u32 number of cases, u32 bytes a case, then the cases. Beside it, the
+//! lines that the program prints when every answer is the same. A new operation is a new function
+//! here and a line in `sections`.
 
 use driver::energies::{self, above, below};
 use driver::oracle::{self, BOUNDARIES, ENERGIES};
@@ -10,21 +11,55 @@ const SEED: u64 = 128;
 const BINS: usize = 4096;
 const READINGS: usize = 2048;
 
-pub fn bytes() -> Vec<u8> {
-    [tables(), bins(), readings()].concat()
+/// An operation's cases, under the name that the program prints.
+struct Section {
+    operation: u32,
+    name: &'static str,
+    cases: Vec<Vec<u8>>,
 }
 
-/// A section: each case is as long as the first.
-fn section(operation: u32, cases: &[Vec<u8>]) -> Vec<u8> {
-    let size = cases[0].len();
-    assert!(cases.iter().all(|case| case.len() == size));
-    let head = [operation, cases.len() as u32, size as u32];
-    let head = head.iter().flat_map(|number| number.to_le_bytes());
-    head.chain(cases.concat()).collect()
+fn sections() -> [Section; 3] {
+    [
+        Section {
+            operation: 1,
+            name: "tables",
+            cases: tables(),
+        },
+        Section {
+            operation: 2,
+            name: "bins",
+            cases: bins(),
+        },
+        Section {
+            operation: 3,
+            name: "readings",
+            cases: readings(),
+        },
+    ]
+}
+
+pub fn bytes() -> Vec<u8> {
+    sections().iter().flat_map(Section::bytes).collect()
+}
+
+pub fn lines() -> String {
+    let line = |section: &Section| format!("{} {} same\n", section.name, section.cases.len());
+    sections().iter().map(line).collect()
+}
+
+impl Section {
+    /// Each case is as long as the first.
+    fn bytes(&self) -> Vec<u8> {
+        let size = self.cases[0].len();
+        assert!(self.cases.iter().all(|case| case.len() == size));
+        let head = [self.operation, self.cases.len() as u32, size as u32];
+        let head = head.iter().flat_map(|number| number.to_le_bytes());
+        head.chain(self.cases.concat()).collect()
+    }
 }
 
 /// Operation 1: u16 table (0 boundaries, 1 energies), u16 index, u64 float pattern.
-fn tables() -> Vec<u8> {
+fn tables() -> Vec<Vec<u8>> {
     let entries = |table: u16, values: &'static [f64]| {
         values.iter().enumerate().map(move |(i, value)| {
             let mut case = table.to_le_bytes().to_vec();
@@ -33,37 +68,35 @@ fn tables() -> Vec<u8> {
             case
         })
     };
-    let cases: Vec<_> = entries(0, &BOUNDARIES)
+    entries(0, &BOUNDARIES)
         .chain(entries(1, &ENERGIES))
-        .collect();
-    section(1, &cases)
+        .collect()
 }
 
 /// Operation 2: u64 float pattern of the energy, u16 bin. Each boundary and its neighbours, the
 /// specials, then random energies.
-fn bins() -> Vec<u8> {
+fn bins() -> Vec<Vec<u8>> {
     let chosen = BOUNDARIES
         .iter()
         .copied()
         .flat_map(energies::with_neighbours);
-    let cases: Vec<_> = filled(chosen, BINS)
+    filled(chosen, BINS)
         .map(|energy| {
             let mut case = energy.to_bits().to_le_bytes().to_vec();
             case.extend((oracle::bin(energy) as u16).to_le_bytes());
             case
         })
-        .collect();
-    section(2, &cases)
+        .collect()
 }
 
 /// Operation 3: u64 float pattern of the energy, u16 refusal (0: answered), u16 tenths + 700 (0 where
 /// refused). Each boundary, a unit below every other one, a unit above both ends, the specials, then
 /// random energies.
-fn readings() -> Vec<u8> {
+fn readings() -> Vec<Vec<u8>> {
     let chosen = BOUNDARIES.iter().copied();
     let chosen = chosen.chain(BOUNDARIES.iter().step_by(2).copied().map(below));
     let chosen = chosen.chain([above(BOUNDARIES[0]), above(BOUNDARIES[1000])]);
-    let cases: Vec<_> = filled(chosen, READINGS)
+    filled(chosen, READINGS)
         .map(|energy| {
             let (refusal, reading) = match oracle::reading(energy) {
                 Ok(tenths) => (0, tenths + 700),
@@ -74,8 +107,7 @@ fn readings() -> Vec<u8> {
             case.extend((reading as u16).to_le_bytes());
             case
         })
-        .collect();
-    section(3, &cases)
+        .collect()
 }
 
 /// The chosen energies, the specials, and random ones up to `number`: of any kind and within the

@@ -1,5 +1,5 @@
-//! answers coefficients FILE, answers list FILE: write what the Rust answers to FILE; with a further
-//! word --check, only say whether FILE holds it.
+//! answers coefficients|list|lines FILE: write what the Rust answers to FILE (`lines`: what `replay`
+//! prints over the list); with a further word --check, only say whether FILE holds it.
 
 mod coefficients;
 mod list;
@@ -18,6 +18,7 @@ fn main() -> io::Result<ExitCode> {
     let bytes = match what {
         "coefficients" => coefficients::text().into_bytes(),
         "list" => list::bytes(),
+        "lines" => list::lines().into_bytes(),
         _ => return Ok(usage()),
     };
     if !check {
@@ -45,6 +46,6 @@ fn main() -> io::Result<ExitCode> {
 }
 
 fn usage() -> ExitCode {
-    eprintln!("usage: answers coefficients|list FILE [--check]");
+    eprintln!("usage: answers coefficients|list|lines FILE [--check]");
     ExitCode::from(2)
 }
