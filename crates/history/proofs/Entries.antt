@@ -1,0 +1,137 @@
+-- The entries of a set, gone through in order: the first of what is left, whether any reaches outside, whether every store is sound, and what they show.
+-- Each is by recursion on the entries, so that a turn of a loop settles the first and leaves the rest. Assumes nothing.
+use mathlib.Core.Path.{_≡_, refl, sym, ap, _∙_}
+use mathlib.Core.Bool.{Bool, true, false, not, _&&_, _||_, true≢false}
+use mathlib.Core.List.{List, [], _∷_, _++_}
+use Prim.Native.Nat.{ℕ, zero, suc, _+_, _-_, _≤_, _<_}
+use native.Mathlib.Numerals.{add-one}
+use native.Mathlib.Omega.{arith}
+use borrow.Author.Tests.{lt-ltb, le-ltb, ltb-true, ltb-false}
+use lib.Dec.{ltb}
+use lib.ListN.{length, getD, take, drop, length-take, drop-of-length-le}
+use lib.Seq.{drop-cons, getD-take}
+use lib.Ieee.{Float}
+use Rattle.histogram_bins.specs.Bin.{bins}
+use Rattle.history.specs.declared.queue.Queue.{Queue}
+use Rattle.history.specs.declared.set.Entry.{Entry}
+use Rattle.history.specs.declared.set.Shape.{Shape}
+use Rattle.history.specs.declared.set.Shape.the-variants.{Histogram, Queue as Queue-at}
+use Rattle.history.specs.Energy.{dropped}
+use Rattle.history.specs.Set.{isOutside, anyOutside, noneBelow, isSound, allSound, blockEnd, storeEnd, blocksInside, storesInside}
+
+-- what is read past the last entry
+abbrev pub past-the-last : Entry
+past-the-last = record { shape = Histogram 0 }
+
+-- ---- lists
+-- the first of those of the first `count` that are left, and none left
+pub next-entry : {A : Type 0} (l : List A) (count i : ℕ) (d : A) → i < count → count ≤ length l
+    → drop i (take count l) ≡ getD l i d ∷ drop (i + 1) (take count l)
+next-entry l count i d h g =
+    let within : i < length (take count l) = omega (arith, length-take count l) in
+    rw (add-one i, drop-cons (take count l) i d within, getD-take count l i d h)
+
+pub no-more : {A : Type 0} (l : List A) (count i : ℕ) → count ≤ i → drop i (take count l) ≡ []
+no-more l count i h = let past : length (take count l) ≤ i = omega (arith, length-take count l) in drop-of-length-le (take count l) past
+
+-- ---- energies below boundary 0
+and-assoc : (a b c : Bool) → (a && b) && c ≡ a && (b && c)
+and-assoc true b c = refl
+and-assoc false b c = refl
+
+and-true : (a : Bool) → a && true ≡ a
+and-true true = refl
+and-true false = refl
+
+pub none-below-append : (a b : List Float) → noneBelow (a ++ b) ≡ noneBelow a && noneBelow b
+unfolding noneBelow
+none-below-append [] b = refl
+none-below-append (x ∷ a) b = rw (none-below-append a b, and-assoc)
+
+module _ (part : List Float) where
+  pub below-turn : (fine : Bool) (i : ℕ) (d : Float) → i < length part
+      → (fine && not (dropped (getD part i d))) && noneBelow (drop (i + 1) part) ≡ fine && noneBelow (drop i part)
+  unfolding noneBelow
+  below-turn fine i d h = rw (and-assoc, add-one i, drop-cons part i d h)
+
+  pub below-end : (fine : Bool) (i : ℕ) → length part ≤ i → fine && noneBelow (drop i part) ≡ fine
+  unfolding noneBelow
+  below-end fine i h = rw (drop-of-length-le part h) (and-true fine)
+
+-- ---- reaching outside
+or-false : (a : Bool) → a || false ≡ a
+or-false true = refl
+or-false false = refl
+
+pub past : (n start size : ℕ) → n < start → ltb n (start + size) ≡ true
+past n start size h = lt-ltb n (start + size) (omega arith)
+
+pub left : (n start size : ℕ) → start ≤ n → ltb (n - start) size ≡ ltb n (start + size)
+left n start size h = go (ltb (n - start) size) refl
+  where
+    go : (b : Bool) → ltb (n - start) size ≡ b → b ≡ ltb n (start + size)
+    go true e = sym (lt-ltb n (start + size) (omega (arith, ltb-true (n - start) size e)))
+    go false e = sym (le-ltb n (start + size) (omega (arith, ltb-false (n - start) size e)))
+
+module _ (counters energies : ℕ) where
+  pub histogram-outside : (entry : Entry) (start : ℕ) → entry .shape ≡ Histogram start → isOutside counters energies entry ≡ ltb counters (start + bins)
+  histogram-outside entry start e = rw (e, le-ltb energies 0 (omega arith)) (or-false (ltb counters (start + bins)))
+
+  pub queue-outside : (entry : Entry) (start : ℕ) (queue : Queue) → entry .shape ≡ Queue-at start queue
+      → isOutside counters energies entry ≡ ltb energies (start + queue .maximum)
+  queue-outside entry start queue e = rw (e, le-ltb counters 0 (omega arith))
+
+  module _ (l : List Entry) (count i : ℕ) where
+    pub any-found : i < count → count ≤ length l → isOutside counters energies (getD l i past-the-last) ≡ true
+        → anyOutside counters energies (drop i (take count l)) ≡ true
+    unfolding anyOutside
+    any-found h g e = rw (next-entry l count i past-the-last h g, e)
+
+    pub any-passed : i < count → count ≤ length l → isOutside counters energies (getD l i past-the-last) ≡ false
+        → anyOutside counters energies (drop i (take count l)) ≡ anyOutside counters energies (drop (i + 1) (take count l))
+    unfolding anyOutside
+    any-passed h g e = rw (next-entry l count i past-the-last h g, e)
+
+    pub any-end : count ≤ i → anyOutside counters energies (drop i (take count l)) ≡ false
+    unfolding anyOutside
+    any-end h = rw (no-more l count i h)
+
+-- ---- sound stores
+module _ (energies : List Float) (l : List Entry) (count i : ℕ) where
+  pub all-found : i < count → count ≤ length l → isSound energies (getD l i past-the-last) ≡ false → allSound energies (drop i (take count l)) ≡ false
+  unfolding allSound
+  all-found h g e = rw (next-entry l count i past-the-last h g, e)
+
+  pub all-passed : i < count → count ≤ length l → isSound energies (getD l i past-the-last) ≡ true
+      → allSound energies (drop i (take count l)) ≡ allSound energies (drop (i + 1) (take count l))
+  unfolding allSound
+  all-passed h g e = rw (next-entry l count i past-the-last h g, e)
+
+  pub all-end : count ≤ i → allSound energies (drop i (take count l)) ≡ true
+  unfolding allSound
+  all-end h = rw (no-more l count i h)
+
+  pub inside-first : i < count → count ≤ length l → storesInside (length energies) (drop i (take count l))
+      → (storeEnd (getD l i past-the-last .shape) ≤ length energies) × storesInside (length energies) (drop (i + 1) (take count l))
+  inside-first h g s = rw (next-entry l count i past-the-last h g) at s
+
+-- where no entry reaches outside, every store ends inside
+either-not : (a b : Bool) → a || b ≡ false → (a ≡ false) × (b ≡ false)
+either-not true b h = absurd (true≢false h)
+either-not false b h = (refl, h)
+
+pub stores-inside : (counters energies : ℕ) (l : List Entry) → anyOutside counters energies l ≡ false → storesInside energies l
+unfolding anyOutside
+stores-inside counters energies [] h = tt
+stores-inside counters energies (entry ∷ l) h =
+    let w = either-not (isOutside counters energies entry) (anyOutside counters energies l) h in
+    let v = either-not (ltb counters (blockEnd (entry .shape))) (ltb energies (storeEnd (entry .shape))) (w .0) in
+    (ltb-false energies (storeEnd (entry .shape)) (v .1), stores-inside counters energies l (w .1))
+
+pub blocks-inside : (counters energies : ℕ) (l : List Entry) → anyOutside counters energies l ≡ false → blocksInside counters l
+unfolding anyOutside
+blocks-inside counters energies [] h = tt
+blocks-inside counters energies (entry ∷ l) h =
+    let w = either-not (isOutside counters energies entry) (anyOutside counters energies l) h in
+    let v = either-not (ltb counters (blockEnd (entry .shape))) (ltb energies (storeEnd (entry .shape))) (w .0) in
+    (ltb-false counters (blockEnd (entry .shape)) (v .0), blocks-inside counters energies l (w .1))

@@ -1,0 +1,7 @@
+pub mod Counters
+pub mod Merge
+pub mod Ring
+pub mod Held
+pub mod Slices
+pub mod Entries
+pub mod Verdicts

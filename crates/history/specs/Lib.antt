@@ -1,0 +1,4 @@
+pub mod Energy
+pub mod Histogram
+pub mod Queue
+pub mod Set

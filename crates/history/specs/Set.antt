@@ -1,0 +1,127 @@
+-- A set of histories (01, 'Numbers of the refusals' and 'What must change shape'): what its entries show of the lent slices, and what refuses it.
+-- "SET comes first for every entry, then STORE entry by entry."
+use Prim.Native.Nat.{ℕ, _+_, _≤_}
+use mathlib.Core.Bool.{Bool, true, false, not, _&&_, _||_, cond}
+use mathlib.Core.List.{List, [], _∷_}
+use lib.Dec.{ltb}
+use lib.ListN.{length, take, drop}
+use lib.Ieee.{Float}
+use Rattle.refusals.specs.Refusal.{Refusal, STORE, SET, number}
+use Rattle.refusals.specs.Outcome.{Question, refused}
+use Rattle.histogram_bins.specs.Bin.{bins}
+use Rattle.history.specs.declared.queue.Queue.{Queue}
+use Rattle.history.specs.declared.set.Entry.{Entry}
+use Rattle.history.specs.declared.set.Shape.{Shape}
+use Rattle.history.specs.declared.set.Shape.the-variants.{Histogram, Queue as Queue-at}
+use Rattle.history.specs.Energy.{dropped}
+use Rattle.history.specs.Queue.{Stored, over, suits, heldOf}
+
+-- the most histories of a set
+abbrev pub mostHistories : ℕ
+mostHistories = 16
+
+-- the entries, how many of them count, and the lent slices
+pub record Histories : Type 0 where
+  pub entries : List Entry
+  pub count : ℕ
+  pub counters : List ℕ
+  pub energies : List Float
+
+abbrev pub histories : List Entry → ℕ → List ℕ → List Float → Histories
+histories entries count counters energies = record { entries = entries; count = count; counters = counters; energies = energies }
+
+-- the entries that count
+abbrev pub chosen : Histories → List Entry
+chosen h = take (h .count) (h .entries)
+
+-- ---- what an entry shows
+-- the counters of a histogram, or the energies that a queue holds, oldest first
+pub data History : Type 0 where
+  counted : List ℕ → History
+  listed : List Float → History
+
+-- 1,000 counters from a place on
+abbrev pub blockAt : List ℕ → ℕ → List ℕ
+blockAt counters start = take bins (drop start counters)
+
+-- a queue over its store, which starts at a place of the energies
+abbrev pub queueAt : List Float → ℕ → Queue → Stored
+queueAt energies start queue = over queue (take (queue .maximum) (drop start energies))
+
+abbrev pub shapeShows : List ℕ → List Float → Shape → History
+shapeShows counters energies (Histogram start) = counted (blockAt counters start)
+shapeShows counters energies (Queue-at start queue) = listed (heldOf (queueAt energies start queue))
+
+abbrev pub shows : List ℕ → List Float → Entry → History
+shows counters energies entry = shapeShows counters energies (entry .shape)
+
+unfoldable pub allShow : List ℕ → List Float → List Entry → List History
+allShow counters energies [] = []
+allShow counters energies (entry ∷ rest) = shows counters energies entry ∷ allShow counters energies rest
+
+-- the histories of the set, in order
+abbrev pub historiesOf : Histories → List History
+historiesOf h = allShow (h .counters) (h .energies) (chosen h)
+
+-- ---- SET: "more than 16 histories, or an entry reaching outside its lent slice"
+-- where the counters of an entry end, and where its energies do
+abbrev pub blockEnd : Shape → ℕ
+blockEnd (Histogram start) = start + bins
+blockEnd (Queue-at start queue) = 0
+
+abbrev pub storeEnd : Shape → ℕ
+storeEnd (Histogram start) = 0
+storeEnd (Queue-at start queue) = start + queue .maximum
+
+-- whether an entry reaches outside so many counters or so many energies
+abbrev pub isOutside : ℕ → ℕ → Entry → Bool
+isOutside counters energies entry = ltb counters (blockEnd (entry .shape)) || ltb energies (storeEnd (entry .shape))
+
+unfoldable pub anyOutside : ℕ → ℕ → List Entry → Bool
+anyOutside counters energies [] = false
+anyOutside counters energies (entry ∷ rest) = isOutside counters energies entry || anyOutside counters energies rest
+
+-- every block ends within so many counters, every store within so many energies
+abbrev pub blocksInside : ℕ → List Entry → Type 0
+blocksInside counters [] = Unit
+blocksInside counters (entry ∷ rest) = (blockEnd (entry .shape) ≤ counters) × blocksInside counters rest
+
+abbrev pub storesInside : ℕ → List Entry → Type 0
+storesInside energies [] = Unit
+storesInside energies (entry ∷ rest) = (storeEnd (entry .shape) ≤ energies) × storesInside energies rest
+
+-- ---- STORE: a queue that does not suit its store, or "in a question or writer, a held energy below boundary 0". NaN is not below it
+unfoldable pub noneBelow : List Float → Bool
+noneBelow [] = true
+noneBelow (energy ∷ rest) = not (dropped energy) && noneBelow rest
+
+abbrev pub shapeSound : List Float → Shape → Bool
+shapeSound energies (Histogram start) = true
+shapeSound energies (Queue-at start queue) = suits queue (queue .maximum) && noneBelow (heldOf (queueAt energies start queue))
+
+abbrev pub isSound : List Float → Entry → Bool
+isSound energies entry = shapeSound energies (entry .shape)
+
+unfoldable pub allSound : List Float → List Entry → Bool
+allSound energies [] = true
+allSound energies (entry ∷ rest) = isSound energies entry && allSound energies rest
+
+-- ---- the first refusal that holds, in order, or none
+pub data Verdict : Type 0 where
+  sound : Verdict
+  refusing : Refusal → Verdict
+
+unfoldable pub refusalOf : Histories → Verdict
+refusalOf h =
+    cond (ltb mostHistories (h .count) || anyOutside (length (h .counters)) (length (h .energies)) (chosen h)) (refusing SET)
+    (cond (allSound (h .energies) (chosen h)) sound (refusing STORE))
+
+-- its number, and 0 for none
+abbrev pub numbered : Verdict → ℕ
+numbered sound = 0
+numbered (refusing r) = number r
+
+-- a question over a set answers the set's refusal first
+abbrev pub unlessRefused : {Values : Type 0} → Verdict → Question Values → Question Values
+unlessRefused sound question = question
+unlessRefused (refusing r) question = refused r
