@@ -1,7 +1,12 @@
 -- How the C interface tells an outcome: its result is 0, or the refusal's number; a value goes through a pointer, and a refusal leaves there what was there.
 use Prim.Native.Nat.{ℕ}
+use mathlib.Core.List.{List}
+use lib.Ieee.{Float}
 use Rattle.refusals.specs.Refusal.{number}
-use Rattle.refusals.specs.Outcome.{Outcome, went, refused}
+use Rattle.refusals.specs.Outcome.{Outcome, went, refused, keptBy}
+use Rattle.refusals.specs.declared.Answer.{Answer}
+use Rattle.refusals.specs.declared.Answer.the-variants.{Done, Refused}
+use Rattle.history.specs.Queue.{Stored, over, enqueued}
 
 abbrev pub code : {Kept Values : Type 0} → Outcome Kept Values → ℕ
 code (went kept values) = 0
@@ -10,3 +15,16 @@ code (refused r) = number r
 abbrev pub valueOr : {Kept Values : Type 0} → Values → Outcome Kept Values → Values
 valueOr old (went kept values) = values
 valueOr old (refused r) = old
+
+-- the same of an answer without values
+abbrev pub numberSaid : Answer → ℕ
+numberSaid Done = 0
+numberSaid (Refused n) = n
+
+-- a queue as its numbers, over its store
+abbrev pub queueOver : ℕ → ℕ → ℕ → List Float → Stored
+queueOver maximum head held store = over (record { maximum = maximum; head = head; held = held }) store
+
+-- the queue and its store after an energy was added, or refused
+abbrev pub afterAdd : Stored → Float → Stored
+afterAdd given energy = keptBy given (enqueued given energy)
