@@ -1,0 +1,28 @@
+-- The answers of `order`: energies that rise already, energies that are brought in order, and energies that are left alone since one is not above zero.
+-- Assumes nothing.
+use mathlib.Core.Path.{_≡_, refl, sym, _∙_}
+use mathlib.Core.Bool.{Bool, true, false, cond}
+use mathlib.Core.List.{List}
+use Prim.Native.Nat.{ℕ}
+use lib.Dec.{T}
+use lib.Ieee.{Float, fits, binary64}
+use lib.Ieee.Positive.{above}
+use Rattle.ordering.specs.Order.{inOrder, allAbove, ordered}
+use Rattle.ordering.specs.Inner.{Above, Rising, Ordered, at}
+use Rattle.ordering.proofs.Perms.{all-at, all-of}
+use Rattle.ordering.proofs.InOrder.{Energy, rising-is, the-order}
+use Rattle.ordering.proofs.Runs.{all-above}
+
+module _ (l : List Float) where
+  chosen : (b : Bool) (new : List Float) → allAbove l ≡ b → new ≡ cond b (inOrder l) l → (b ≡ allAbove l) × (new ≡ ordered l)
+  chosen b new e h = (sym e, rw e h)
+
+  pub in-order-already : Above l → Rising l → (true ≡ allAbove l) × (l ≡ ordered l)
+  in-order-already a r = chosen true l (all-above l a) (sym (rising-is l r))
+
+  pub brought-in-order : Above l → ((i : ℕ) → T (fits binary64 (at l i))) → (new : List Float) → Ordered l new → (true ≡ allAbove l) × (new ≡ ordered l)
+  brought-in-order a f new o =
+      chosen true new (all-above l a) (the-order o (all-of Energy l (λ i h. (all-at (λ x. T (above x)) l a i h, f i))))
+
+  pub left-alone : allAbove l ≡ false → (false ≡ allAbove l) × (l ≡ ordered l)
+  left-alone e = chosen false l e refl

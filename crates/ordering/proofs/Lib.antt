@@ -1,0 +1,11 @@
+pub mod Perms
+pub mod Energies
+pub mod InOrder
+pub mod Places
+pub mod Heap
+pub mod Placing
+pub mod Filling
+pub mod Parting
+pub mod Joining
+pub mod Runs
+pub mod Answers

@@ -1,0 +1,349 @@
+// Energies in rising order, in place, in n log n steps for every input.
+// Parts are split around a pivot; a part whose splits go deeper than twice the binary digits of the length is ordered by a heap instead.
+ghost use mathlib.Core.Path.{_≡_};
+ghost use mathlib.Core.Bool.{true};
+ghost use Prim.Native.Nat.{_+_, _-_, _*_, _<_, _^_};
+ghost use lib.ListN.{length, take};
+ghost use Rattle.ordering.specs.Order.{allAbove, ordered};
+ghost use Rattle.ordering.specs.Inner.{Above, Rising, Falling, Ordered, Turned, Larger, HeapFrom, Heaped, Lowest, Parted, exchanged};
+
+// Parts up to this length are ordered by putting one energy after the other in its place.
+const SHORT: usize = 20;
+
+fn exchange(part: &mut [f64], i: usize, j: usize)
+    requires { ⌜ (i < length (now part)) × (j < length (now part)) ⌝ }
+    ensures { λ _. ⌜ now (part .exit) ≡ exchanged (now (part .entry)) i j ⌝ }
+{
+    let x = part[i];
+    let y = part[j];
+    part[i] = y;
+    part[j] = x;
+}
+
+// The child of `parent` that no other child is above.
+fn larger_child(heap: &[f64], parent: usize) -> usize
+    requires { ⌜ (2 * parent + 1 < length (now heap)) × Above (now heap) ⌝ }
+    ensures { λ r. ⌜ Larger parent (now (heap .entry)) r ⌝ }
+{
+    let left = 2 * parent + 1;
+    let right = left + 1;
+    if right >= heap.len() {
+        return left;
+    }
+    let x = heap[left];
+    let y = heap[right];
+    if x < y {
+        return right;
+    }
+    left
+}
+
+// Lets the energy at `from` sink until no child is above it.
+fn sift(heap: &mut [f64], from: usize)
+    requires { ⌜ Above (now heap) × HeapFrom (from + 1) (now heap) ⌝ }
+    ensures { λ _. ⌜ Heaped from (now (heap .entry)) (now (heap .exit)) ⌝ }
+{
+    let end = heap.len() / 2;
+    let mut at = from;
+    while at < end {
+        let child = larger_child(heap, at);
+        let x = heap[at];
+        let y = heap[child];
+        if y <= x {
+            return;
+        }
+        exchange(heap, at, child);
+        at = child;
+    }
+}
+
+fn build_heap(part: &mut [f64])
+    requires { ⌜ Above (now part) ⌝ }
+    ensures { λ _. ⌜ Heaped 0 (now (part .entry)) (now (part .exit)) ⌝ }
+{
+    let mut from = part.len() / 2;
+    while from > 0 {
+        from -= 1;
+        sift(part, from);
+    }
+}
+
+// The largest energy goes to the end, and what is left before it is made a heap again.
+fn heap_sort(part: &mut [f64])
+    requires { ⌜ Above (now part) ⌝ }
+    ensures { λ _. ⌜ Ordered (now (part .entry)) (now (part .exit)) ⌝ }
+{
+    build_heap(part);
+    let mut left = part.len();
+    while left > 1 {
+        left -= 1;
+        exchange(part, 0, left);
+        sift(&mut part[..left], 0);
+    }
+}
+
+// Puts the last energy in its place among the others, which rise.
+fn put_last(part: &mut [f64])
+    requires { ⌜ (0 < length (now part)) × (Above (now part) × Rising (take (length (now part) - 1) (now part))) ⌝ }
+    ensures { λ _. ⌜ Ordered (now (part .entry)) (now (part .exit)) ⌝ }
+{
+    let mut place = part.len() - 1;
+    let x = part[place];
+    while place > 0 {
+        let y = part[place - 1];
+        if y <= x {
+            break;
+        }
+        part[place] = y;
+        place -= 1;
+    }
+    part[place] = x;
+}
+
+fn short_sort(part: &mut [f64])
+    requires { ⌜ Above (now part) ⌝ }
+    ensures { λ _. ⌜ Ordered (now (part .entry)) (now (part .exit)) ⌝ }
+{
+    let n = part.len();
+    let mut done = 1;
+    while done < n {
+        done += 1;
+        put_last(&mut part[..done]);
+    }
+}
+
+// The place, of three, whose energy lies between the other two.
+fn middle(part: &[f64], i: usize, j: usize, k: usize) -> usize
+    requires { ⌜ (i < length (now part)) × ((j < length (now part)) × (k < length (now part))) ⌝ }
+    ensures { λ r. ⌜ r < length (now (part .entry)) ⌝ }
+{
+    let x = part[i];
+    let y = part[j];
+    let z = part[k];
+    if x < y {
+        if y < z {
+            return j;
+        }
+        if x < z {
+            return k;
+        }
+        return i;
+    }
+    if x < z {
+        return i;
+    }
+    if y < z {
+        return k;
+    }
+    j
+}
+
+// A place whose energy is likely to split the part evenly: the middle of three, or of three such middles.
+fn pivot_place(part: &[f64]) -> usize
+    requires { ⌜ 0 < length (now part) ⌝ }
+    ensures { λ r. ⌜ r < length (now (part .entry)) ⌝ }
+{
+    let n = part.len();
+    if n < 128 {
+        return middle(part, 0, n / 2, n - 1);
+    }
+    let step = n / 8;
+    let low = middle(part, 0, step, 2 * step);
+    let mid = middle(part, 3 * step, 4 * step, 5 * step);
+    let high = middle(part, 6 * step, 7 * step, n - 1);
+    middle(part, low, mid, high)
+}
+
+// Splits the part around its first energy: those below it go before it. Answers its new place.
+fn part_below(part: &mut [f64]) -> usize
+    requires { ⌜ (0 < length (now part)) × Above (now part) ⌝ }
+    ensures { λ r. ⌜ Parted r (r + 1) (now (part .entry)) (now (part .exit)) ⌝ }
+{
+    let n = part.len();
+    let pivot = part[0];
+    let mut low = 1;
+    let mut i = 1;
+    while i < n {
+        let x = part[i];
+        let y = part[low];
+        part[i] = y;
+        part[low] = x;
+        i += 1;
+        if x < pivot {
+            low += 1;
+        }
+    }
+    let place = low - 1;
+    exchange(part, 0, place);
+    place
+}
+
+// The same where no energy is below the first: those that equal it go to the front. Answers their number.
+fn part_equal(part: &mut [f64]) -> usize
+    requires { ⌜ (0 < length (now part)) × (Above (now part) × Lowest (now part)) ⌝ }
+    ensures { λ r. ⌜ Parted 0 r (now (part .entry)) (now (part .exit)) ⌝ }
+{
+    let n = part.len();
+    let pivot = part[0];
+    let mut low = 1;
+    let mut i = 1;
+    while i < n {
+        let x = part[i];
+        let y = part[low];
+        part[i] = y;
+        part[low] = x;
+        i += 1;
+        if x <= pivot {
+            low += 1;
+        }
+    }
+    low
+}
+
+// What a split settles: the places from `from` up to `to`.
+struct Settled {
+    from: usize,
+    to: usize,
+}
+
+fn split(part: &mut [f64]) -> Settled
+    requires { ⌜ (0 < length (now part)) × Above (now part) ⌝ }
+    ensures { λ r. ⌜ Parted (r .from) (r .to) (now (part .entry)) (now (part .exit)) ⌝ }
+{
+    let pivot = pivot_place(part);
+    exchange(part, 0, pivot);
+    let place = part_below(part);
+    if place > 0 {
+        return Settled {
+            from: place,
+            to: place + 1,
+        };
+    }
+    let equal = part_equal(part);
+    Settled { from: 0, to: equal }
+}
+
+fn split_sort(part: &mut [f64], budget: usize)
+    requires { ⌜ Above (now part) ⌝ }
+    ensures { λ _. ⌜ Ordered (now (part .entry)) (now (part .exit)) ⌝ }
+{
+    let n = part.len();
+    if n <= SHORT {
+        short_sort(part);
+        return;
+    }
+    if budget == 0 {
+        heap_sort(part);
+        return;
+    }
+    let settled = split(part);
+    let from = settled.from;
+    let to = settled.to;
+    split_sort(&mut part[..from], budget - 1);
+    split_sort(&mut part[to..], budget - 1);
+}
+
+// Twice the binary digits of n: how deep splits may go before the heap takes over.
+fn depth_for(n: usize) -> usize
+    requires { ⌜ n < 2 ^ 60 ⌝ }
+{
+    let mut left = n;
+    let mut depth = 0;
+    while left > 0 {
+        left = left / 2;
+        depth += 2;
+    }
+    depth
+}
+
+// Whether the energies are above zero and rise already. It stops where they do not.
+fn rises(energies: &[f64]) -> bool
+    ensures { λ r. ⌜ (r ≡ true → Above (now (energies .entry)) × Rising (now (energies .entry))) ⌝ }
+{
+    let n = energies.len();
+    if n == 0 {
+        return true;
+    }
+    let first = energies[0];
+    let mut last = first;
+    let mut i = 1;
+    while i < n {
+        let x = energies[i];
+        if last <= x {
+            last = x;
+            i += 1;
+        } else {
+            return false;
+        }
+    }
+    0.0 < first
+}
+
+// Whether they are above zero and fall.
+fn falls(energies: &[f64]) -> bool
+    ensures { λ r. ⌜ (r ≡ true → Above (now (energies .entry)) × Falling (now (energies .entry))) ⌝ }
+{
+    let n = energies.len();
+    if n == 0 {
+        return true;
+    }
+    let mut last = energies[0];
+    let mut i = 1;
+    while i < n {
+        let x = energies[i];
+        if x <= last {
+            last = x;
+            i += 1;
+        } else {
+            return false;
+        }
+    }
+    0.0 < last
+}
+
+fn all_above(energies: &[f64]) -> bool
+    ensures { λ r. ⌜ r ≡ allAbove (now (energies .entry)) ⌝ }
+{
+    let n = energies.len();
+    let mut i = 0;
+    while i < n {
+        let x = energies[i];
+        if 0.0 < x {
+            i += 1;
+        } else {
+            return false;
+        }
+    }
+    true
+}
+
+fn turn_round(part: &mut [f64])
+    ensures { λ _. ⌜ Turned (now (part .entry)) (now (part .exit)) ⌝ }
+{
+    let n = part.len();
+    let mut i = 0;
+    while i < n / 2 {
+        exchange(part, i, n - 1 - i);
+        i += 1;
+    }
+}
+
+// Orders the energies in place, rising, where each is above zero; else it touches nothing and answers false.
+pub fn order(energies: &mut [f64]) -> bool
+    ensures { λ r. ⌜ r ≡ allAbove (now (energies .entry)) ⌝ }
+    ensures { λ _. ⌜ now (energies .exit) ≡ ordered (now (energies .entry)) ⌝ }
+{
+    if rises(energies) {
+        return true;
+    }
+    if falls(energies) {
+        turn_round(energies);
+        return true;
+    }
+    if all_above(energies) {
+        let depth = depth_for(energies.len());
+        split_sort(energies, depth);
+        return true;
+    }
+    false
+}
