@@ -4,6 +4,7 @@ use mathlib.Core.Path.{_≡_, refl, sym, ap, _∙_}
 use mathlib.Core.Bool.{Bool, true, false, not, _&&_, _||_, true≢false}
 use mathlib.Core.List.{List, [], _∷_, _++_}
 use Prim.Native.Nat.{ℕ, zero, suc, _+_, _-_, _≤_, _<_}
+use native.Mathlib.Nat.{le-of-suc-le-suc, not-suc-le-zero}
 use native.Mathlib.Numerals.{add-one}
 use native.Mathlib.Omega.{arith}
 use borrow.Author.Tests.{lt-ltb, le-ltb, ltb-true, ltb-false}
@@ -17,7 +18,22 @@ use Rattle.history.specs.declared.set.Entry.{Entry}
 use Rattle.history.specs.declared.set.Shape.{Shape}
 use Rattle.history.specs.declared.set.Shape.the-variants.{Histogram, Queue as Queue-at}
 use Rattle.history.specs.Energy.{dropped}
-use Rattle.history.specs.Set.{isOutside, anyOutside, noneBelow, isSound, allSound, blockEnd, storeEnd, blocksInside, storesInside}
+use Rattle.history.specs.Queue.{suits, heldOf}
+use Rattle.history.specs.Set.{
+  queueAt,
+  shows,
+  allShow,
+  blockEnd,
+  storeEnd,
+  blocksInside,
+  storesInside,
+  isOutside,
+  anyOutside,
+  noneBelow,
+  shapeSound,
+  isSound,
+  allSound,
+}
 
 -- what is read past the last entry
 abbrev pub past-the-last : Entry
@@ -135,3 +151,59 @@ blocks-inside counters energies (entry ∷ l) h =
     let w = either-not (isOutside counters energies entry) (anyOutside counters energies l) h in
     let v = either-not (ltb counters (blockEnd (entry .shape))) (ltb energies (storeEnd (entry .shape))) (w .0) in
     (ltb-false counters (blockEnd (entry .shape)) (v .0), blocks-inside counters energies l (w .1))
+
+-- ---- one entry of a set of which none reaches outside and every store is sound
+module _ (counters energies : ℕ) where
+  outside-in : (l : List Entry) (i : ℕ) → i < length l → anyOutside counters energies l ≡ false → isOutside counters energies (getD l i past-the-last) ≡ false
+  unfolding anyOutside
+  outside-in [] i h e = absurd (not-suc-le-zero h)
+  outside-in (entry ∷ l) zero h e = either-not (isOutside counters energies entry) (anyOutside counters energies l) e .0
+  outside-in (entry ∷ l) (suc i) h e = outside-in l i (le-of-suc-le-suc h) (either-not (isOutside counters energies entry) (anyOutside counters energies l) e .1)
+
+  pub inside-at : (l : List Entry) (count i : ℕ) → i < count → count ≤ length l → anyOutside counters energies (take count l) ≡ false
+      → isOutside counters energies (getD l i past-the-last) ≡ false
+  inside-at l count i h g e =
+      let within : i < length (take count l) = omega (arith, length-take count l) in
+      ap (isOutside counters energies) (sym (getD-take count l i past-the-last h)) ∙ outside-in (take count l) i within e
+
+  pub block-inside : (entry : Entry) → isOutside counters energies entry ≡ false → blockEnd (entry .shape) ≤ counters
+  block-inside entry e =
+      ltb-false counters (blockEnd (entry .shape)) (either-not (ltb counters (blockEnd (entry .shape))) (ltb energies (storeEnd (entry .shape))) e .0)
+
+  pub store-inside : (entry : Entry) → isOutside counters energies entry ≡ false → storeEnd (entry .shape) ≤ energies
+  store-inside entry e =
+      ltb-false energies (storeEnd (entry .shape)) (either-not (ltb counters (blockEnd (entry .shape))) (ltb energies (storeEnd (entry .shape))) e .1)
+
+both : (a b : Bool) → a && b ≡ true → (a ≡ true) × (b ≡ true)
+both true b h = (refl, h)
+both false b h = absurd (true≢false (sym h))
+
+module _ (energies : List Float) where
+  sound-in : (l : List Entry) (i : ℕ) → i < length l → allSound energies l ≡ true → isSound energies (getD l i past-the-last) ≡ true
+  unfolding allSound
+  sound-in [] i h e = absurd (not-suc-le-zero h)
+  sound-in (entry ∷ l) zero h e = both (isSound energies entry) (allSound energies l) e .0
+  sound-in (entry ∷ l) (suc i) h e = sound-in l i (le-of-suc-le-suc h) (both (isSound energies entry) (allSound energies l) e .1)
+
+  pub sound-at : (l : List Entry) (count i : ℕ) → i < count → count ≤ length l → allSound energies (take count l) ≡ true
+      → isSound energies (getD l i past-the-last) ≡ true
+  sound-at l count i h g e =
+      let within : i < length (take count l) = omega (arith, length-take count l) in
+      ap (isSound energies) (sym (getD-take count l i past-the-last h)) ∙ sound-in (take count l) i within e
+
+  -- a queue's store suits it, and holds nothing below boundary 0
+  pub sound-queue : (entry : Entry) (start : ℕ) (queue : Queue) → entry .shape ≡ Queue-at start queue → isSound energies entry ≡ true
+      → (suits queue (queue .maximum) ≡ true) × (noneBelow (heldOf (queueAt energies start queue)) ≡ true)
+  sound-queue entry start queue e s =
+      both (suits queue (queue .maximum)) (noneBelow (heldOf (queueAt energies start queue))) (sym (ap (shapeSound energies) e) ∙ s)
+
+-- ---- what the entries show, in order
+module _ (counters : List ℕ) (energies : List Float) (l : List Entry) (count i : ℕ) where
+  pub shows-next : i < count → count ≤ length l
+      → allShow counters energies (drop i (take count l)) ≡ shows counters energies (getD l i past-the-last) ∷ allShow counters energies (drop (i + 1) (take count l))
+  unfolding allShow
+  shows-next h g = rw (next-entry l count i past-the-last h g)
+
+  pub shows-end : count ≤ i → allShow counters energies (drop i (take count l)) ≡ []
+  unfolding allShow
+  shows-end h = rw (no-more l count i h)

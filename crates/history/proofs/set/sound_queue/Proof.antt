@@ -1,14 +1,12 @@
 -- `history::set::sound_queue` meets its contract: the energies held are two slices, and none is below boundary 0 where none in either is.
 -- Assumes nothing.
-use Prim.Native.Nat.{ℕ, _+_, _-_}
+use Prim.Native.Nat.{_+_, _-_}
 use native.Mathlib.Omega.{arith}
-use mathlib.Core.Path.{_≡_, sym, subst, _∙_}
+use mathlib.Core.Path.{_≡_, sym, _∙_}
 use mathlib.Core.Bool.{true, false}
-use mathlib.Core.List.{_++_}
 use borrow.Author.Needs.{needs}
 use denote.Ref.{now}
-use Rattle.history.specs.Queue.{suits, heldOf}
-use Rattle.history.specs.Set.{queueAt}
+use Rattle.history.specs.Queue.{suits}
 use Rattle.history.proofs.Ring.{Suited, suited}
 use Rattle.history.proofs.Slices.{slice, held-slices}
 use Rattle.history.proofs.Entries.{none-below-append}
@@ -76,16 +74,11 @@ returns c =
     let energies = now (a .energies) in
     let queue = a .queue in
     let h : suits queue (queue .maximum) ≡ true = sym (f .before .before .suits .ensures) ∙ f .before .if1 .taken in
-    let place = a .start + queue .head in
-    let parts : heldOf (queueAt energies (a .start) queue)
-    ≡ slice place (place + f .first-part .result) energies ++ slice (a .start) (a .start + (queue .held - f .first-part .result)) energies
-    = subst
-    (λ (n : ℕ). heldOf (queueAt energies (a .start) queue) ≡ slice place (place + n) energies ++ slice (a .start) (a .start + (queue .held - n)) energies)
-    (sym (f .first-part .ensures)) (held-slices energies (a .start) queue (f .before .before .before .before .pre) h) in
+    let first = f .first-part .result in
     rw (
       h,
-      parts,
-      none-below-append (slice place (place + f .first-part .result) energies) (slice (a .start) (a .start + (queue .held - f .first-part .result)) energies),
+      held-slices energies (a .start) queue (f .before .before .before .before .pre) h first (f .first-part .ensures),
+      none-below-append (slice (a .start + queue .head) (a .start + queue .head + first) energies) (slice (a .start) (a .start + (queue .held - first)) energies),
       ← c .before .before .none-below .ensures,
       ← c .none-below2 .ensures,
     )
