@@ -3,3 +3,4 @@ pub mod Rules
 pub mod Bins
 pub mod Halving
 pub mod Readings
+pub mod Taken

@@ -1,0 +1,4 @@
+pub mod Start
+pub mod Running
+pub mod Passes
+pub mod Questions

@@ -1,0 +1,73 @@
+-- `gate::history_gated` meets its contract, shape by shape: the entry is inside its slice, and its store is sound. Assumes nothing.
+use Prim.Native.Nat.{_+_, _≤_}
+use native.Mathlib.Omega.{arith}
+use mathlib.Core.Path.{_≡_, sym, ap, subst, _∙_}
+use borrow.Author.Needs.{needs}
+use denote.Ref.{now}
+use lib.ListN.{length, drop}
+use Rattle.history.specs.declared.set.Shape.{Shape}
+use Rattle.history.specs.Set.{History, blockEnd, storeEnd, blockAt, shapeShows}
+use Rattle.history.proofs.Entries.{block-inside, store-inside, sound-queue}
+use Rattle.gate.specs.declared.Totals.{Totals}
+use Rattle.gate.specs.Gate.{binsFrom, gatedOf}
+use Rattle.gate.proofs.Start.{start-most}
+use Rattle.gate.proofs.history_gated.Statement.{statement}
+use Rattle.gate.proofs.history_gated.Tie as tie
+
+enum-known-shape : tie.Need-enum-known-shape
+enum-known-shape c = search needs
+
+block-from-requires : tie.Need-block-from-requires
+block-from-requires c κs =
+    let w = c .before .before .before .before .before in
+    let a = w .args in
+    let sh = c .before .shape in (
+      subst (λ (s : Shape). blockEnd s ≤ length (now (a .counters))) (sh .given .1)
+          (block-inside (length (now (a .counters))) (length (now (a .energies))) (a .entry) (w .pre .0)),
+      subst (λ n. n ≤ 1000) (sym (w .pre .3)) (start-most (a .threshold)),
+      w .pre .2,
+    )
+
+enum-known-shape-2 : tie.Need-enum-known-shape-2
+enum-known-shape-2 c = search needs
+
+queue-kept-requires : tie.Need-queue-kept-requires
+queue-kept-requires c κs =
+    let w = c .before .before .before .before .before in
+    let a = w .args in
+    let sh = c .before .shape2 in (
+      subst (λ (s : Shape). storeEnd s ≤ length (now (a .energies))) (sh .given .1)
+          (store-inside (length (now (a .counters))) (length (now (a .energies))) (a .entry) (w .pre .0)),
+      sound-queue (now (a .energies)) (a .entry) (sh .given .0 .0) (sh .given .0 .1 .0) (sh .given .1) (w .pre .1) .0,
+      w .pre .2,
+    )
+
+returns : tie.Need-returns
+returns c =
+    let w = c .before .before .before .before .before .before in
+    let a = w .args in
+    let sh = c .before .before .shape in (
+      c .block-from .ensures .0 ∙ ap (λ n. binsFrom (a .totals) n (drop n (blockAt (now (a .counters)) (sh .given .0 .0)))) (w .pre .3)
+          ∙ ap (λ (s : Shape). gatedOf (a .threshold) (a .totals) (shapeShows (now (a .counters)) (now (a .energies)) s)) (sym (sh .given .1)),
+      c .block-from .ensures .1,
+    )
+
+returns-2 : tie.Need-returns-2
+returns-2 c =
+    let w = c .before .before .before .before .before .before in
+    let a = w .args in
+    let sh = c .before .before .shape2 in (
+      c .queue-kept .ensures .0 ∙ ap (λ (s : Shape). gatedOf (a .threshold) (a .totals) (shapeShows (now (a .counters)) (now (a .energies)) s)) (sym (sh .given .1)),
+      c .queue-kept .ensures .1,
+    )
+
+pub history-gated-spec : {M : Type 1} → statement M
+history-gated-spec =
+    tie.close
+    (tie.spec
+    enum-known-shape
+    block-from-requires
+    enum-known-shape-2
+    queue-kept-requires
+    returns
+    returns-2)

@@ -1,0 +1,3 @@
+pub mod Gate
+pub mod GatedEnergy
+pub mod Relative
