@@ -1,0 +1,4 @@
+pub mod Taps
+pub mod Rules
+pub mod Interp
+pub mod Phase

@@ -1,0 +1,59 @@
+-- Phase f at a frame (01, step 5): "the f32 sum, from 0, over i = 0, 1, .. of the sample i frames back (0 before the start) times coefficient i·factor + f; product and sum round separately."
+-- A history is a channel's last samples, newest first, zeros before the start, however it is stored.
+use mathlib.Core.List.{List, [], _∷_}
+use mathlib.Core.Bool.{cond}
+use Prim.Native.Nat.{ℕ, zero, suc, _+_}
+use lib.Dec.{eqb}
+use lib.ListN.{take}
+use lib.Ieee.{Float, nan, add, mul, ofBits, binary32}
+use Rattle.interp.specs.declared.Interp.{Interp}
+use Rattle.interp.specs.declared.Twelve.{Twelve}
+use Rattle.interp.specs.declared.Four.{Four}
+use Rattle.interp.specs.declared.Two.{Two}
+use Rattle.interp.specs.Taps.{fourfoldAt, twofoldAt}
+use Rattle.interp.specs.Interp.{fourfold, twofold}
+
+-- coefficient j of a factor, and NaN where there is none
+abbrev pub coefficientAt : ℕ → ℕ → Float
+coefficientAt factor j = cond (eqb factor (fourfold .factor)) (fourfoldAt j) (cond (eqb factor (twofold .factor)) (twofoldAt j) nan)
+
+-- +0
+abbrev pub nought : Float
+nought = ofBits binary32 0
+
+-- the sum carried on by a sample times a coefficient
+abbrev pub plus : Float → Float → Float → Float
+plus sum x c = add binary32 sum (mul binary32 x c)
+
+-- the sum carried on over samples, newest first: the first goes times coefficient j, each next one times the coefficient `factor` places on
+unfoldable pub summed : ℕ → ℕ → Float → List Float → Float
+summed factor j sum [] = sum
+summed factor j sum (x ∷ xs) = summed factor (j + factor) (plus sum x (coefficientAt factor j)) xs
+
+unfoldable pub phase : Interp → List Float → ℕ → Float
+unfolding summed
+phase i history f = summed (i .factor) f nought (take (i .taps) history)
+
+-- n phases from phase f on, and all phases of an interpolator: one for each part that its factor makes of a frame
+unfoldable pub phasesFrom : Interp → List Float → ℕ → ℕ → List Float
+phasesFrom i history f zero = []
+phasesFrom i history f (suc n) = phase i history f ∷ phasesFrom i history (suc f) n
+
+unfoldable pub phases : Interp → List Float → List Float
+unfolding phasesFrom
+phases i history = phasesFrom i history 0 (i .factor)
+
+-- ---- the code's types as lists
+abbrev pub listed : Twelve → List Float
+listed x = x .v0 ∷ x .v1 ∷ x .v2 ∷ x .v3 ∷ x .v4 ∷ x .v5 ∷ x .v6 ∷ x .v7 ∷ x .v8 ∷ x .v9 ∷ x .v10 ∷ x .v11 ∷ []
+
+abbrev pub four : Four → List Float
+four r = r .p0 ∷ r .p1 ∷ r .p2 ∷ r .p3 ∷ []
+
+abbrev pub two : Two → List Float
+two r = r .p0 ∷ r .p1 ∷ []
+
+-- the sum carried on over twelve samples at once
+abbrev pub carriedOn : Float → Twelve → Twelve → Float
+carriedOn sum x c =
+    plus (plus (plus (plus (plus (plus (plus (plus (plus (plus (plus (plus sum (x .v0) (c .v0)) (x .v1) (c .v1)) (x .v2) (c .v2)) (x .v3) (c .v3)) (x .v4) (c .v4)) (x .v5) (c .v5)) (x .v6) (c .v6)) (x .v7) (c .v7)) (x .v8) (c .v8)) (x .v9) (c .v9)) (x .v10) (c .v10)) (x .v11) (c .v11)

@@ -1,0 +1,28 @@
+-- The rules that document 01 (port order, step 5) has the coefficients keep.
+-- "Coefficient 24 is 1; none exceeds 1 in magnitude; coefficients 24+k and 24-k (k to 23) differ by at most 2^-23."
+use mathlib.Core.Bool.{Bool, true, false, Bool·beq, cond}
+use Prim.Native.Nat.{ℕ, _+_, _-_, _*_, _^_}
+use lib.Dec.{leb}
+use lib.IntN.{pos}
+use lib.Ieee.{Float, nan, inf, fin, up, down}
+
+abbrev pub one : Float
+one = fin false 1 (pos 0)
+
+-- the magnitude is at most 1
+abbrev pub withinOne : Float → Bool
+withinOne nan = false
+withinOne (inf s) = false
+withinOne (fin s m e) = leb (m * up e) (down e)
+
+-- how far ±a and ±b are apart
+abbrev pub apart : Bool → ℕ → Bool → ℕ → ℕ
+apart s a t b = cond (Bool·beq s t) ((a - b) + (b - a)) (a + b)
+
+-- x and y differ by at most 2^-23: over their common denominator, 2^23 times the difference is at most that denominator
+abbrev pub near : Float → Float → Bool
+near nan y = false
+near (inf s) y = false
+near (fin s m e) nan = false
+near (fin s m e) (inf t) = false
+near (fin s m e) (fin t n d) = leb (apart s (m * up e * down d) t (n * up d * down e) * 2 ^ 23) (down e * down d)

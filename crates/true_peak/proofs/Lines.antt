@@ -1,0 +1,262 @@
+-- Lines of samples: a line with samples stored after its history gives each frame's window as a run, so hearing the samples is scanning the line.
+-- The window of the next frame is this one's without its oldest sample and with one newer. Assumes nothing.
+use mathlib.Core.Path.{_≡_, refl, sym, ap, _∙_, subst}
+use mathlib.Core.Logic.{_⊎_, inl, inr}
+use mathlib.Core.List.{List, [], _∷_, _++_}
+use Prim.Native.Nat.{ℕ, zero, suc, _+_, _*_, _-_, _≤_, _<_}
+use native.Mathlib.Nat.{not-suc-le-zero, le-of-suc-le-suc, suc-mul, add-zero, eq-or-lt-of-le}
+use native.Mathlib.Numerals.{add-one}
+use native.Mathlib.Omega.{arith}
+use lib.ListN.{length, getD, take, drop, set, length-take, length-drop, length-set}
+use lib.Seq.{sets, ext-getD, getD-take, getD-drop, getD-set-other, getD-set-same}
+use lib.Ieee.{Float, nan}
+use Rattle.interp.specs.declared.Interp.{Interp}
+use Rattle.interp.specs.declared.Twelve.{Twelve}
+use Rattle.interp.specs.Interp.{fourfold, twofold}
+use Rattle.interp.specs.Phase.{phase, phases, listed}
+use Rattle.true_peak.specs.Channel.{Channel, hear, heard, past, loudest, back, scanned, windowAt}
+use Rattle.true_peak.specs.TruePeak.{column, historyAt}
+
+-- ---- runs of a line
+-- two lines that agree at m places have the same run there
+pub back-same : (l k : List Float) (a b m : ℕ) → ((j : ℕ) → j < m → getD l (a + j) nan ≡ getD k (b + j) nan) → back l a m ≡ back k b m
+unfolding back
+back-same l k a b zero h = refl
+back-same l k a b (suc m) h =
+    ap (λ (x : Float). x ∷ back l a m) (h m (omega arith)) ∙ ap (λ (r : List Float). getD k (b + m) nan ∷ r) (back-same l k a b m (λ j g. h j (omega arith)))
+
+back-joined : (l : List Float) (at n m k : ℕ) → k ≡ n + m → back l at k ≡ back l (at + m) n ++ back l at m
+unfolding back
+back-joined l at zero m k e = let e′ : k ≡ m = omega arith in ap (back l at) e′
+back-joined l at (suc n) m k e =
+    let e′ : k ≡ suc (n + m) = omega arith in
+    let f : at + (n + m) ≡ at + m + n = omega arith in
+    ap (back l at) e′ ∙ ap (λ (p : ℕ). getD l p nan ∷ back l at (n + m)) f ∙ ap (λ (r : List Float). getD l (at + m + n) nan ∷ r) (back-joined l at n m (n + m) refl)
+
+window-back : (l : List Float) (at : ℕ) → listed (windowAt l at) ≡ back l at 12
+unfolding back
+window-back l at = rw (add-zero at)
+
+-- a frame's window is the newer twelve and the older twelve
+pub window : (l : List Float) (at : ℕ) → back l at 24 ≡ listed (windowAt l (at + 12)) ++ listed (windowAt l at)
+window l at = back-joined l at 12 12 24 refl ∙ ap (λ (r : List Float). r ++ back l at 12) (sym (window-back l (at + 12))) ∙ ap (λ (r : List Float). listed (windowAt l (at + 12)) ++ r) (sym (window-back l at))
+
+-- without its oldest sample a run begins one place later
+back-next : (l : List Float) (at n : ℕ) → take n (back l at (suc n)) ≡ back l (suc at) n
+unfolding back
+back-next l at zero = refl
+back-next l at (suc n) =
+    let e : at + suc n ≡ suc at + n = omega arith in
+    ap (λ (p : ℕ). getD l p nan ∷ take n (back l at (suc n))) e ∙ ap (λ (r : List Float). getD l (suc at + n) nan ∷ r) (back-next l at n)
+
+-- ---- hearing samples is scanning the line that holds them
+hear-line : (i : Interp) (l : List Float) (at : ℕ) (peak : Float)
+    → hear i (record { history = back l at past; peak = peak }) (getD l (at + past) nan)
+    ≡ record { history = back l (suc at) past; peak = loudest peak (phases i (back l at 24)) }
+unfolding hear back
+hear-line i l at peak = ap (λ (h : List Float). record { history = h; peak = loudest peak (phases i (back l at 24)) }) (back-next l at 23)
+
+-- the line holds the samples from place at + past on
+heard-line : (i : Interp) (l xs : List Float) (at : ℕ) (peak : Float) → ((k : ℕ) → k < length xs → getD l (at + past + k) nan ≡ getD xs k nan)
+    → heard i (record { history = back l at past; peak = peak }) xs
+    ≡ record { history = back l (at + length xs) past; peak = scanned i l at (length xs) peak }
+unfolding heard scanned
+heard-line i l [] at peak h = ap (λ (p : ℕ). record { history = back l p past; peak = peak }) (sym (add-zero at))
+heard-line i l (x ∷ xs) at peak h =
+    let e : at + past + 0 ≡ at + past = omega arith in
+    let first : x ≡ getD l (at + past) nan = sym (h 0 (omega arith)) ∙ ap (λ (p : ℕ). getD l p nan) e in
+    let f : suc at + length xs ≡ at + suc (length xs) = omega arith in
+    let later : (k : ℕ) → k < length xs → getD l (suc at + past + k) nan ≡ getD xs k nan =
+    λ k g. (let q : suc at + past + k ≡ at + past + suc k = omega arith in ap (λ (p : ℕ). getD l p nan) q ∙ h (suc k) (omega arith)) in
+    ap (λ (y : Float). heard i (hear i (record { history = back l at past; peak = peak }) y) xs) first
+    ∙ ap (λ (ch : Channel). heard i ch xs) (hear-line i l at peak)
+    ∙ heard-line i l xs (suc at) (loudest peak (phases i (back l at 24))) later
+    ∙ ap (λ (p : ℕ). record { history = back l p past; peak = scanned i l (suc at) (length xs) (loudest peak (phases i (back l at 24))) }) f
+
+-- ---- a run of stores
+pub sets-before : (vs l : List Float) (i p : ℕ) → p < i → getD (sets l i vs) p nan ≡ getD l p nan
+sets-before [] l i p h = refl
+sets-before (v ∷ vs) l i p h =
+    sets-before vs (set l i v) (suc i) p (omega arith) ∙ getD-set-other l i p v nan (λ e. omega arith)
+
+pub sets-at : (vs l : List Float) (i k : ℕ) → k < length vs → i + length vs ≤ length l → getD (sets l i vs) (i + k) nan ≡ getD vs k nan
+sets-at [] l i k h r = absurd (not-suc-le-zero h)
+sets-at (v ∷ vs) l i zero h r =
+    let e : i + 0 ≡ i = omega arith in
+    ap (λ (p : ℕ). getD (sets (set l i v) (suc i) vs) p nan) e
+    ∙ sets-before vs (set l i v) (suc i) i (omega arith)
+    ∙ getD-set-same l i v nan (omega arith)
+sets-at (v ∷ vs) l i (suc k) h r =
+    let e : i + suc k ≡ suc i + k = omega arith in
+    ap (λ (p : ℕ). getD (sets (set l i v) (suc i) vs) p nan) e
+    ∙ sets-at vs (set l i v) (suc i) k (le-of-suc-le-suc h) (simp length-set (omega arith))
+
+pub sets-after : (vs l : List Float) (i p : ℕ) → i + length vs ≤ p → getD (sets l i vs) p nan ≡ getD l p nan
+sets-after [] l i p h = refl
+sets-after (v ∷ vs) l i p h =
+    sets-after vs (set l i v) (suc i) p (omega arith) ∙ getD-set-other l i p v nan (λ e. omega arith)
+
+-- a line with samples stored after its history
+pub heard-stored : (i : Interp) (l xs : List Float) (peak : Float) → past + length xs ≤ length l
+    → heard i (record { history = back l 0 past; peak = peak }) xs
+    ≡ record { history = back (sets l past xs) (length xs) past; peak = scanned i (sets l past xs) 0 (length xs) peak }
+heard-stored i l xs peak h =
+    let stored = sets l past xs in
+    let e : 0 + length xs ≡ length xs = omega arith in
+    ap (λ (r : List Float). heard i (record { history = r; peak = peak }) xs) (back-same l stored 0 0 past (λ j g. sym (sets-before xs l past (0 + j) (omega arith))))
+    ∙ heard-line i stored xs 0 peak (λ k g. (let q : 0 + past + k ≡ past + k = omega arith in ap (λ (p : ℕ). getD stored p nan) q ∙ sets-at xs l past k g h))
+    ∙ ap (λ (p : ℕ). record { history = back stored p past; peak = scanned i stored 0 (length xs) peak }) e
+
+-- ---- a frame's phases, from its window: factor 4 looks at the newer twelve only
+first-twelve : (x : Twelve) (older : List Float) → phases fourfold (listed x ++ older) ≡ phases fourfold (listed x)
+unfolding phases phase
+first-twelve x older = refl
+
+pub fourfold-window : (l : List Float) (at : ℕ) (x : Twelve) → x ≡ windowAt l (at + 12) → phases fourfold (listed x) ≡ phases fourfold (back l at 24)
+fourfold-window l at x e =
+    ap (λ (w : Twelve). phases fourfold (listed w)) e
+    ∙ sym (first-twelve (windowAt l (at + 12)) (listed (windowAt l at)))
+    ∙ ap (phases fourfold) (sym (window l at))
+
+pub twofold-window : (l : List Float) (at : ℕ) (x y : Twelve) → x ≡ windowAt l (at + 12) → y ≡ windowAt l at → phases twofold (listed x ++ listed y) ≡ phases twofold (back l at 24)
+twofold-window l at x y e f =
+    ap (λ (w : Twelve). phases twofold (listed w ++ listed y)) e
+    ∙ ap (λ (w : Twelve). phases twofold (listed (windowAt l (at + 12)) ++ listed w)) f
+    ∙ ap (phases twofold) (sym (window l at))
+
+-- ---- one frame more
+pub scanned-turn : (i : Interp) (l : List Float) (at n : ℕ) (peak loud : Float) → at < n → loud ≡ loudest peak (phases i (back l at 24))
+    → scanned i l (at + 1) (n - (at + 1)) loud ≡ scanned i l at (n - at) peak
+unfolding scanned
+scanned-turn i l at n peak loud h e =
+    let f : n - at ≡ suc (n - (at + 1)) = omega arith in
+    ap (λ (p : ℕ). scanned i l p (n - (at + 1)) loud) (add-one at)
+    ∙ ap (λ (v : Float). scanned i l (suc at) (n - (at + 1)) v) e
+    ∙ ap (λ (k : ℕ). scanned i l at k peak) (sym f)
+
+pub scanned-start : (i : Interp) (l : List Float) (n : ℕ) (peak : Float) → scanned i l 0 (n - 0) peak ≡ scanned i l 0 n peak
+scanned-start i l n peak = let e : n - 0 ≡ n = omega arith in ap (λ (k : ℕ). scanned i l 0 k peak) e
+
+pub scanned-end : (i : Interp) (l : List Float) (at n : ℕ) (peak : Float) → n ≤ at → peak ≡ scanned i l at (n - at) peak
+unfolding scanned
+scanned-end i l at n peak h = let e : 0 ≡ n - at = omega arith in ap (λ (k : ℕ). scanned i l at k peak) e
+
+-- ---- the last samples of a line become its first
+pub record Moved (old l : List Float) (n k : ℕ) : Type 0 where
+  pub done : (j : ℕ) → j < k → getD l j nan ≡ getD old (n + j) nan
+  pub kept : (j : ℕ) → k ≤ j → getD l j nan ≡ getD old j nan
+
+pub moved-start : (l : List Float) (n : ℕ) → Moved l l n 0
+moved-start l n = record { done = λ j h. absurd (not-suc-le-zero h); kept = λ j h. refl }
+
+pub moved-turn : (old l : List Float) (n k : ℕ) → k < length l → Moved old l n k → Moved old (set l k (getD l (n + k) nan)) n (k + 1)
+moved-turn old l n k h m = record {
+  done = λ j g. next j (eq-or-lt-of-le (omega arith)) g;
+  kept = λ j g. getD-set-other l k j (getD l (n + k) nan) nan (λ e. omega arith) ∙ m .kept j (omega arith);
+}
+  where
+    next : (j : ℕ) → (j ≡ k) ⊎ (j < k) → j < k + 1 → getD (set l k (getD l (n + k) nan)) j nan ≡ getD old (n + j) nan
+    next j (inl e) g =
+        ap (λ (p : ℕ). getD (set l k (getD l (n + k) nan)) p nan) e
+        ∙ getD-set-same l k (getD l (n + k) nan) nan h
+        ∙ m .kept (n + k) (omega arith)
+        ∙ ap (λ (p : ℕ). getD old (n + p) nan) (sym e)
+    next j (inr f) g = getD-set-other l k j (getD l (n + k) nan) nan (λ e. omega arith) ∙ m .done j f
+
+pub moved-end : (old l : List Float) (n k : ℕ) → past ≤ k → Moved old l n k → back l 0 past ≡ back old n past
+moved-end old l n k h m =
+    back-same l old 0 n past (λ j g. (let e : 0 + j ≡ j = omega arith in ap (λ (p : ℕ). getD l p nan) e ∙ m .done j (omega arith)))
+
+-- ---- a channel's history, newest first in the memory, and its line, oldest first
+back-length : (l : List Float) (at n : ℕ) → length (back l at n) ≡ n
+unfolding back
+back-length l at zero = refl
+back-length l at (suc n) = ap suc (back-length l at n)
+
+back-at : (l : List Float) (at n i : ℕ) → i < n → getD (back l at n) i nan ≡ getD l (at + (n - suc i)) nan
+unfolding back
+back-at l at zero i h = absurd (not-suc-le-zero h)
+back-at l at (suc n) zero h = let e : n ≡ suc n - 1 = omega arith in ap (λ (p : ℕ). getD l (at + p) nan) e
+back-at l at (suc n) (suc i) h =
+    let e : n - suc i ≡ suc n - suc (suc i) = omega arith in
+    back-at l at n i (le-of-suc-le-suc h) ∙ ap (λ (p : ℕ). getD l (at + p) nan) e
+
+pub record Recalled (memory l : List Float) (c k : ℕ) : Type 0 where
+  pub recalled : (j : ℕ) → j < k → getD l (22 - j) nan ≡ getD memory (c * past + j) nan
+
+pub recalled-start : (memory l : List Float) (c : ℕ) → Recalled memory l c 0
+recalled-start memory l c = record { recalled = λ j h. absurd (not-suc-le-zero h) }
+
+pub recalled-turn : (memory l : List Float) (c k : ℕ) → k < past → past ≤ length l → Recalled memory l c k
+    → Recalled memory (set l (22 - k) (getD memory (c * past + k) nan)) c (k + 1)
+recalled-turn memory l c k h r m = record { recalled = λ j g. next j (eq-or-lt-of-le (omega arith)) g }
+  where
+    next : (j : ℕ) → (j ≡ k) ⊎ (j < k) → j < k + 1
+        → getD (set l (22 - k) (getD memory (c * past + k) nan)) (22 - j) nan ≡ getD memory (c * past + j) nan
+    next j (inl e) g =
+        ap (λ (p : ℕ). getD (set l (22 - k) (getD memory (c * past + k) nan)) (22 - p) nan) e
+        ∙ getD-set-same l (22 - k) (getD memory (c * past + k) nan) nan (omega arith)
+        ∙ ap (λ (p : ℕ). getD memory (c * past + p) nan) (sym e)
+    next j (inr f) g =
+        getD-set-other l (22 - k) (22 - j) (getD memory (c * past + k) nan) nan (λ e. omega arith) ∙ m .recalled j f
+
+pub recalled-end : (memory l : List Float) (c k : ℕ) → past ≤ k → c * past + past ≤ length memory → Recalled memory l c k → back l 0 past ≡ historyAt memory c
+recalled-end memory l c k h r m =
+    ext-getD nan (back l 0 past) (historyAt memory c) (back-length l 0 past ∙ sym sized)
+    (λ i g. (
+    let g′ : i < past = subst (λ (n : ℕ). i < n) (back-length l 0 past) g in
+    let e : 0 + (past - suc i) ≡ 22 - i = omega arith in
+    back-at l 0 past i g′
+    ∙ ap (λ (p : ℕ). getD l p nan) e
+    ∙ m .recalled i (omega arith)
+    ∙ sym (getD-take past (drop (c * past) memory) i nan g′ ∙ getD-drop (c * past) memory i nan)))
+  where
+    sized : length (historyAt memory c) ≡ past
+    sized = simp (length-take, length-drop) (omega arith)
+
+-- the line's first places go to the memory one by one
+pub kept-turn : (memory l : List Float) (p k : ℕ) → k < past
+    → sets (set memory (p + k) (getD l (22 - k) nan)) (p + (k + 1)) (back l 0 (past - (k + 1))) ≡ sets memory (p + k) (back l 0 (past - k))
+unfolding back
+kept-turn memory l p k h =
+    let e : past - k ≡ suc (22 - k) = omega arith in
+    let f : past - (k + 1) ≡ 22 - k = omega arith in
+    let g : p + (k + 1) ≡ suc (p + k) = omega arith in
+    let z : 22 - k ≡ 0 + (22 - k) = omega arith in
+    ap (λ (n : ℕ). sets (set memory (p + k) (getD l (22 - k) nan)) n (back l 0 (past - (k + 1)))) g
+    ∙ ap (λ (n : ℕ). sets (set memory (p + k) (getD l (22 - k) nan)) (suc (p + k)) (back l 0 n)) f
+    ∙ ap (λ (n : ℕ). sets (set memory (p + k) (getD l n nan)) (suc (p + k)) (back l 0 (22 - k))) z
+    ∙ ap (λ (n : ℕ). sets memory (p + k) (back l 0 n)) (sym e)
+
+pub kept-start : (memory l : List Float) (p : ℕ) → sets memory (p + 0) (back l 0 (past - 0)) ≡ sets memory p (back l 0 past)
+kept-start memory l p = let e : p + 0 ≡ p = omega arith in ap (λ (n : ℕ). sets memory n (back l 0 past)) e
+
+pub kept-end : (memory l : List Float) (p k : ℕ) → past ≤ k → memory ≡ sets memory (p + k) (back l 0 (past - k))
+unfolding back
+kept-end memory l p k h = let e : 0 ≡ past - k = omega arith in ap (λ (n : ℕ). sets memory (p + k) (back l 0 n)) e
+
+-- ---- a channel's samples go to the line one by one
+pub gathered-turn : (samples l : List Float) (i step n k : ℕ) → k < n
+    → sets (set l (past + k) (getD samples i nan)) (past + (k + 1)) (column samples (i + step) step (n - (k + 1))) ≡ sets l (past + k) (column samples i step (n - k))
+unfolding column
+gathered-turn samples l i step n k h =
+    let e : n - k ≡ suc (n - (k + 1)) = omega arith in
+    let g : past + (k + 1) ≡ suc (past + k) = omega arith in
+    ap (λ (p : ℕ). sets (set l (past + k) (getD samples i nan)) p (column samples (i + step) step (n - (k + 1)))) g
+    ∙ ap (λ (m : ℕ). sets l (past + k) (column samples i step m)) (sym e)
+
+pub gathered-start : (samples l : List Float) (first step n : ℕ) → first + n * step < length samples + step
+    → (first + (n - 0) * step < length samples + step) × (sets l past (column samples first step (n - 0)) ≡ sets l past (column samples first step n))
+gathered-start samples l first step n h =
+    let e : n ≡ n - 0 = omega arith in
+    (subst (λ (m : ℕ). first + m * step < length samples + step) e h, ap (λ (m : ℕ). sets l past (column samples first step m)) (sym e))
+
+pub gathered-end : (samples l : List Float) (i step n k : ℕ) → n ≤ k → l ≡ sets l (past + k) (column samples i step (n - k))
+unfolding column
+gathered-end samples l i step n k h = let e : 0 ≡ n - k = omega arith in ap (λ (m : ℕ). sets l (past + k) (column samples i step m)) e
+
+-- the places left for n samples, one in each `step`, and for one fewer
+pub times-less : (n k step : ℕ) → k < n → (n - k) * step ≡ (n - (k + 1)) * step + step
+times-less n k step h =
+    let e : n - k ≡ suc (n - (k + 1)) = omega arith in
+    ap (λ (m : ℕ). m * step) e ∙ suc-mul (n - (k + 1)) step

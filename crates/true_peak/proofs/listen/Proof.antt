@@ -1,0 +1,34 @@
+-- `true_peak::listen` meets its contract: the channel is taken out of the flat state and put back. Assumes nothing.
+use borrow.Author.Needs.{needs, length-unmapped}
+use lib.Ieee.{Float}
+use Rattle.true_peak.specs.Channel.{heard}
+use Rattle.true_peak.specs.TruePeak.{channelOf, column}
+use Rattle.true_peak.proofs.Channels.{put}
+use Rattle.true_peak.proofs.listen.Statement.{statement}
+use Rattle.true_peak.proofs.listen.Tie as tie
+
+mul-peak : tie.Need-mul-peak
+mul-peak c = search needs
+
+element-copy-out-peak : tie.Need-element-copy-out-peak
+element-copy-out-peak c = search needs
+
+one-channel-requires : tie.Need-one-channel-requires
+one-channel-requires c κs = (search needs, (search needs, (search needs, length-unmapped Float (c .before .before .before .args .t .memory) 184 (c .before .before .before .good .1 .0 .1 .1 .0 .1 .0 .1))))
+
+mul-w : tie.Need-mul-w
+mul-w c = search needs
+
+element-write-w : tie.Need-element-write-w
+element-write-w c = search needs
+
+returns : tie.Need-returns
+returns c =
+    let a = c .before .before .before .before .args in
+    put (a .t) (a .c) (heard (a .i) (channelOf (a .t) (a .c)) (column (a .samples .now) (a .c) (a .channels) (a .frames))) (c .one-channel .last .1 .1 .1 .1 .1 .0) (c .one-channel .result)
+    (c .one-channel .ensures .0) (c .one-channel .ensures .1)
+
+pub listen-spec : {M : Type 1} → statement M
+listen-spec =
+    tie.close
+    (tie.spec mul-peak element-copy-out-peak one-channel-requires mul-w element-write-w returns)

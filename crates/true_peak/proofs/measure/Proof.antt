@@ -1,0 +1,40 @@
+-- `true_peak::measure` meets its contract: the rate has an interpolator, or nothing is measured. Assumes nothing.
+use borrow.Author.Needs.{needs}
+use mathlib.Core.Path.{_≡_, sym, ap, _∙_}
+use Rattle.interp.specs.Interp.{Kind, upsampled, kindOf, said}
+use Rattle.true_peak.specs.TruePeak.{measured}
+use Rattle.interp.proofs.Rates.{rate-known}
+use Rattle.true_peak.proofs.measure.Statement.{statement}
+use Rattle.true_peak.proofs.measure.Tie as tie
+
+of-rate-requires : tie.Need-of-rate-requires
+of-rate-requires c κs = search needs
+
+enum-known-i : tie.Need-enum-known-i
+enum-known-i c = search needs
+
+-- the interpolator is the rate's
+by-rate : (c : tie.After-known-told) → upsampled (c .before .i .given .0 .0) ≡ kindOf (c .before .before .before .before .before .args .rate)
+by-rate c = ap said (sym (c .before .i .given .1)) ∙ c .before .before .before .of-rate .ensures
+
+all-channels-requires : tie.Need-all-channels-requires
+all-channels-requires c κs = (rate-known (c .before .before .before .before .before .args .rate) (c .before .i .given .0 .0) (by-rate c), c .before .before .before .before .before .pre)
+
+enum-told : tie.Need-enum-told
+enum-told c = search needs
+
+returns : tie.Need-returns
+returns c =
+    let a = c .before .before .before .before .before .before .args in
+    c .all-channels .ensures ∙ ap (λ (k : Kind). measured k (record { channels = a .channels; samples = a .samples .now }) (a .t)) (by-rate (c .before))
+
+returns-2 : tie.Need-returns-2
+unfolding measured
+returns-2 c =
+    let a = c .before .before .before .before .args in
+    ap (λ (k : Kind). measured k (record { channels = a .channels; samples = a .samples .now }) (a .t)) (ap said (sym (c .enum-told .given .1)) ∙ c .before .before .of-rate .ensures)
+
+pub measure-spec : {M : Type 1} → statement M
+measure-spec =
+    tie.close
+    (tie.spec of-rate-requires enum-known-i all-channels-requires enum-told returns returns-2)

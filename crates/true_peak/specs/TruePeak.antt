@@ -1,0 +1,85 @@
+-- A call of the true peak over interleaved samples (01, steps 5 and 6): each channel, unused ones too, hears its own samples and no others.
+use mathlib.Core.List.{List, [], _∷_}
+use mathlib.Core.Bool.{_||_, cond}
+use Prim.Native.Nat.{ℕ, zero, suc, _+_, _*_, _/_, _%_}
+use lib.Dec.{ltb, eqb}
+use lib.ListN.{length, getD, take, drop, set, replicate}
+use lib.Seq.{sets}
+use lib.Ieee.{Float, nan}
+use Rattle.refusals.specs.Refusal.{CHANNELS, SAMPLES, number}
+use Rattle.refusals.specs.Outcome.{Outcome, went, refused, NoValues, done}
+use Rattle.interp.specs.declared.Interp.{Interp}
+use Rattle.interp.specs.Interp.{Kind, upsampled, noTruePeak, kindOf}
+use Rattle.interp.specs.Phase.{nought}
+use Rattle.true_peak.specs.declared.TruePeak.{TruePeak}
+use Rattle.true_peak.specs.Channel.{Channel, past, heard}
+
+-- how many channels a state has room for
+abbrev pub mostChannels : ℕ
+mostChannels = 8
+
+-- channel c's history stands in the flat memory at `past` places, from c * past on
+abbrev pub historyAt : List Float → ℕ → List Float
+historyAt memory c = take past (drop (c * past) memory)
+
+abbrev pub channelOf : TruePeak → ℕ → Channel
+channelOf t c = record { history = historyAt (t .memory) c; peak = getD (t .peaks) c nan }
+
+abbrev pub withChannel : TruePeak → ℕ → Channel → TruePeak
+withChannel t c ch = record { memory = sets (t .memory) (c * past) (ch .history); peaks = set (t .peaks) c (ch .peak) }
+
+-- n samples of an interleaved list, from place i on, one in each `step` places
+unfoldable pub column : List Float → ℕ → ℕ → ℕ → List Float
+column l i step zero = []
+column l i step (suc n) = getD l i nan ∷ column l (i + step) step n
+
+-- a call's samples: how many channels they interleave, and themselves
+pub record Block : Type 0 where
+  pub channels : ℕ
+  pub samples : List Float
+
+abbrev pub framesOf : Block → ℕ
+framesOf b = length (b .samples) / b .channels
+
+-- the samples of channel c
+abbrev pub channelSamples : Block → ℕ → List Float
+channelSamples b c = column (b .samples) c (b .channels) (framesOf b)
+
+-- n channels from channel c on hear their samples; the others stay
+unfoldable pub channelsFrom : Interp → Block → ℕ → ℕ → TruePeak → TruePeak
+channelsFrom i b c zero t = t
+channelsFrom i b c (suc n) t = channelsFrom i b (suc c) n (withChannel t c (heard i (channelOf t c) (channelSamples b c)))
+
+-- "else no true peak and stored peaks stay"
+unfoldable pub measured : Kind → Block → TruePeak → TruePeak
+unfolding channelsFrom
+measured (upsampled i) b t = channelsFrom i b 0 (b .channels) t
+measured noTruePeak b t = t
+
+-- what one channel becomes in a call, by what the rate has
+unfoldable pub heardBy : Kind → Channel → List Float → Channel
+heardBy (upsampled i) ch xs = heard i ch xs
+heardBy noTruePeak ch xs = ch
+
+-- the number of the refusal that a block's channels and samples call for, in table order, or 0
+unfoldable pub refusalOf : Block → ℕ
+refusalOf b =
+    cond (eqb (b .channels) 0 || ltb mostChannels (b .channels)) (number CHANNELS)
+    (cond (eqb (length (b .samples) % b .channels) 0) 0 (number SAMPLES))
+
+-- what a call comes to that would leave a state
+unfoldable pub unlessRefused : Block → TruePeak → Outcome TruePeak NoValues
+unlessRefused b t =
+    cond (eqb (b .channels) 0 || ltb mostChannels (b .channels)) (refused CHANNELS)
+    (cond (eqb (length (b .samples) % b .channels) 0) (went t done) (refused SAMPLES))
+
+abbrev pub processed : ℕ → Block → TruePeak → Outcome TruePeak NoValues
+processed rate b t = unlessRefused b (measured (kindOf rate) b t)
+
+-- `seed` moves the memory and writes no peak
+abbrev pub seeded : ℕ → Block → TruePeak → Outcome TruePeak NoValues
+seeded rate b t = unlessRefused b (record { memory = measured (kindOf rate) b t .memory; peaks = t .peaks })
+
+-- before the start
+abbrev pub silent : TruePeak
+silent = record { memory = replicate (mostChannels * past) nought; peaks = replicate mostChannels nought }
