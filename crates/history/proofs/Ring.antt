@@ -4,7 +4,7 @@ use mathlib.Core.Path.{_≡_, refl, sym}
 use mathlib.Core.Bool.{Bool, true, false, _&&_, cond, true≢false}
 use mathlib.Core.List.{List}
 use Prim.Native.Nat.{ℕ, _+_, _%_, _≤_, _<_}
-use borrow.Author.Tests.{leb-true, ltb-true, eqb-true, lt-ltb, le-ltb}
+use borrow.Author.Tests.{leb-true, ltb-true, eqb-true, le-leb, lt-ltb, le-ltb, eq-eqb}
 use lib.Dec.{eqb, leb, ltb}
 use lib.ListN.{length, set}
 use lib.Ieee.{Float}
@@ -41,6 +41,17 @@ suited queue places h =
       within = ltb-true (queue .head) (queue .maximum) (e .0);
       full = leb-true (queue .held) (queue .maximum) (e .1);
     }
+
+pub suits-it : (queue : Queue) (places : ℕ) → Suited queue places → suits queue places ≡ true
+unfolding suits
+suits-it queue places s =
+    rw (
+      le-leb 1 (queue .maximum) (s .least),
+      le-leb (queue .maximum) longest (s .most),
+      eq-eqb (queue .maximum) places (s .whole),
+      lt-ltb (queue .head) (queue .maximum) (s .within),
+      le-leb (queue .held) (queue .maximum) (s .full),
+    )
 
 -- ---- adding
 module _ (queue : Queue) (store : List Float) (energy : Float) where

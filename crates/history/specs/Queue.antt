@@ -7,7 +7,7 @@ use lib.Dec.{eqb, leb, ltb}
 use lib.ListN.{length, getD, set, drop}
 use lib.Ieee.{Float, nan}
 use Rattle.refusals.specs.Refusal.{STORE}
-use Rattle.refusals.specs.Outcome.{Outcome, went, refused, NoValues, done}
+use Rattle.refusals.specs.Outcome.{Outcome, went, refused, NoValues, done, keptBy}
 use Rattle.history.specs.declared.queue.Queue.{Queue}
 use Rattle.history.specs.Energy.{dropped}
 
@@ -65,3 +65,13 @@ firstPart queue = min (queue .held) (queue .maximum - queue .head)
 -- those of a queue after one more: it is the last, and the oldest of a full queue goes
 abbrev pub withNewest : ℕ → List Float → Float → List Float
 withNewest maximum held energy = cond (ltb (length held) maximum) held (drop 1 held) ++ (energy ∷ [])
+
+-- ---- energies added one after the other
+unfoldable pub fedTo : Stored → List Float → Stored
+fedTo s [] = s
+fedTo s (energy ∷ rest) = fedTo (keptBy s (enqueued s energy)) rest
+
+-- those of them that are not dropped
+unfoldable pub taken : List Float → List Float
+taken [] = []
+taken (energy ∷ rest) = cond (dropped energy) (taken rest) (energy ∷ taken rest)

@@ -6,11 +6,9 @@ use mathlib.Core.List.{List}
 use Prim.Native.Nat.{ℕ}
 use lib.Dec.{T}
 use lib.Ieee.{Float, fits, binary64}
-use lib.Ieee.Positive.{above}
 use Rattle.ordering.specs.Order.{inOrder, allAbove, ordered}
 use Rattle.ordering.specs.Inner.{Above, Rising, Ordered, at}
-use Rattle.ordering.proofs.Perms.{all-at, all-of}
-use Rattle.ordering.proofs.InOrder.{Energy, rising-is, the-order}
+use Rattle.ordering.proofs.InOrder.{energies, rising-is, the-order}
 use Rattle.ordering.proofs.Runs.{all-above}
 
 module _ (l : List Float) where
@@ -20,9 +18,10 @@ module _ (l : List Float) where
   pub in-order-already : Above l → Rising l → (true ≡ allAbove l) × (l ≡ ordered l)
   in-order-already a r = chosen true l (all-above l a) (sym (rising-is l r))
 
-  pub brought-in-order : Above l → ((i : ℕ) → T (fits binary64 (at l i))) → (new : List Float) → Ordered l new → (true ≡ allAbove l) × (new ≡ ordered l)
+  pub brought-in-order : Above l → ((i : ℕ) → T (fits binary64 (at l i)))
+      → (new : List Float) → Ordered l new → (true ≡ allAbove l) × (new ≡ ordered l)
   brought-in-order a f new o =
-      chosen true new (all-above l a) (the-order o (all-of Energy l (λ i h. (all-at (λ x. T (above x)) l a i h, f i))))
+      chosen true new (all-above l a) (the-order o (energies l a f))
 
   pub left-alone : allAbove l ≡ false → (false ≡ allAbove l) × (l ≡ ordered l)
   left-alone e = chosen false l e refl

@@ -125,7 +125,9 @@ suc-pos = omega arith
 
 size-above : (a m u : ℕ) → a ≡ 0 → 0 < u → ltb a (m * u * 1) ≡ ltb 0 m
 size-above a zero u z h = le-ltb a (0 * u * 1) (omega (arith, zero-mul u))
-size-above a (suc m) u z h = let sized : 0 < suc m * u = mul-pos suc-pos h in lt-ltb a (suc m * u * 1) (omega (arith, sized)) ∙ sym (lt-ltb 0 (suc m) (omega arith))
+size-above a (suc m) u z h =
+    let sized : 0 < suc m * u = mul-pos suc-pos h in
+    lt-ltb a (suc m * u * 1) (omega (arith, sized)) ∙ sym (lt-ltb 0 (suc m) (omega arith))
 
 -- the code's 0.0
 zero-is : ofBits binary64 0 ≡ fin false 0 (pos 0)

@@ -33,7 +33,8 @@ module _ (l : List Float) (a : Above l) (p : ℕ) (inside : 2 * p + 1 < length l
   }
 
   -- r and o are the two children
-  larger-is : (r o : ℕ) → r < length l → Child p r → ((k : ℕ) → Child p k → (k ≡ r → ⊥) → k ≡ o) → T (le (at l o) (at l r)) → Larger p l r
+  larger-is : (r o : ℕ) → r < length l → Child p r → ((k : ℕ) → Child p k → (k ≡ r → ⊥) → k ≡ o)
+      → T (le (at l o) (at l r)) → Larger p l r
   larger-is r o g c one h = record {
     child = c;
     inside = g;
@@ -132,7 +133,8 @@ module _ {from place : ℕ} {old new : List Float} (s : Sinking from place old n
     moved-length = exchanged-length new place child
 
     -- the larger child is now the parent: the other child is not above it, and it is not above the parent of the place
-    under-place : T (le (at new place) (at new child)) → (k : ℕ) → Child place k → k < length new → (k ≡ child) ⊎ (k ≡ child → ⊥) → T (le (at moved k) (at new child))
+    under-place : T (le (at new place) (at new child)) → (k : ℕ) → Child place k → k < length new → (k ≡ child) ⊎ (k ≡ child → ⊥)
+        → T (le (at moved k) (at new child))
     under-place h k d g (inl e) = le-by (ap (at moved) e ∙ at-child) refl h
     under-place h k d g (inr n) = le-by (at-other k (λ q. omega arith) n) refl (largest k d g)
 
@@ -340,14 +342,18 @@ module _ (left : ℕ) (old new : List Float) (d : Draining left old new) (more :
     }
 
 -- the same, of the list that the exchange left
-module _ (left : ℕ) (old new : List Float) (d : Draining left old new) (more : 1 < left) (l : List Float) (is : l ≡ exchanged new 0 (left - 1)) where
+module _ {left : ℕ} {old new : List Float} (d : Draining left old new) (more : 1 < left)
+    (l : List Float) (is : l ≡ exchanged new 0 (left - 1)) where
   pub part-inside : left - 1 ≤ length l
   unfolding m
   part-inside = rw (is, exchanged-length new 0 (left - 1)) (omega (arith, short left old new d more))
 
   pub part-above : Above (take (left - 1) l)
   unfolding m taken
-  part-above = rw is (all-take (λ x. T (above x)) (left - 1) (exchanged new 0 (left - 1)) (all-perm (λ x. T (above x)) (turn left old new d more) (d .above)))
+  part-above =
+      rw is
+      (all-take (λ x. T (above x)) (left - 1) (exchanged new 0 (left - 1))
+      (all-perm (λ x. T (above x)) (turn left old new d more) (d .above)))
 
   pub part-is-heap : HeapFrom 1 (take (left - 1) l)
   unfolding m taken

@@ -12,12 +12,15 @@ use Rattle.floats.proofs.Order.{float-le-trans}
 use lib.Ieee.Positive.{above}
 use Rattle.ordering.specs.Order.{put, inOrder}
 use Rattle.ordering.specs.Inner.{Perm, none, keep, swap, both, All, Above, Rising, Ordered, at}
-use Rattle.ordering.proofs.Perms.{perm-refl, perm-sym, all-perm, all-map}
+use Rattle.ordering.proofs.Perms.{perm-refl, perm-length, all-perm, all-map, all-at, all-of}
 use Rattle.ordering.proofs.Energies.{not-at-most, same-value}
 
 -- an energy as a lent slice holds it: a value of its type, and above zero
 abbrev pub Energy : Float → Type 0
 Energy x = T (above x) × T (fits binary64 x)
+
+pub energies : (l : List Float) → Above l → ((i : ℕ) → T (fits binary64 (at l i))) → All Energy l
+energies l a f = all-of Energy l (λ i h. (all-at (λ x. T (above x)) l a i h, f i))
 
 -- ---- the same energies
 pub put-perm : (x : Float) (l : List Float) → Perm (x ∷ l) (put x l)
@@ -33,6 +36,9 @@ pub in-order-perm : (l : List Float) → Perm l (inOrder l)
 unfolding inOrder
 in-order-perm [] = none
 in-order-perm (x ∷ l) = both (keep x (in-order-perm l)) (put-perm x (inOrder l))
+
+pub in-order-length : (l : List Float) → length (inOrder l) ≡ length l
+in-order-length l = sym (perm-length (in-order-perm l))
 
 -- ---- they rise
 at-most-all : (x y : Float) → T (le x y) → (l : List Float) → All (λ z. T (le y z)) l → All (λ z. T (le x z)) l
@@ -51,6 +57,9 @@ pub in-order-rises : (l : List Float) → Above l → Rising (inOrder l)
 unfolding inOrder
 in-order-rises [] a = tt
 in-order-rises (x ∷ l) a = put-rises x (inOrder l) (a .0) (all-perm (λ z. T (above z)) (in-order-perm l) (a .1)) (in-order-rises l (a .1))
+
+pub in-order : (l new : List Float) → Above l → new ≡ inOrder l → Ordered l new
+in-order l new a e = record { same = subst (Perm l) (sym e) (in-order-perm l); rising = subst Rising (sym e) (in-order-rises l a) }
 
 -- ---- it is the only list that does both
 module _ (x y : Float) (p : Energy x) (q : Energy y) where

@@ -8,13 +8,13 @@ use native.Mathlib.Decide.{decLt}
 use native.Mathlib.Omega.{arith}
 use lib.Dec.{T}
 use lib.ListN.{length, getD, take, drop, length-drop, drop-of-length-le, List·getD-append}
-use lib.Seq.{length-take-le, getD-take, getD-drop, getD-append-add, take-all}
+use lib.Seq.{length-take-le, getD-take, getD-drop, getD-append-add}
 use lib.Ieee.{Float, nan, le}
 use lib.Ieee.Positive.{above}
 use Rattle.ordering.specs.Inner.{Perm, both, All, Above, Rising, Ordered, at, Lowest, Parted}
 use Rattle.ordering.proofs.Perms.{perm-length, front-perm, back-perm, all-perm, all-at, all-of}
 use Rattle.ordering.proofs.Energies.{same-at-most}
-use Rattle.ordering.proofs.Places.{le-by, same-or-other, front-at, back-at, rising-of, rising-at}
+use Rattle.ordering.proofs.Places.{le-by, same-or-other, front-at, back-at, last-part, rising-of, rising-at}
 
 pub parted-from : {from to : ℕ} {old mid new : List Float} → Perm old mid → Parted from to mid new → Parted from to old new
 parted-from p s = record { same = both p (s .same); ordered = s .ordered; inside = s .inside; settled = s .settled }
@@ -48,7 +48,8 @@ module _ {from to : ℕ} {old new : List Float} (s : Parted from to old new) (si
       (λ k h. let k-in : k < from = omega (arith, length-take-le from new inside) in
       le-by (getD-take from new k nan k-in) refl (s .settled k j (omega arith) (omega (arith, s .ordered)) a b)))
 
-  pairs : (i j : ℕ) → i < j → i < to → j < length new → Dec (i < from) → Dec (j < from) → T (le (at (side ++ drop from new) i) (at (side ++ drop from new) j))
+  pairs : (i j : ℕ) → i < j → i < to → j < length new → Dec (i < from) → Dec (j < from)
+      → T (le (at (side ++ drop from new) i) (at (side ++ drop from new) j))
   pairs i j h a b (yes p) (yes q) =
       le-by (front-at new side from long i p) (front-at new side from long j q) (rising-at side (o .rising) i j h (omega (arith, long)))
   pairs i j h a b (yes p) (no q) =
@@ -115,10 +116,7 @@ module _ {to : ℕ} {old new : List Float} (s : Parted 0 to old new) (side : Lis
     rising = rising-of whole (λ i j h g. second-pairs i j h (subst (λ (n : ℕ). j < n) whole-length g) (decLt i to) (decLt j to));
   }
 
--- the second side as a lent part is: cut at the end, which cuts nothing off
-pub last-part : (to : ℕ) (l : List Float) → take (length l - to) (drop to l) ≡ drop to l
-last-part to l = take-all (length l - to) (drop to l) (omega (arith, length-drop to l))
-
+-- the second side as a lent part is
 pub both-sides : {to : ℕ} {old new : List Float} → Parted 0 to old new → (side : List Float) → Ordered (take (length new - to) (drop to new)) side
     → Ordered old (take to new ++ (side ++ drop (length new - to) (drop to new)))
 both-sides {to} {old} {new} s side o =

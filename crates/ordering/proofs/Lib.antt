@@ -3,8 +3,8 @@ pub mod Energies
 pub mod InOrder
 pub mod Places
 pub mod Heap
-pub mod Placing
-pub mod Filling
+pub mod Counting
+pub mod Ranking
 pub mod Parting
 pub mod Joining
 pub mod Runs

@@ -156,8 +156,8 @@ module _ {pivot : Float} {low i : ℕ} {old new : List Float} (s : Parting pivot
     after : (k : ℕ) → low - 1 < k → k < length new → T (le pivot (at l k))
     after k h g = le-by refl (at-else k (λ q. omega arith) (λ q. omega arith)) (s .over k (omega (arith, s .some)) (omega arith))
 
-    pairs : (i j : ℕ) → i < j → i < low - 1 + 1 → low - 1 ≤ j → j < length new → (i ≡ low - 1) ⊎ (i ≡ low - 1 → ⊥) → (j ≡ low - 1) ⊎ (j ≡ low - 1 → ⊥)
-        → T (le (at l i) (at l j))
+    pairs : (i j : ℕ) → i < j → i < low - 1 + 1 → low - 1 ≤ j → j < length new
+        → (i ≡ low - 1) ⊎ (i ≡ low - 1 → ⊥) → (j ≡ low - 1) ⊎ (j ≡ low - 1 → ⊥) → T (le (at l i) (at l j))
     pairs i j h a b g (inl e) o = le-by (ap (at l) e ∙ at-place) refl (after j (omega arith) g)
     pairs i j h a b g (inr n) (inl f) = le-by refl (ap (at l) f ∙ at-place) (before i (omega arith) (same-or-other i 0))
     pairs i j h a b g (inr n) (inr m) =

@@ -1,5 +1,5 @@
--- What stands where: after an exchange of two places, and in a list that is put together of two. A list rises where the energy at each place is at most those at later places.
--- Assumes nothing.
+-- What stands where: after an exchange of two places, in a list whose front is filled anew, and in a copy.
+-- A list rises where the energy at each place is at most those at later places. Assumes nothing.
 use mathlib.Core.Path.{_≡_, refl, sym, ap, _∙_, subst}
 use mathlib.Core.Logic.{_⊎_, inl, inr}
 use mathlib.Core.List.{List, [], _∷_, _++_}
@@ -8,8 +8,8 @@ use native.Mathlib.Nat.{le-of-suc-le-suc, not-suc-le-zero}
 use native.Mathlib.Decide.{ℕ-discrete}
 use native.Mathlib.Omega.{arith}
 use lib.Dec.{T}
-use lib.ListN.{length, getD, drop, set, length-set, List·getD-append}
-use lib.Seq.{getD-set-same, getD-set-other, getD-append-add, getD-drop}
+use lib.ListN.{length, getD, take, drop, set, length-set, length-drop, List·getD-append}
+use lib.Seq.{ext-getD, take-all, length-take-le, getD-take, getD-set-same, getD-set-other, getD-append-add, getD-drop}
 use lib.Ieee.{Float, nan, le}
 use Rattle.ordering.specs.Inner.{All, Rising, at, exchanged}
 use Rattle.ordering.proofs.Perms.{all-at, all-of}
@@ -53,6 +53,10 @@ module _ (l ys : List Float) (m : ℕ) (e : length ys ≡ m) where
       let whole : m + (k - m) ≡ k = omega arith in
       ap (at (ys ++ drop m l)) split ∙ getD-append-add ys (drop m l) (k - m) nan ∙ getD-drop m l (k - m) nan ∙ ap (at l) whole
 
+-- a part that is lent up to the end: the cut there cuts nothing off
+pub last-part : (from : ℕ) (l : List Float) → take (length l - from) (drop from l) ≡ drop from l
+last-part from l = take-all (length l - from) (drop from l) (omega (arith, length-drop from l))
+
 -- ---- rising, by places
 pub rising-of : (l : List Float) → ((i j : ℕ) → i < j → j < length l → T (le (at l i) (at l j))) → Rising l
 rising-of [] h = tt
@@ -67,3 +71,19 @@ rising-at (x ∷ l) r zero zero h g = absurd (not-suc-le-zero h)
 rising-at (x ∷ l) r zero (suc j) h g = all-at (λ y. T (le x y)) l (r .0) j (le-of-suc-le-suc g)
 rising-at (x ∷ l) r (suc i) zero h g = absurd (not-suc-le-zero h)
 rising-at (x ∷ l) r (suc i) (suc j) h g = rising-at l (r .1) i j (le-of-suc-le-suc h) (le-of-suc-le-suc g)
+
+-- ---- the first i places are copied
+abbrev pub Copied : ℕ → List Float → List Float → Type 0
+Copied i source l = (k : ℕ) → k < i → at l k ≡ at source k
+
+pub copied-on : (i : ℕ) (source l : List Float) → i < length l → Copied i source l → Copied (i + 1) source (set l i (at source i))
+copied-on i source l h c k g = go (same-or-other k i)
+  where
+    go : (k ≡ i) ⊎ (k ≡ i → ⊥) → at (set l i (at source i)) k ≡ at source k
+    go (inl e) = ap (at (set l i (at source i))) e ∙ getD-set-same l i (at source i) nan h ∙ ap (at source) (sym e)
+    go (inr n) = getD-set-other l i k (at source i) nan n ∙ c k (omega arith)
+
+pub copied-all : (n i : ℕ) (source l : List Float) → length l ≡ n → n ≤ length source → n ≤ i → Copied i source l → l ≡ take n source
+copied-all n i source l e long h c =
+    ext-getD nan l (take n source) (e ∙ sym (length-take-le n source long))
+    (λ k g. let k-in : k < n = omega arith in c k (omega arith) ∙ sym (getD-take n source k nan k-in))

@@ -12,12 +12,12 @@ use lib.Dec.{T}
 use lib.ListN.{length, getD, drop, drop-of-length-le}
 use lib.Seq.{drop-cons}
 use lib.Ieee.{Float, nan, binary64, ofBits, le, lt}
-use lib.Ieee.Positive.{above}
+use lib.Ieee.Positive.{positive, above, above-of-le}
 use Rattle.floats.proofs.Order.{is-true, float-le-trans}
 use Rattle.ordering.specs.Order.{allAbove}
-use Rattle.ordering.specs.Inner.{Perm, both, Above, Rising, Falling, Ordered, Turned, at, exchanged}
-use Rattle.ordering.proofs.Perms.{perm-refl, perm-length, exchange-perm, all-at, all-of}
-use Rattle.ordering.proofs.Energies.{above-up, zero-below, same-at-most}
+use Rattle.ordering.specs.Inner.{Perm, both, All, Above, Rising, Falling, Ordered, Turned, at, exchanged}
+use Rattle.ordering.proofs.Perms.{perm-refl, perm-length, exchange-perm, all-of, all-map}
+use Rattle.ordering.proofs.Energies.{above-up, zero-below}
 use Rattle.ordering.proofs.Places.{le-by, same-or-other, rising-of, exchanged-length, exchanged-first, exchanged-second, exchanged-other}
 
 -- ---- in a relation that passes on, neighbours give every pair
@@ -124,10 +124,8 @@ turn-done i old new h t = record { same = t .same; turned = λ k g. go k g (decL
     go k g (no a) (no b) = t .outer k g (inr (omega arith))
     go k g (no a) (yes b) = let mid : k ≡ length new - 1 - k = omega arith in t .inner k (omega arith) b ∙ ap (at old) mid
 
-module _ (i : ℕ) (old new next : List Float) (t : Turning i old new) (more : i < length new / 2) (is : next ≡ exchanged new i (length new - 1 - i)) where
-  n : ℕ
-  n = length new
-
+module _ (i : ℕ) (old new next : List Float) (t : Turning i old new)
+    (more : i < length new / 2) (is : next ≡ exchanged new i (length new - 1 - i)) where
   j : ℕ
   j = length new - 1 - i
 
@@ -154,7 +152,8 @@ module _ (i : ℕ) (old new next : List Float) (t : Turning i old new) (more : i
   unfolding j
   long = ap length is ∙ exchanged-length new i j
 
-  outside : (k : ℕ) → k < length new → (k < i + 1) ⊎ (length new ≤ k + (i + 1)) → (k ≡ i) ⊎ (k ≡ i → ⊥) → (k ≡ j) ⊎ (k ≡ j → ⊥) → at next k ≡ at old (length new - 1 - k)
+  outside : (k : ℕ) → k < length new → (k < i + 1) ⊎ (length new ≤ k + (i + 1)) → (k ≡ i) ⊎ (k ≡ i → ⊥) → (k ≡ j) ⊎ (k ≡ j → ⊥)
+      → at next k ≡ at old (length new - 1 - k)
   unfolding j
   outside k h o (inl e) b = ap (at next) e ∙ at-i ∙ t .inner j (omega arith) (omega arith) ∙ ap (λ (r : ℕ). at old (length new - 1 - r)) (sym e)
   outside k h o (inr a) (inl e) =
@@ -168,7 +167,9 @@ module _ (i : ℕ) (old new next : List Float) (t : Turning i old new) (more : i
   turn-on = record {
     same = both (t .same) (subst (Perm new) (sym is) (exchange-perm new i j i-in j-in));
     outer = λ k h o. rw long (outside k (rw long at h) (rw long at o) (same-or-other k i) (same-or-other k j));
-    inner = λ k h g. let in-new : k + (i + 1) < length new = rw long at g in at-else k (λ e. omega arith) (λ e. omega arith) ∙ t .inner k (omega arith) (omega arith);
+    inner = λ k h g.
+        let in-new : k + (i + 1) < length new = rw long at g in
+        at-else k (λ e. omega arith) (λ e. omega arith) ∙ t .inner k (omega arith) (omega arith);
   }
 
 pub falling-turned : (old new : List Float) → Falling old → Turned old new → Ordered old new
@@ -195,6 +196,10 @@ pub above-all : (l : List Float) → allAbove l ≡ true → Above l
 unfolding allAbove
 above-all [] e = tt
 above-all (x ∷ l) e = let h = and-both (above x) (allAbove l) e in (h .0, above-all l (h .1))
+
+-- energies that reach a positive one are above zero
+pub all-reach : (low : Float) → T (positive low) → (l : List Float) → All (λ x. T (le low x)) l → allAbove l ≡ true
+all-reach low p l h = all-above l (all-map (λ x g. above-of-le low x p g) l h)
 
 pub none-left : (l : List Float) (i : ℕ) → length l ≤ i → allAbove (drop i l) ≡ true
 unfolding allAbove

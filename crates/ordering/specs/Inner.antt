@@ -1,10 +1,11 @@
 -- What the steps of the ordering are stated by: the same energies in another order, energies that rise, and the shapes that the steps make on the way.
 use mathlib.Core.Path.{_≡_}
+use mathlib.Core.Bool.{Bool, cond}
 use mathlib.Core.List.{List, [], _∷_}
 use Prim.Native.Nat.{ℕ, _+_, _*_, _-_, _≤_, _<_}
 use lib.Dec.{T}
-use lib.ListN.{length, getD, set}
-use lib.Ieee.{Float, nan, le}
+use lib.ListN.{length, getD, take, drop, set}
+use lib.Ieee.{Float, nan, le, lt}
 use lib.Ieee.Positive.{above}
 
 -- the same energies in another order
@@ -40,6 +41,19 @@ pub record Ordered (old new : List Float) : Type 0 where
 -- what stood at i stands at j, and the other way round
 abbrev pub exchanged : List Float → ℕ → ℕ → List Float
 exchanged l i j = set (set l i (at l j)) j (at l i)
+
+-- parts up to this length are ordered by counting
+abbrev pub short : ℕ
+short = 24
+
+-- how many energies pass a test
+abbrev pub count : (Float → Bool) → List Float → ℕ
+count test [] = 0
+count test (x ∷ l) = cond (test x) 1 0 + count test l
+
+-- the place of energy i in the order: after those at most it that come earlier, and those below it that come later
+abbrev pub placeOf : List Float → ℕ → ℕ
+placeOf l i = count (λ y. le y (at l i)) (take i l) + count (λ y. lt y (at l i)) (drop i l)
 
 -- the children of p in a heap are 2p + 1 and 2p + 2
 abbrev pub Child : ℕ → ℕ → Type 0

@@ -2,13 +2,14 @@
 // Parts are split around a pivot; a part whose splits go deeper than twice the binary digits of the length is ordered by a heap instead.
 ghost use mathlib.Core.Path.{_≡_};
 ghost use mathlib.Core.Bool.{true};
-ghost use Prim.Native.Nat.{_+_, _-_, _*_, _<_, _^_};
+ghost use Prim.Native.Nat.{_+_, _*_, _<_, _≤_, _^_};
 ghost use lib.ListN.{length, take};
-ghost use Rattle.ordering.specs.Order.{allAbove, ordered};
-ghost use Rattle.ordering.specs.Inner.{Above, Rising, Falling, Ordered, Turned, Larger, HeapFrom, Heaped, Lowest, Parted, exchanged};
+ghost use lib.Ieee.{le, lt};
+ghost use Rattle.ordering.specs.Order.{inOrder, allAbove, ordered};
+ghost use Rattle.ordering.specs.Inner.{Above, Rising, Falling, Ordered, Turned, Larger, HeapFrom, Heaped, Lowest, Parted, short, count, placeOf, exchanged};
 
-// Parts up to this length are ordered by putting one energy after the other in its place.
-const SHORT: usize = 20;
+// Parts up to this length are ordered by counting out each energy's place.
+const SHORT: usize = 24;
 
 fn exchange(part: &mut [f64], i: usize, j: usize)
     requires { ⌜ (i < length (now part)) × (j < length (now part)) ⌝ }
@@ -82,34 +83,84 @@ fn heap_sort(part: &mut [f64])
     }
 }
 
-// Puts the last energy in its place among the others, which rise.
-fn put_last(part: &mut [f64])
-    requires { ⌜ (0 < length (now part)) × (Above (now part) × Rising (take (length (now part) - 1) (now part))) ⌝ }
-    ensures { λ _. ⌜ Ordered (now (part .entry)) (now (part .exit)) ⌝ }
+// How many energies are at most x.
+fn at_most(energies: &[f64], x: f64) -> usize
+    ensures { λ r. ⌜ r ≡ count (λ y. le y x) (now (energies .entry)) ⌝ }
 {
-    let mut place = part.len() - 1;
-    let x = part[place];
-    while place > 0 {
-        let y = part[place - 1];
-        if y <= x {
-            break;
+    let n = energies.len();
+    let mut found = 0;
+    let mut i = 0;
+    while i < n {
+        let energy = energies[i];
+        i += 1;
+        if energy <= x {
+            found += 1;
         }
-        part[place] = y;
-        place -= 1;
     }
-    part[place] = x;
+    found
 }
 
-fn short_sort(part: &mut [f64])
-    requires { ⌜ Above (now part) ⌝ }
-    ensures { λ _. ⌜ Ordered (now (part .entry)) (now (part .exit)) ⌝ }
+// How many are below x.
+fn below(energies: &[f64], x: f64) -> usize
+    ensures { λ r. ⌜ r ≡ count (λ y. lt y x) (now (energies .entry)) ⌝ }
+{
+    let n = energies.len();
+    let mut found = 0;
+    let mut i = 0;
+    while i < n {
+        let energy = energies[i];
+        i += 1;
+        if energy < x {
+            found += 1;
+        }
+    }
+    found
+}
+
+// The place of energy i in the order: of equal ones the earlier comes first.
+fn place_of(part: &[f64], i: usize) -> usize
+    requires { ⌜ i < length (now part) ⌝ }
+    ensures { λ r. ⌜ r ≡ placeOf (now (part .entry)) i ⌝ }
+{
+    let x = part[i];
+    let before = at_most(&part[..i], x);
+    let after = below(&part[i..], x);
+    before + after
+}
+
+fn put_in_place(part: &[f64], places: &mut [f64])
+    requires { ⌜ Above (now part) × (length (now part) ≤ length (now places)) ⌝ }
+    ensures { λ _. ⌜ take (length (now (part .entry))) (now (places .exit)) ≡ inOrder (now (part .entry)) ⌝ }
 {
     let n = part.len();
-    let mut done = 1;
-    while done < n {
-        done += 1;
-        put_last(&mut part[..done]);
+    let mut i = 0;
+    while i < n {
+        let place = place_of(part, i);
+        places[place] = part[i];
+        i += 1;
     }
+}
+
+fn copy_back(part: &mut [f64], places: &[f64])
+    requires { ⌜ length (now part) ≤ length (now places) ⌝ }
+    ensures { λ _. ⌜ now (part .exit) ≡ take (length (now (part .entry))) (now (places .entry)) ⌝ }
+{
+    let n = part.len();
+    let mut i = 0;
+    while i < n {
+        part[i] = places[i];
+        i += 1;
+    }
+}
+
+// Counts out each energy's place. There is no branch on what the energies are.
+fn short_sort(part: &mut [f64])
+    requires { ⌜ Above (now part) × (length (now part) ≤ short) ⌝ }
+    ensures { λ _. ⌜ Ordered (now (part .entry)) (now (part .exit)) ⌝ }
+{
+    let mut places = [0.0f64; SHORT];
+    put_in_place(part, &mut places);
+    copy_back(part, &places);
 }
 
 // The place, of three, whose energy lies between the other two.
@@ -145,12 +196,13 @@ fn pivot_place(part: &[f64]) -> usize
 {
     let n = part.len();
     if n < 128 {
-        return middle(part, 0, n / 2, n - 1);
+        return middle(part, n / 4, n / 2, n - 1 - n / 4);
     }
-    let step = n / 8;
-    let low = middle(part, 0, step, 2 * step);
-    let mid = middle(part, 3 * step, 4 * step, 5 * step);
-    let high = middle(part, 6 * step, 7 * step, n - 1);
+    let step = n / 9;
+    let at = n / 18;
+    let low = middle(part, at, at + step, at + 2 * step);
+    let mid = middle(part, at + 3 * step, at + 4 * step, at + 5 * step);
+    let high = middle(part, at + 6 * step, at + 7 * step, at + 8 * step);
     middle(part, low, mid, high)
 }
 

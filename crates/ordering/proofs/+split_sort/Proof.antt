@@ -57,7 +57,7 @@ first : (t : ℕ) (c : split-sort-lts.After-split-sort (claims t) (split-sort-at
 first t c = first-side (c .before .before .before .before .split .ensures) (c .split-sort .last .0) (c .split-sort .ensures)
 
 split-sort-short-sort-requires : (t : ℕ) → split-sort-lts.Need-short-sort-requires (claims t) (split-sort-at t) split-sort.Post
-split-sort-short-sort-requires t c κs = c .before .before .before .pre .1
+split-sort-short-sort-requires t c κs = (c .before .before .before .pre .1, c .before .if1 .taken)
 
 split-sort-same-length : (t : ℕ) → split-sort-lts.Need-same-length (claims t) (split-sort-at t) split-sort.Post
 split-sort-same-length t c = c .before .before .short-sort .kept .0
@@ -127,11 +127,13 @@ split-sort-split-sort-requires-2 t c κs =
           (all-perm (λ x. T (above x)) (first t done .same) (start .pre .1))),
     )
 
-split-sort-same-length-3 : (t : ℕ) → split-sort-lts.Need-same-length-3 (claims t) (split-sort-at t) split-sort.Post
-split-sort-same-length-3 t c = sym (perm-length (both-sides (first t (c .before .before .before .before .before .before)) (c .before .before .split-sort2 .last .0) (c .before .before .split-sort2 .ensures) .same))
-
 split-sort-returns-3 : (t : ℕ) → split-sort-lts.Need-returns-3 (claims t) (split-sort-at t) split-sort.Post
-split-sort-returns-3 t c = both-sides (first t (c .before .before .before .before .before .before)) (c .before .before .split-sort2 .last .0) (c .before .before .split-sort2 .ensures)
+split-sort-returns-3 t c =
+    let second = c .before .before .split-sort2 in
+    both-sides (first t (c .before .before .before .before .before .before)) (second .last .0) (second .ensures)
+
+split-sort-same-length-3 : (t : ℕ) → split-sort-lts.Need-same-length-3 (claims t) (split-sort-at t) split-sort.Post
+split-sort-same-length-3 t c = sym (perm-length (split-sort-returns-3 t c .same))
 
 pub +split-sort-spec : {M : Type 1} → statement M
 +split-sort-spec = close μ-split-sort λ t. split-sort-lts.spec (claims t)

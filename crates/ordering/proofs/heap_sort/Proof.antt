@@ -1,5 +1,5 @@
--- `ordering::heap_sort` meets its contract. The invariant is `Draining`: before the place `left` stands a heap, and each energy from there on is at least all before it.
--- Assumes nothing.
+-- `ordering::heap_sort` meets its contract. The invariant is `Draining`: before the place `left` stands a heap, and each energy from there on is
+-- at least all before it. Assumes nothing.
 use Prim.Native.Nat.{_-_}
 use native.Mathlib.Omega.{arith}
 use mathlib.Core.Path.{_≡_, refl, sym}
@@ -37,20 +37,22 @@ slice-relend-prefix-sift : tie.Need-slice-relend-prefix-sift Inv-loop μ-loop
 slice-relend-prefix-sift c =
     let head = c .before .before .before .before in
     let turned = c .before .before .exchange in
-    part-inside (head .before .loop .left) _ (head .before .loop .part) (head .before .loop .inv) (head .loop-test .taken) (turned .last .0) (turned .ensures)
+    part-inside (head .before .loop .inv) (head .loop-test .taken) (turned .last .0) (turned .ensures)
 
 slice-aggregate-sift : tie.Need-slice-aggregate-sift Inv-loop μ-loop
 slice-aggregate-sift c =
     let head = c .before .before .before .before .before in
     let turned = c .before .before .before .exchange in
-    sym (length-take-le (head .before .loop .left - 1) (turned .last .0) (part-inside (head .before .loop .left) _ (head .before .loop .part) (head .before .loop .inv) (head .loop-test .taken) (turned .last .0) (turned .ensures)))
+    sym
+    (length-take-le (head .before .loop .left - 1) (turned .last .0)
+    (part-inside (head .before .loop .inv) (head .loop-test .taken) (turned .last .0) (turned .ensures)))
 
 sift-requires : tie.Need-sift-requires Inv-loop μ-loop
 sift-requires c κs =
     let head = c .before .before .before .before .before in
     let turned = c .before .before .before .exchange in (
-      part-above (head .before .loop .left) _ (head .before .loop .part) (head .before .loop .inv) (head .loop-test .taken) (turned .last .0) (turned .ensures),
-      part-is-heap (head .before .loop .left) _ (head .before .loop .part) (head .before .loop .inv) (head .loop-test .taken) (turned .last .0) (turned .ensures),
+      part-above (head .before .loop .inv) (head .loop-test .taken) (turned .last .0) (turned .ensures),
+      part-is-heap (head .before .loop .inv) (head .loop-test .taken) (turned .last .0) (turned .ensures),
     )
 
 loop-less : tie.Need-loop-less Inv-loop μ-loop
@@ -61,7 +63,7 @@ loop-again c =
     let head = c .before .before .before .before .before .before .before .before in
     let turned = c .before .before .before .before .before .before .exchange in
     let sunk = c .before .before .sift in
-    drain-on (head .before .loop .left) _ (head .before .loop .part) (head .before .loop .inv) (head .loop-test .taken) (turned .last .0) (turned .ensures) (sunk .last .0) (sunk .ensures)
+    drain-on (head .before .loop .inv) (head .loop-test .taken) (turned .last .0) (turned .ensures) (sunk .last .0) (sunk .ensures)
 
 same-length : tie.Need-same-length Inv-loop μ-loop
 same-length c =
