@@ -1,0 +1,99 @@
+-- The weighting filter (01, step 4): "State s0..s4 per channel. s0 = x - a1·s1 - a2·s2 - a3·s3 - a4·s4; y = b0·s0 + b1·s1 + b2·s2 + b3·s3 + b4·s4;
+-- left to right, each operation rounded; then s4=s3, s3=s2, s2=s1, s1=s0."
+use Prim.Native.Nat.{ℕ, suc, _+_, _*_}
+use mathlib.Core.Bool.{cond, false}
+use mathlib.Core.List.{List, [], _∷_}
+use lib.IntN.{pos, negsuc}
+use lib.ListN.{getD}
+use lib.Seq.{sets}
+use lib.Ieee.{Float, nan, fin, binary64, add, sub, mul, lt, neg}
+use Rattle.filter.specs.declared.weighting.Memory.{Memory}
+use Rattle.filter.specs.Call.{Call, used, heard, part}
+
+-- ---- one frame of one channel
+
+-- entry i of a list of floats
+abbrev pub at : List Float → ℕ → Float
+at l i = getD l i nan
+
+-- the new s0
+abbrev pub head : List Float → Memory → Float → Float
+head a m x =
+    sub binary64 (sub binary64 (sub binary64 (sub binary64 x (mul binary64 (at a 1) (m .s1))) (mul binary64 (at a 2) (m .s2))) (mul binary64 (at a 3) (m .s3))) (mul binary64 (at a 4) (m .s4))
+
+-- y, at the new s0
+abbrev pub output : List Float → Memory → Float → Float
+output b m s0 =
+    add binary64 (add binary64 (add binary64 (add binary64 (mul binary64 (at b 0) s0) (mul binary64 (at b 1) (m .s1))) (mul binary64 (at b 2) (m .s2))) (mul binary64 (at b 3) (m .s3))) (mul binary64 (at b 4) (m .s4))
+
+abbrev pub shift : Memory → Float → Memory
+shift m s0 = record { s0 = s0; s1 = s0; s2 = m .s1; s3 = m .s2; s4 = m .s3 }
+
+-- the memory after a frame, and the frame's output
+unfoldable pub next : List Float → Memory → Float → Memory
+next a m x = shift m (head a m x)
+
+unfoldable pub out : List Float → List Float → Memory → Float → Float
+out a b m x = output b m (head a m x)
+
+-- ---- all frames of one channel
+
+-- the memory after the last, and the outputs in order
+unfoldable pub after : List Float → Memory → List Float → Memory
+unfolding next
+after a m [] = m
+after a m (x ∷ xs) = after a (next a m x) xs
+
+unfoldable pub outs : List Float → List Float → Memory → List Float → List Float
+unfolding out next
+outs a b m [] = []
+outs a b m (x ∷ xs) = out a b m x ∷ outs a b (next a m x) xs
+
+-- 2^-1022
+abbrev pub smallest : Float
+smallest = fin false 1 (negsuc 1021)
+
+-- "At the end of each call every state value of magnitude below 2^-1022, negative zero too, becomes +0."
+abbrev pub flush : Float → Float
+flush v = cond (lt (neg smallest) v) (cond (lt v smallest) (fin false 0 (pos 0)) v) v
+
+unfoldable pub flushed : Memory → Memory
+flushed m = record { s0 = flush (m .s0); s1 = flush (m .s1); s2 = flush (m .s2); s3 = flush (m .s3); s4 = flush (m .s4) }
+
+-- ---- the channels: "an unused channel keeps state and destination"
+
+-- channel k's five places of the flat state
+abbrev pub memoryOf : List Float → ℕ → Memory
+memoryOf values k =
+    record { s0 = at values (k * 5); s1 = at values (k * 5 + 1); s2 = at values (k * 5 + 2); s3 = at values (k * 5 + 3); s4 = at values (k * 5 + 4) }
+
+unfoldable pub withMemory : List Float → ℕ → Memory → List Float
+withMemory values k m = sets values (k * 5) (m .s0 ∷ m .s1 ∷ m .s2 ∷ m .s3 ∷ m .s4 ∷ [])
+
+-- each used channel's memory changed, from channel k on, one byte of the map each
+unfoldable pub overUsed : (ℕ → Memory → Memory) → List ℕ → ℕ → List Float → List Float
+unfolding withMemory
+overUsed change [] k values = values
+overUsed change (byte ∷ bytes) k values =
+    overUsed change bytes (suc k) (cond (used byte) (withMemory values k (change k (memoryOf values k))) values)
+
+-- each used channel's outputs stored in its own equal part of the destination, from the start index
+unfoldable pub overParts : (ℕ → List Float) → ℕ → ℕ → List ℕ → ℕ → List Float → List Float
+overParts outputs part start [] k dest = dest
+overParts outputs part start (byte ∷ bytes) k dest =
+    overParts outputs part start bytes (suc k) (cond (used byte) (sets dest (k * part + start) (outputs k)) dest)
+
+-- ---- the call
+
+-- the flat state after it
+unfoldable pub stateAfter : Call → List Float
+unfolding overUsed after flushed
+stateAfter call =
+    overUsed (λ k m. flushed (after (call .filter .coefficients .a) m (heard call k))) (call .map) 0 (call .filter .state .values)
+
+-- the destination after it
+unfoldable pub destAfter : Call → List Float
+unfolding overParts outs
+destAfter call =
+    overParts (λ k. outs (call .filter .coefficients .a) (call .filter .coefficients .b) (memoryOf (call .filter .state .values) k) (heard call k))
+    (part call) (call .start) (call .map) 0 (call .dest)

@@ -1,0 +1,48 @@
+-- Filling a block, of whatever kind: what is still to be stored, from place i on, gives what all of it gives from place 0.
+-- A turn stores the sample at place i, which heads what is left; past the end of the block or of the samples nothing is left to store. Assumes nothing.
+use mathlib.Core.Path.{_≡_, refl, sym, ap, subst, _∙_}
+use mathlib.Core.List.{List, [], _∷_, map}
+use mathlib.Core.Logic.{_⊎_, inl, inr, ⊎-elim}
+use Prim.Native.Nat.{ℕ, zero, suc, _+_, _-_, _≤_, _<_, min}
+use native.Mathlib.Nat.{le-trans, le-of-eq, eq-zero-or-pos}
+use native.Mathlib.Numerals.{add-one}
+use native.Mathlib.Omega.{arith}
+use lib.ListN.{length, getD, set, drop, length-set, drop-of-length-le}
+use lib.Seq.{sets, set-out, drop-cons}
+use lib.Ieee.{Float}
+
+past-end : (vs block : List Float) (i : ℕ) → length block ≤ i → sets block i vs ≡ block
+past-end [] block i h = refl
+past-end (v ∷ vs) block i h = rw (set-out block i v h) (past-end vs block (suc i) (omega arith))
+
+-- what the block comes to when the samples from place i on are stored as well
+abbrev pub filled : {A : Type 0} → (A → Float) → List A → List Float → ℕ → List Float
+filled f from block i = sets block i (map f (drop i from))
+
+-- the block as it stands at place i, on its way from `block₀`
+pub record Filling {A : Type 0} (f : A → Float) (from : List A) (block₀ block : List Float) (i : ℕ) : Type 0 where
+  pub same : length block ≡ length block₀
+  pub rest : filled f from block i ≡ sets block₀ 0 (map f from)
+
+module _ {A : Type 0} (f : A → Float) (from : List A) (block₀ block : List Float) (i : ℕ) where
+  pub turn : (d : A) (x : Float) → i < length from → x ≡ f (getD from i d) → Filling f from block₀ block i → Filling f from block₀ (set block i x) (i + 1)
+  turn d x h e now =
+      record {
+        same = length-set block i x ∙ now .same;
+        rest =
+            ap (λ (n : ℕ). sets (set block i x) n (map f (drop n from))) (add-one i)
+            ∙ ap (λ (y : Float). sets (set block i y) (suc i) (map f (drop (suc i) from))) e
+            ∙ ap (λ (l : List A). sets block i (map f l)) (sym (drop-cons from i d h))
+            ∙ now .rest;
+      }
+
+  pub ends : length block₀ ≤ i ⊎ length from ≤ i → Filling f from block₀ block i → block ≡ sets block₀ 0 (map f from)
+  ends (inl h) now = sym (past-end (map f (drop i from)) block i (le-trans (le-of-eq (now .same)) h)) ∙ now .rest
+  ends (inr h) now = ap (λ (l : List A). sets block i (map f l)) (sym (drop-of-length-le from h)) ∙ now .rest
+
+pub starts : {A : Type 0} (f : A → Float) (from : List A) (block : List Float) → Filling f from block block 0
+starts f from block = record { same = refl; rest = refl }
+
+-- the loop stops at the shorter of the two lengths
+pub at-shorter : (a b i n : ℕ) → n ≡ min a b → n ≤ i → a ≤ i ⊎ b ≤ i
+at-shorter a b i n e h = ⊎-elim (λ (z : a - i ≡ 0). inl (omega arith)) (λ (p : 0 < a - i). inr (omega arith)) (eq-zero-or-pos (a - i))

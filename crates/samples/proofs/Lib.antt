@@ -1,0 +1,4 @@
+pub mod Written
+pub mod Exact
+pub mod Fill
+pub mod Columns
