@@ -1,13 +1,18 @@
--- Where a gate starts, case by case, and that it starts no later than past the last bin. Assumes nothing.
+-- Where a gate starts, case by case, that it starts no later than past the last bin, and the bound on every count. Assumes nothing.
 use mathlib.Core.Path.{_≡_}
 use mathlib.Core.Bool.{Bool, true, false, cond}
-use Prim.Native.Nat.{ℕ, _+_, _≤_, _<_}
+use Prim.Native.Nat.{ℕ, _+_, _≤_, _<_, _^_}
 use native.Mathlib.Omega.{arith}
+use lib.Dec.{lit<}
 use lib.Ieee.{Float, lt}
 use Rattle.histogram_bins.specs.Tables.{boundaryAt, energyAt}
 use Rattle.histogram_bins.specs.Bin.{bins, binOf}
 use Rattle.histogram_bins.proofs.Bins.{bin-below}
-use Rattle.gate.specs.Gate.{startBin}
+use Rattle.gate.specs.Gate.{mostOfSet, startBin}
+
+-- every count of a set is below 2^46, so that the whole-number ranks hold
+pub set-below : mostOfSet < 2 ^ 46
+set-below = lit< tt
 
 module _ (threshold : Float) where
   pub start-below : lt threshold (boundaryAt 0) ≡ true → startBin threshold ≡ 0

@@ -3,19 +3,19 @@
 -- is 0, NAN if the sum is NaN. Threshold = (sum / count) times the f64 nearest 1/10. Histogram bins count from the threshold's bin, or the next if the
 -- threshold is above that bin's energy; below boundary 0 from bin 0; the start may be 1000. Queue energies count if not below the threshold. One running
 -- sum passes over all histories in order."
-use Prim.Native.Nat.{ℕ, zero, suc, _+_, _*_}
-use mathlib.Core.Bool.{Bool, true, false, not, cond}
+use Prim.Native.Nat.{ℕ, suc, _+_, _-_, _*_}
+use mathlib.Core.Bool.{Bool, false, not, cond}
 use mathlib.Core.List.{List, [], _∷_}
 use lib.Dec.{eqb}
 use lib.IntN.{pos}
-use lib.ListN.{length, drop}
+use lib.ListN.{drop}
 use lib.Ieee.{Float, binary64, add, mul, div, lt, ofInt, ofBits, round, isNan}
 use Rattle.refusals.specs.Refusal.{NONE, NAN}
 use Rattle.refusals.specs.Outcome.{Question, answers, refused, Said, says, refusal}
 use Rattle.histogram_bins.specs.Tables.{boundaryAt, energyAt}
 use Rattle.histogram_bins.specs.Bin.{bins, binOf}
 use Rattle.history.specs.Histogram.{largestCount}
-use Rattle.history.specs.Set.{History, counted, listed, Histories, historiesOf, refusalOf, unlessRefused}
+use Rattle.history.specs.Set.{mostHistories, History, counted, listed, Histories, historiesOf, refusalOf, unlessRefused}
 use Rattle.gate.specs.declared.Totals.{Totals}
 use Rattle.gate.specs.declared.Gated.{Gated}
 use Rattle.gate.specs.declared.Gated.the-variants.{Blocks, Refused}
@@ -23,6 +23,13 @@ use Rattle.gate.specs.declared.Gated.the-variants.{Blocks, Refused}
 -- the most blocks of a history: every bin of a histogram full
 abbrev pub mostBlocks : ℕ
 mostBlocks = bins * largestCount
+
+-- the most blocks of a set, and of one that has yet to take its last history
+abbrev pub mostOfSet : ℕ
+mostOfSet = mostHistories * mostBlocks
+
+abbrev pub mostBefore : ℕ
+mostBefore = mostOfSet - mostBlocks
 
 -- ---- running totals
 -- no block, and the sum 0. The Rust's sum of a queue starts from 0 or from -0, by its version: on energies that are positive or NaN this shows nowhere

@@ -1,17 +1,20 @@
 // The relative gate over a set of histories: the blocks at or above it and the sum of their energies, their mean, and a single history's threshold.
 use history::queue::Queue;
 use history::set::Entry;
+use history::set::MOST;
 use history::set::Shape;
 ghost use mathlib.Core.Path.{_≡_};
-ghost use Prim.Native.Nat.{ℕ, _+_, _*_, _≤_};
-ghost use lib.ListN.{length, take, drop};
+ghost use Prim.Native.Nat.{_+_, _≤_};
+ghost use lib.ListN.{length, drop};
 ghost use Rattle.refusals.specs.Outcome.{saidBy};
 ghost use Rattle.histogram_bins.specs.Bin.{bins};
 ghost use mathlib.Core.Bool.{true, false};
 ghost use Rattle.history.specs.Queue.{suits, heldOf};
-ghost use Rattle.history.specs.Set.{Histories, histories, blockAt, queueAt, isOutside, isSound, shows, historiesOf, refusalOf, sound};
+ghost use Rattle.history.specs.Set.{histories, blockAt, queueAt, isOutside, isSound, shows, historiesOf, refusalOf, sound};
 ghost use Rattle.gate.specs.Gate.{
   mostBlocks,
+  mostOfSet,
+  mostBefore,
   none,
   binsFrom,
   energiesFrom,
@@ -79,7 +82,7 @@ pub fn start_bin(threshold: f64) -> usize
 
 // The blocks of a histogram, from a bin upward, on top of running totals.
 fn bins_from(totals: Totals, block: &[u32], start: usize) -> Totals
-    requires { ⌜ (length (now block) ≡ bins) × (start ≤ bins) × (totals .count ≤ 15 * mostBlocks) ⌝ }
+    requires { ⌜ (length (now block) ≡ bins) × (start ≤ bins) × (totals .count ≤ mostBefore) ⌝ }
     ensures { λ r. ⌜ (r ≡ binsFrom totals start (drop start (now (block .entry)))) × (r .count ≤ totals .count + mostBlocks) ⌝ }
 {
     let energies = histogram_bins::tables::all_energies();
@@ -97,7 +100,7 @@ fn bins_from(totals: Totals, block: &[u32], start: usize) -> Totals
 
 // Every energy of a slice is a block, on top of running totals.
 fn energies_from(totals: Totals, part: &[f64]) -> Totals
-    requires { ⌜ totals .count + length (now part) ≤ 16 * mostBlocks ⌝ }
+    requires { ⌜ totals .count + length (now part) ≤ mostOfSet ⌝ }
     ensures { λ r. ⌜ (r ≡ energiesFrom totals (now (part .entry))) × (r .count ≤ totals .count + length (now (part .entry))) ⌝ }
 {
     let mut count = totals.count;
@@ -113,7 +116,7 @@ fn energies_from(totals: Totals, part: &[f64]) -> Totals
 
 // The energies of a slice that the gate keeps, on top of running totals.
 fn kept_from(totals: Totals, part: &[f64], threshold: f64) -> Totals
-    requires { ⌜ totals .count + length (now part) ≤ 16 * mostBlocks ⌝ }
+    requires { ⌜ totals .count + length (now part) ≤ mostOfSet ⌝ }
     ensures { λ r. ⌜ (r ≡ keptFrom threshold totals (now (part .entry))) × (r .count ≤ totals .count + length (now (part .entry))) ⌝ }
 {
     let mut count = totals.count;
@@ -121,7 +124,7 @@ fn kept_from(totals: Totals, part: &[f64], threshold: f64) -> Totals
     let mut i = 0;
     while i < part.len() {
         let energy = part[i];
-        if energy < threshold {} else {
+        if !(energy < threshold) {
             sum = sum + energy;
             count += 1;
         }
@@ -139,7 +142,7 @@ fn no_totals() -> Totals
 
 // The blocks of a histogram of the set, from a bin upward.
 fn block_from(totals: Totals, counters: &[u32], start: usize, bin: usize) -> Totals
-    requires { ⌜ (start + bins ≤ length (now counters)) × (bin ≤ bins) × (totals .count ≤ 15 * mostBlocks) ⌝ }
+    requires { ⌜ (start + bins ≤ length (now counters)) × (bin ≤ bins) × (totals .count ≤ mostBefore) ⌝ }
     ensures { λ r. ⌜ (r ≡ binsFrom totals bin (drop bin (blockAt (now (counters .entry)) start))) × (r .count ≤ totals .count + mostBlocks) ⌝ }
 {
     let end = start + history::BINS;
@@ -169,7 +172,7 @@ fn queue_kept(
     queue: Queue,
     threshold: f64,
 ) -> Totals
-    requires { ⌜ (start + queue .maximum ≤ length (now energies)) × (suits queue (queue .maximum) ≡ true) × (totals .count ≤ 15 * mostBlocks) ⌝ }
+    requires { ⌜ (start + queue .maximum ≤ length (now energies)) × (suits queue (queue .maximum) ≡ true) × (totals .count ≤ mostBefore) ⌝ }
     ensures { λ r. ⌜ (r ≡ keptFrom threshold totals (heldOf (queueAt (now (energies .entry)) start queue))) × (r .count ≤ totals .count + mostBlocks) ⌝ }
 {
     let head = queue.head;
@@ -204,7 +207,7 @@ fn history_gated(
     bin: usize,
 ) -> Totals
     requires { ⌜ (isOutside (length (now counters)) (length (now energies)) entry ≡ false) × (isSound (now energies) entry ≡ true)
-        × (totals .count ≤ 15 * mostBlocks) × (bin ≡ startBin threshold) ⌝ }
+        × (totals .count ≤ mostBefore) × (bin ≡ startBin threshold) ⌝ }
     ensures { λ r. ⌜ (r ≡ gatedOf threshold totals (shows (now (counters .entry)) (now (energies .entry)) entry)) × (r .count ≤ totals .count + mostBlocks) ⌝ }
 {
     let shape = entry.shape;
@@ -215,9 +218,9 @@ fn history_gated(
 }
 
 // The counts and sums of all histories, added history by history from 0.
-fn all_totals(entries: [Entry; 16], count: usize, counters: &[u32], energies: &[f64]) -> Totals
+fn all_totals(entries: [Entry; MOST], count: usize, counters: &[u32], energies: &[f64]) -> Totals
     requires { ⌜ refusalOf (histories entries count (now counters) (now energies)) ≡ sound ⌝ }
-    ensures { λ r. ⌜ (r ≡ allTotals none (historiesOf (histories entries count (now (counters .entry)) (now (energies .entry))))) × (r .count ≤ 16 * mostBlocks) ⌝ }
+    ensures { λ r. ⌜ (r ≡ allTotals none (historiesOf (histories entries count (now (counters .entry)) (now (energies .entry))))) × (r .count ≤ mostOfSet) ⌝ }
 {
     let mut blocks: u64 = 0;
     let mut sum = 0.0;
@@ -234,14 +237,14 @@ fn all_totals(entries: [Entry; 16], count: usize, counters: &[u32], energies: &[
 
 // What all histories have at or above the gate: one running sum passes over them in order.
 fn all_gated(
-    entries: [Entry; 16],
+    entries: [Entry; MOST],
     count: usize,
     counters: &[u32],
     energies: &[f64],
     threshold: f64,
 ) -> Totals
     requires { ⌜ refusalOf (histories entries count (now counters) (now energies)) ≡ sound ⌝ }
-    ensures { λ r. ⌜ (r ≡ allGated threshold none (historiesOf (histories entries count (now (counters .entry)) (now (energies .entry))))) × (r .count ≤ 16 * mostBlocks) ⌝ }
+    ensures { λ r. ⌜ (r ≡ allGated threshold none (historiesOf (histories entries count (now (counters .entry)) (now (energies .entry))))) × (r .count ≤ mostOfSet) ⌝ }
 {
     let bin = start_bin(threshold);
     let mut totals = no_totals();
@@ -262,7 +265,7 @@ fn threshold_of(totals: Totals) -> f64
 }
 
 // The gate question.
-pub fn gate(entries: [Entry; 16], count: usize, counters: &[u32], energies: &[f64]) -> Gated
+pub fn gate(entries: [Entry; MOST], count: usize, counters: &[u32], energies: &[f64]) -> Gated
     ensures { λ r. ⌜ said r ≡ saidBy (gateOf (histories entries count (now (counters .entry)) (now (energies .entry)))) ⌝ }
 {
     let refusal = history::set::checked(entries, count, counters, energies);
@@ -285,7 +288,7 @@ pub fn gate(entries: [Entry; 16], count: usize, counters: &[u32], energies: &[f6
 
 // The mean energy of the blocks at or above the gate.
 pub fn gated_energy(
-    entries: [Entry; 16],
+    entries: [Entry; MOST],
     count: usize,
     counters: &[u32],
     energies: &[f64],
@@ -303,7 +306,7 @@ pub fn gated_energy(
 pub fn relative_threshold(entry: Entry, counters: &[u32], energies: &[f64]) -> Threshold
     ensures { λ r. ⌜ saidThreshold r ≡ saidBy (relativeOf entry (now (counters .entry)) (now (energies .entry))) ⌝ }
 {
-    let refusal = history::set::checked([entry; 16], 1, counters, energies);
+    let refusal = history::set::checked([entry; MOST], 1, counters, energies);
     if refusal != 0 {
         return Threshold::Refused(refusal);
     }

@@ -57,7 +57,7 @@ fn outside(entry: Entry, counters: usize, energies: usize) -> bool
 }
 
 // Whether any of the first `count` entries does.
-fn any_outside(entries: [Entry; 16], count: usize, counters: usize, energies: usize) -> bool
+fn any_outside(entries: [Entry; MOST], count: usize, counters: usize, energies: usize) -> bool
     requires { ⌜ count ≤ mostHistories ⌝ }
     ensures { λ r. ⌜ r ≡ anyOutside counters energies (take count entries) ⌝ }
 {
@@ -117,7 +117,7 @@ fn sound(entry: Entry, energies: &[f64]) -> bool
 }
 
 // Whether the stores of the first `count` entries are.
-fn all_sound(entries: [Entry; 16], count: usize, energies: &[f64]) -> bool
+fn all_sound(entries: [Entry; MOST], count: usize, energies: &[f64]) -> bool
     requires { ⌜ (count ≤ mostHistories) × (storesInside (length (now energies)) (take count entries)) ⌝ }
     ensures { λ r. ⌜ r ≡ allSound (now (energies .entry)) (take count entries) ⌝ }
 {
@@ -134,7 +134,7 @@ fn all_sound(entries: [Entry; 16], count: usize, energies: &[f64]) -> bool
 }
 
 // The number of the first refusal that a set of histories gets, or 0.
-pub fn checked(entries: [Entry; 16], count: usize, counters: &[u32], energies: &[f64]) -> u8
+pub fn checked(entries: [Entry; MOST], count: usize, counters: &[u32], energies: &[f64]) -> u8
     ensures { λ r. ⌜ r ≡ numbered (refusalOf (histories entries count (now (counters .entry)) (now (energies .entry)))) ⌝ }
 {
     if count > MOST {

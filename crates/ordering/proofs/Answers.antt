@@ -1,6 +1,6 @@
 -- The answers of `order`: energies that rise already, energies that are brought in order, and energies that are left alone since one is not above zero.
 -- Assumes nothing.
-use mathlib.Core.Path.{_≡_, refl, sym, _∙_}
+use mathlib.Core.Path.{_≡_, refl, sym}
 use mathlib.Core.Bool.{Bool, true, false, cond}
 use mathlib.Core.List.{List}
 use Prim.Native.Nat.{ℕ}

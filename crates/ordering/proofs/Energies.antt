@@ -1,19 +1,19 @@
 -- The order of energies above zero: of two, one is at most the other, and two that are at most each other are the same value.
 -- A value of the format is written in one way, so equal fractions have one bit pattern, and one bit pattern is one value. Assumes nothing.
 use mathlib.Core.Path.{_≡_, refl, sym, ap, _∙_, subst}
-use mathlib.Core.Bool.{Bool, true, false, not, _&&_, _||_, cond, true≢false}
+use mathlib.Core.Bool.{Bool, true, false, not, _&&_, _||_, true≢false}
 use Prim.Native.Nat.{ℕ, zero, suc, _+_, _*_, _/_, _^_, _-_, _≤_, _<_}
 use borrow.Author.Tests.{lt-ltb, le-ltb}
 use native.Mathlib.Nat.{zero-mul, mul-pos, le-antisymm, mul-assoc, mul-comm, eq-or-lt-of-le}
 use native.Mathlib.Omega.{arith}
 use mathlib.Core.Logic.{_⊎_, inl, inr}
-use lib.Dec.{T, ltb, eqb, leb, ltb→lt, nltb→le, lt→ltb, not-T}
+use lib.Dec.{T, ltb, eqb, ltb→lt, nltb→le, lt→ltb}
 use lib.IntN.{ℤ, pos}
-use lib.Ieee.{Float, nan, inf, fin, binary64, up, down, low, lt, le, eq, fits, toBits, ofBits, size, prec, hid, top}
+use lib.Ieee.{Float, nan, inf, fin, binary64, up, down, low, lt, le, fits, toBits, ofBits, size, hid}
 use lib.Ieee.Bits.{ofBits-toBits}
 use lib.Ieee.Nearest.{div-same}
 use lib.Ieee.Fits.{up-pos, down-pos, eq→eqb, and-i}
-use Rattle.floats.proofs.Order.{is-true, is-false, lt→le}
+use Rattle.floats.proofs.Order.{is-false, lt→le}
 use lib.Ieee.Positive.{above, above-of-le}
 
 or-l : (a b : Bool) → T a → T (a || b)

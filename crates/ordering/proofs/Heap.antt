@@ -2,18 +2,18 @@
 -- and what is taken from the top, one after the other, falls. Assumes nothing.
 use mathlib.Core.Path.{_≡_, refl, sym, ap, _∙_, subst}
 use mathlib.Core.Logic.{_⊎_, inl, inr}
-use mathlib.Core.List.{List, [], _∷_, _++_}
+use mathlib.Core.List.{List, _++_}
 use Prim.Native.Nat.{ℕ, zero, suc, _+_, _*_, _-_, _/_, _≤_, _<_}
 use native.Mathlib.Omega.{arith}
 use lib.Dec.{T}
 use native.Mathlib.Decide.{decLt}
-use lib.ListN.{length, getD, take, drop}
+use lib.ListN.{length, take, drop}
 use lib.Seq.{getD-take, length-take-le, take-length, take-at}
 use lib.Ieee.{Float, nan, le, lt}
 use mathlib.Core.Bool.{true, false}
 use Rattle.floats.proofs.Order.{float-le-trans, lt→le}
 use lib.Ieee.Positive.{above}
-use Rattle.ordering.specs.Inner.{Perm, both, All, Above, Rising, Ordered, at, exchanged, Child, Larger, HeapFrom, Heaped}
+use Rattle.ordering.specs.Inner.{Perm, both, All, Above, Ordered, at, exchanged, Child, Larger, HeapFrom, Heaped}
 use Rattle.ordering.proofs.Perms.{perm-refl, perm-length, front-perm, exchange-perm, all-perm, all-at, all-of, all-take}
 use Rattle.ordering.proofs.Energies.{same-at-most, not-below, not-at-most}
 use Rattle.ordering.proofs.Places.{le-by, same-or-other, exchanged-length, exchanged-first, exchanged-second, exchanged-other, front-at, back-at, rising-of}

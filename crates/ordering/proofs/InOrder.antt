@@ -3,11 +3,11 @@
 -- Assumes nothing.
 use mathlib.Core.Path.{_≡_, refl, sym, ap, _∙_, subst}
 use mathlib.Core.Bool.{Bool, true, false, cond}
-use mathlib.Core.List.{List, [], _∷_, _++_}
-use Prim.Native.Nat.{ℕ, zero, suc, _≤_, _<_}
+use mathlib.Core.List.{List, [], _∷_}
+use Prim.Native.Nat.{ℕ}
 use lib.Dec.{T}
-use lib.ListN.{length, getD}
-use lib.Ieee.{Float, nan, le, fits, binary64}
+use lib.ListN.{length}
+use lib.Ieee.{Float, le, fits, binary64}
 use Rattle.floats.proofs.Order.{float-le-trans}
 use lib.Ieee.Positive.{above}
 use Rattle.ordering.specs.Order.{put, inOrder}

@@ -2,16 +2,16 @@
 -- what is settled is so whichever way the energies before it stand, since each of them is at most each that follows. Assumes nothing.
 use mathlib.Core.Path.{_≡_, refl, sym, ap, _∙_, subst}
 use mathlib.Core.Logic.{_⊎_, inl, inr}
-use mathlib.Core.List.{List, [], _∷_, _++_, append-nil}
-use Prim.Native.Nat.{ℕ, zero, suc, _+_, _-_, _≤_, _<_}
+use mathlib.Core.List.{List, _++_, append-nil}
+use Prim.Native.Nat.{ℕ, _+_, _-_, _≤_, _<_}
 use native.Mathlib.Decide.{decLt}
 use native.Mathlib.Omega.{arith}
 use lib.Dec.{T}
-use lib.ListN.{length, getD, take, drop, length-drop, drop-of-length-le, List·getD-append}
+use lib.ListN.{length, take, drop, length-drop, drop-of-length-le, List·getD-append}
 use lib.Seq.{length-take-le, getD-take, getD-drop, getD-append-add}
 use lib.Ieee.{Float, nan, le}
 use lib.Ieee.Positive.{above}
-use Rattle.ordering.specs.Inner.{Perm, both, All, Above, Rising, Ordered, at, Lowest, Parted}
+use Rattle.ordering.specs.Inner.{Perm, both, All, Above, Ordered, at, Lowest, Parted}
 use Rattle.ordering.proofs.Perms.{perm-length, front-perm, back-perm, all-perm, all-at, all-of}
 use Rattle.ordering.proofs.Energies.{same-at-most}
 use Rattle.ordering.proofs.Places.{le-by, same-or-other, front-at, back-at, last-part, rising-of, rising-at}

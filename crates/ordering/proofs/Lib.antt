@@ -9,3 +9,4 @@ pub mod Parting
 pub mod Joining
 pub mod Runs
 pub mod Answers
+pub mod Depth

@@ -3,16 +3,16 @@
 use mathlib.Core.Path.{_≡_, refl, sym, ap, _∙_, subst}
 use mathlib.Core.Bool.{true, false}
 use mathlib.Core.Logic.{_⊎_, inl, inr}
-use mathlib.Core.List.{List, [], _∷_, _++_}
-use Prim.Native.Nat.{ℕ, zero, suc, _+_, _-_, _≤_, _<_}
+use mathlib.Core.List.{List}
+use Prim.Native.Nat.{ℕ, _+_, _-_, _≤_, _<_}
 use native.Mathlib.Omega.{arith}
 use lib.Dec.{T}
-use lib.ListN.{length, getD}
-use lib.Ieee.{Float, nan, le, lt}
+use lib.ListN.{length}
+use lib.Ieee.{Float, le, lt}
 use Rattle.floats.proofs.Order.{float-le-trans, lt→le}
 use lib.Ieee.Positive.{above}
 use Rattle.ordering.specs.Inner.{Perm, both, All, Above, at, exchanged, Lowest, Parted}
-use Rattle.ordering.proofs.Perms.{perm-refl, perm-length, exchange-perm, all-perm, all-at, all-of}
+use Rattle.ordering.proofs.Perms.{perm-refl, exchange-perm, all-perm, all-at, all-of}
 use Rattle.ordering.proofs.Energies.{not-below, not-at-most}
 use Rattle.ordering.proofs.Places.{le-by, same-or-other, exchanged-length, exchanged-first, exchanged-second, exchanged-other}
 

@@ -2,10 +2,10 @@
 -- and an exchange of two places is one. Each law goes along the steps that a permutation is made of. Assumes nothing.
 use mathlib.Core.Path.{_≡_, refl, sym, ap, _∙_, subst}
 use mathlib.Core.List.{List, [], _∷_, _++_}
-use Prim.Native.Nat.{ℕ, zero, suc, _+_, _≤_, _<_, zero-le, suc-le-suc}
+use Prim.Native.Nat.{ℕ, zero, suc, _<_, zero-le, suc-le-suc}
 use native.Mathlib.Nat.{not-suc-le-zero, le-of-suc-le-suc}
-use lib.ListN.{length, getD, take, drop, set, take-append-drop}
-use lib.Ieee.{Float, nan}
+use lib.ListN.{length, take, drop, set, take-append-drop}
+use lib.Ieee.{Float}
 use Rattle.ordering.specs.Inner.{Perm, none, keep, swap, both, All, at, exchanged}
 
 pub perm-refl : (l : List Float) → Perm l l

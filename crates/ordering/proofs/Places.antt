@@ -1,6 +1,6 @@
 -- What stands where: after an exchange of two places, in a list whose front is filled anew, and in a copy.
 -- A list rises where the energy at each place is at most those at later places. Assumes nothing.
-use mathlib.Core.Path.{_≡_, refl, sym, ap, _∙_, subst}
+use mathlib.Core.Path.{_≡_, sym, ap, _∙_, subst}
 use mathlib.Core.Logic.{_⊎_, inl, inr}
 use mathlib.Core.List.{List, [], _∷_, _++_}
 use Prim.Native.Nat.{ℕ, zero, suc, _+_, _-_, _≤_, _<_, zero-le, suc-le-suc}
@@ -8,10 +8,10 @@ use native.Mathlib.Nat.{le-of-suc-le-suc, not-suc-le-zero}
 use native.Mathlib.Decide.{ℕ-discrete}
 use native.Mathlib.Omega.{arith}
 use lib.Dec.{T}
-use lib.ListN.{length, getD, take, drop, set, length-set, length-drop, List·getD-append}
+use lib.ListN.{length, take, drop, set, length-set, length-drop, List·getD-append}
 use lib.Seq.{ext-getD, take-all, length-take-le, getD-take, getD-set-same, getD-set-other, getD-append-add, getD-drop}
 use lib.Ieee.{Float, nan, le}
-use Rattle.ordering.specs.Inner.{All, Rising, at, exchanged}
+use Rattle.ordering.specs.Inner.{Rising, at, exchanged}
 use Rattle.ordering.proofs.Perms.{all-at, all-of}
 
 pub le-by : {x a y b : Float} → x ≡ a → y ≡ b → T (le a b) → T (le x y)

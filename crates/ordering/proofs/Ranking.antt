@@ -4,7 +4,7 @@
 use mathlib.Core.Path.{_≡_, refl, sym, ap, _∙_, subst}
 use mathlib.Core.Bool.{Bool, true, false, cond}
 use mathlib.Core.Logic.{_⊎_, inl, inr}
-use mathlib.Core.List.{List, [], _∷_, _++_}
+use mathlib.Core.List.{List, [], _∷_}
 use Prim.Native.Nat.{ℕ, zero, suc, _+_, _≤_, _<_}
 use native.Mathlib.Nat.{le-of-suc-le-suc, not-suc-le-zero}
 use native.Mathlib.Decide.{decLt}
@@ -16,7 +16,7 @@ use lib.Ieee.{Float, nan, le, lt}
 use lib.Ieee.Positive.{above}
 use Rattle.floats.proofs.Order.{is-true, is-false, float-le-trans, lt→le, lt-not-le}
 use Rattle.ordering.specs.Order.{inOrder}
-use Rattle.ordering.specs.Inner.{Perm, All, Above, Rising, Ordered, at, count, placeOf}
+use Rattle.ordering.specs.Inner.{All, Above, Rising, at, count, placeOf}
 use Rattle.ordering.proofs.Perms.{perm-length, all-perm, all-at, all-map}
 use Rattle.ordering.proofs.Energies.{not-below, same-at-most, same-value}
 use Rattle.ordering.proofs.InOrder.{Energy, in-order-perm, in-order-rises}

@@ -1,6 +1,6 @@
 -- Energies in rising order (01, step 9: "all held energies in rising order").
 -- It is told for energies above zero: positive ones, and infinity. Of those no two compare equal but are the same value, so the order is the only one.
-use mathlib.Core.Bool.{Bool, true, false, _&&_, cond}
+use mathlib.Core.Bool.{Bool, true, _&&_, cond}
 use mathlib.Core.List.{List, [], _∷_}
 use lib.Ieee.{Float, le}
 use lib.Ieee.Positive.{above}

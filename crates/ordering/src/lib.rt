@@ -4,7 +4,7 @@ ghost use mathlib.Core.Path.{_≡_};
 ghost use mathlib.Core.Bool.{true};
 ghost use Prim.Native.Nat.{_+_, _*_, _<_, _≤_, _^_};
 ghost use lib.ListN.{length, take};
-ghost use lib.Ieee.{le, lt};
+ghost use lib.Ieee.{le, lt, size};
 ghost use Rattle.ordering.specs.Order.{inOrder, allAbove, ordered};
 ghost use Rattle.ordering.specs.Inner.{Above, Rising, Falling, Ordered, Turned, Larger, HeapFrom, Heaped, Lowest, Parted, short, count, placeOf, exchanged};
 
@@ -298,6 +298,7 @@ fn split_sort(part: &mut [f64], budget: usize)
 // Twice the binary digits of n: how deep splits may go before the heap takes over.
 fn depth_for(n: usize) -> usize
     requires { ⌜ n < 2 ^ 60 ⌝ }
+    ensures { λ r. ⌜ r ≡ 2 * size n ⌝ }
 {
     let mut left = n;
     let mut depth = 0;

@@ -4,9 +4,10 @@ use native.Mathlib.Omega.{arith}
 use mathlib.Core.Path.{_≡_, refl, sym, ap, _∙_}
 use mathlib.Core.List.{List}
 use mathlib.Core.Logic.{⊎-elim}
+use borrow.Author.Tests.{not-true, not-false}
 use borrow.Author.Needs.{needs}
 use denote.Ref.{now}
-use lib.Ieee.{Float, nan}
+use lib.Ieee.{Float, nan, lt}
 use lib.ListN.{length, getD, drop}
 use Rattle.gate.specs.declared.Totals.{Totals}
 use Rattle.gate.specs.Gate.{keptFrom}
@@ -57,12 +58,16 @@ loop-again c =
     (λ w. (
       omega arith,
       omega (arith, w .1),
-      same (a .threshold) (drop (i + 1) part) (w .1) (w .2) ∙ passed-turn part before i (a .threshold) nan (omega arith) (w .0 .taken) ∙ l .loop .inv .2,
+      same (a .threshold) (drop (i + 1) part) (w .1) (w .2)
+          ∙ kept-turn part before i (a .threshold) nan (omega arith) (not-true (lt (getD part i nan) (a .threshold)) (w .0 .taken))
+          ∙ l .loop .inv .2,
     ))
     (λ w. (
       omega arith,
       omega (arith, w .1),
-      same (a .threshold) (drop (i + 1) part) (w .1) (w .2) ∙ kept-turn part before i (a .threshold) nan (omega arith) (w .0 .left) ∙ l .loop .inv .2,
+      same (a .threshold) (drop (i + 1) part) (w .1) (w .2)
+          ∙ passed-turn part before i (a .threshold) nan (omega arith) (not-false (lt (getD part i nan) (a .threshold)) (w .0 .left))
+          ∙ l .loop .inv .2,
     ))
     (c .if1 .came)
 

@@ -1,17 +1,16 @@
 -- The proof of the cycle of calls {split_sort}: the measure is the budget. What is split, and ordered on both sides, is in order. Assumes nothing.
-use mathlib.Core.Path.{_≡_, sym}
+use mathlib.Core.Path.{sym}
 use mathlib.Core.List.{_++_}
-use Prim.Native.Nat.{_-_}
+use Prim.Native.Nat.{ℕ, _-_, _<_}
 use native.Mathlib.Omega.{arith}
 use lib.Dec.{T}
 use lib.ListN.{length, drop}
 use lib.Seq.{length-take-le}
 use lib.Ieee.Positive.{above}
-use Rattle.ordering.specs.Inner.{Above, Ordered, Parted}
+use Rattle.ordering.specs.Inner.{Above, Parted}
 use Rattle.ordering.proofs.Perms.{perm-length, all-perm, all-take, all-drop}
 use Rattle.ordering.proofs.Joining.{first-side, both-sides}
 use borrow.Author.Needs.{needs}
-use Prim.Native.Nat.{ℕ, _<_}
 use borrow.Fn.Kinds.{In}
 use borrow.Fn.PlainCycle.{Measures, is, falls, and}
 use Rattle.ordering.proofs.split_sort.Reads as split-sort

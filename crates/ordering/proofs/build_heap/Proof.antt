@@ -1,8 +1,7 @@
 -- `ordering::build_heap` meets its contract: from the middle on no place has a child, and each turn lets one more energy sink. Assumes nothing.
 use Prim.Native.Nat.{_/_}
 use native.Mathlib.Omega.{arith}
-use mathlib.Core.Path.{_≡_, refl, sym}
-use borrow.Author.Needs.{needs}
+use mathlib.Core.Path.{refl, sym}
 use lib.Dec.{T}
 use lib.ListN.{length}
 use lib.Ieee.Positive.{above}

@@ -2,13 +2,13 @@
 -- at least all before it. Assumes nothing.
 use Prim.Native.Nat.{_-_}
 use native.Mathlib.Omega.{arith}
-use mathlib.Core.Path.{_≡_, refl, sym}
+use mathlib.Core.Path.{sym}
 use borrow.Author.Needs.{needs}
 use lib.Dec.{T}
 use lib.Seq.{length-take-le}
 use lib.Ieee.Positive.{above}
 use Rattle.ordering.specs.Inner.{both}
-use Rattle.ordering.proofs.Perms.{perm-refl, perm-length, all-perm}
+use Rattle.ordering.proofs.Perms.{perm-length, all-perm}
 use Rattle.ordering.proofs.Heap.{Draining, drain-start, drain-done, part-inside, part-above, part-is-heap, drain-on}
 use Rattle.ordering.proofs.heap_sort.Statement.{statement}
 use Rattle.ordering.proofs.heap_sort.Tie as tie

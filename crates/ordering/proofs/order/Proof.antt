@@ -1,7 +1,6 @@
 -- `ordering::order` meets its contract: what rises is left as it is, what falls is turned round, the rest is split and ordered; each is the one order there is.
 -- Assumes nothing.
-use native.Mathlib.Omega.{arith}
-use mathlib.Core.Path.{_≡_, sym, _∙_}
+use mathlib.Core.Path.{sym, _∙_}
 use borrow.Author.Needs.{needs}
 use Rattle.ordering.proofs.Runs.{above-all, falling-turned}
 use Rattle.ordering.proofs.Answers.{in-order-already, brought-in-order, left-alone}

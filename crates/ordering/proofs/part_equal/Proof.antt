@@ -1,7 +1,7 @@
 -- `ordering::part_equal` meets its contract. The invariant is `Parting`, and each turn keeps it, whichever way the test goes. Assumes nothing.
-use Prim.Native.Nat.{_-_, _<_}
+use Prim.Native.Nat.{_-_}
 use native.Mathlib.Omega.{arith}
-use mathlib.Core.Path.{_≡_, refl, sym, _∙_}
+use mathlib.Core.Path.{_≡_, refl, sym}
 use borrow.Author.Needs.{needs}
 use lib.ListN.{length, length-set}
 use Rattle.ordering.proofs.Perms.{perm-length}

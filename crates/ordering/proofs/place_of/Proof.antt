@@ -2,11 +2,10 @@
 use mathlib.Core.Path.{_≡_, sym, ap, _∙_}
 use Prim.Native.Nat.{_+_}
 use native.Mathlib.Omega.{arith}
-use mathlib.Core.List.{List}
 use borrow.Author.Needs.{needs}
-use lib.ListN.{length, take, drop, length-drop}
+use lib.ListN.{take, drop, length-drop}
 use lib.Seq.{length-take-le}
-use lib.Ieee.{Float, le, lt}
+use lib.Ieee.{le, lt}
 use Rattle.ordering.specs.Inner.{count, at, placeOf}
 use Rattle.ordering.proofs.Counting.{count-within}
 use Rattle.ordering.proofs.Places.{last-part}

@@ -1,12 +1,10 @@
 -- `ordering::put_in_place` meets its contract. The invariant is `Placed`: at the places of the first i energies stands what the order has there. Assumes nothing.
-use mathlib.Core.Path.{_≡_, refl, sym, ap, _∙_, subst}
-use mathlib.Core.List.{List}
+use mathlib.Core.Path.{_≡_, refl, sym, subst}
 use Prim.Native.Nat.{ℕ, _+_, _-_, _<_}
 use native.Mathlib.Omega.{arith}
 use borrow.Author.Needs.{needs}
 use lib.ListN.{length, set, length-set}
-use lib.Ieee.{Float}
-use Rattle.ordering.specs.Inner.{All, at, placeOf}
+use Rattle.ordering.specs.Inner.{All, at}
 use Rattle.ordering.proofs.InOrder.{Energy, energies}
 use Rattle.ordering.proofs.Ranking.{Placed, placed-on, all-placed, place-inside}
 use Rattle.ordering.proofs.put_in_place.Statement.{statement}

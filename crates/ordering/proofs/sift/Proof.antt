@@ -3,7 +3,6 @@
 use mathlib.Core.Path.{_≡_, refl, sym}
 use Prim.Native.Nat.{_/_, _-_}
 use native.Mathlib.Omega.{arith}
-use borrow.Author.Needs.{needs}
 use lib.ListN.{length}
 use Rattle.ordering.proofs.Perms.{perm-length}
 use Rattle.ordering.proofs.Heap.{Sinking, sink-start, sink-leaf, sink-rests, sink-on}

@@ -1,0 +1,3 @@
+pub mod Range
+pub mod Inner
+pub mod Tech3342
