@@ -6,3 +6,4 @@ pub mod Checking
 pub mod Loudest
 pub mod Cutting
 pub mod Outcomes
+pub mod Alone
