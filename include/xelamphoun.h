@@ -44,6 +44,19 @@ enum xel_refusal {
 #define XEL_BINS 1000
 #define XEL_BOUNDARIES 1001
 
+/* The most energies that a queue can hold: an hour of blocks, one every 100 ms. */
+#define XEL_LONGEST_QUEUE 36000
+
+/* The most histories of a set, the numbers of one, and its kinds. */
+#define XEL_MOST_HISTORIES 16
+#define XEL_ENTRY_NUMBERS 5
+#define XEL_HISTOGRAM 0
+#define XEL_QUEUE 1
+
+/* What a range answers that finds no energies: these are no refusals. */
+#define XEL_NOTHING 128
+#define XEL_NOT_A_NUMBER 129
+
 /*
  * Boundary i of the histogram, in energy. It stands at -70 + i/10 LUFS; bin i runs from boundary i
  * up to, and not including, boundary i + 1.
@@ -78,6 +91,135 @@ size_t xel_find_histogram_index(double energy);
  *   answers  0, or XEL_SCALE where the energy is NaN, below boundary 0, or at or above boundary 1000
  */
 uint8_t xel_reading(double energy, int32_t *tenths);
+
+/*
+ * Histories of block energies. The caller owns the memory: a histogram is 1000 counters, a queue a
+ * store of energies with three numbers beside it. A slice is a pointer and its length, in elements;
+ * the pointer must not be null and must point to so many elements, aligned as C aligns them. Slices
+ * and numbers that a call may write must not overlap anything else that it is lent.
+ */
+
+/*
+ * Counts a block of this energy in its bin of a histogram. An energy below boundary 0 is dropped.
+ *
+ *   counters, counters_len  the histogram: 1000 counters. A new one is all 0
+ *   energy                  any value. NaN is counted in bin 0, infinity in bin 999
+ *   answers  0, for a dropped energy too; XEL_STORE where these are not 1000 counters; XEL_FULL where
+ *            the bin's counter is at 4294967295
+ */
+uint8_t xel_histogram_add(uint32_t *counters, size_t counters_len, double energy);
+
+/*
+ * Adds the counters of one histogram to those of another, bin by bin: all of them, or none.
+ *
+ *   into, into_len  the histogram that is added to: 1000 counters
+ *   from, from_len  the histogram that is added, 1000 counters; it is only read
+ *   answers  0; XEL_STORE where either is not 1000 counters; XEL_FULL where any sum would pass
+ *            4294967295
+ */
+uint8_t xel_histogram_merge(uint32_t *into, size_t into_len, const uint32_t *from, size_t from_len);
+
+/*
+ * Sets every counter of a histogram to 0.
+ *
+ *   counters, counters_len  the histogram: 1000 counters
+ *   answers  0, or XEL_STORE where these are not 1000 counters
+ */
+uint8_t xel_histogram_reset(uint32_t *counters, size_t counters_len);
+
+/*
+ * Puts an energy into a queue as its newest; a full queue drops its oldest. An energy below
+ * boundary 0 is dropped, and all is as it was.
+ *
+ * The oldest energy stands at place head of the store, the next at head + 1, and so on round the
+ * store: the new one goes to (head + held) mod maximum. No other place is touched.
+ *
+ *   maximum  the most energies that the queue holds, 1 to 36000
+ *   head     the place of the oldest, below maximum; moves on by one, mod maximum, where the queue
+ *            was full. 0 in a new queue
+ *   held     how many are held, at most maximum; grows by one where the queue was not full. 0 in a
+ *            new queue, and to empty one
+ *   store, store_len  exactly maximum places. What they hold in a new queue does not matter
+ *   energy   any value; NaN and infinity enter
+ *   answers  0, for a dropped energy too, or XEL_STORE where maximum, head, held or store_len breaks
+ *            one of these rules
+ */
+uint8_t xel_queue_add(size_t maximum, size_t *head, size_t *held, double *store, size_t store_len,
+                      double energy);
+
+/*
+ * Questions over a set of histories. All histograms of a set lie in one slice of counters, all queues
+ * in one slice of energies; they may overlap or repeat, since a question only reads. The set itself is
+ * five numbers an entry, 0 to 16 entries:
+ *
+ *   kind     XEL_HISTOGRAM or XEL_QUEUE
+ *   start    the place of its first counter in the counters, or of its store in the energies
+ *   maximum, head, held  of a queue, as xel_queue_add has them; not looked at for a histogram
+ *
+ * Every question refuses first, in this order, and writes nothing where it refuses:
+ *
+ *   XEL_SET    entries_len is not a multiple of five, or above 80; a kind is another; a histogram's
+ *              1000 counters or a queue's maximum energies reach outside their slice
+ *   XEL_STORE  a queue's maximum, head or held breaks its rule, or an energy that it holds is below
+ *              boundary 0
+ *
+ * A slice of length 0 may be lent where the set has no history of its kind; its pointer must not be
+ * null.
+ */
+
+/*
+ * The blocks at or above the relative gate, 10 LU below the mean of all blocks of the set, and the sum
+ * of their energies. A block of a histogram has the energy of its bin.
+ *
+ *   blocks   receives the number of blocks
+ *   sum      receives the sum of their energies
+ *   answers  0; XEL_SET or XEL_STORE; XEL_NONE where there is no block, or none at or above the gate;
+ *            XEL_NAN where the sum of all energies is not a number
+ */
+uint8_t xel_gate(const size_t *entries, size_t entries_len, const uint32_t *counters,
+                 size_t counters_len, const double *energies, size_t energies_len,
+                 uint64_t *blocks, double *sum);
+
+/*
+ * The mean energy of the blocks at or above the relative gate: integrated loudness, as an energy.
+ *
+ *   energy   receives the mean
+ *   answers  as xel_gate
+ */
+uint8_t xel_gated_energy(const size_t *entries, size_t entries_len, const uint32_t *counters,
+                         size_t counters_len, const double *energies, size_t energies_len,
+                         double *energy);
+
+/*
+ * The relative threshold of a single history: the energy 10 LU below the mean of its blocks.
+ *
+ *   entry    one entry: five numbers, and XEL_SET where there are others
+ *   value    receives the threshold's energy, which is never below 0; -70.0, a loudness in LUFS, where
+ *            the history has no block
+ *   answers  0; XEL_SET or XEL_STORE; XEL_NAN where the sum of the energies is not a number
+ */
+uint8_t xel_relative_threshold(const size_t *entry, size_t entry_len, const uint32_t *counters,
+                               size_t counters_len, const double *energies, size_t energies_len,
+                               double *value);
+
+/*
+ * The two energies whose loudnesses the loudness range lies between: those of the 10th and the 95th
+ * percentile of the blocks at or above a gate 20 LU below the mean of all blocks of the set. The set
+ * is of histograms or of queues.
+ *
+ *   work, work_len  over queues, at least as many places as they hold energies; must overlap nothing
+ *            else that is lent. Where the answer is 0 or XEL_NOTHING its first places then hold these
+ *            energies in rising order, and the others are as they were. Over histograms it is not
+ *            touched, and may have length 0
+ *   low, high  receive the two energies where the answer is 0
+ *   answers  0; XEL_NOTHING where there is no block, or none at or above the gate; XEL_NOT_A_NUMBER
+ *            where a queue holds NaN, and the work slice is then as it was; XEL_SET or XEL_STORE;
+ *            XEL_MODE where the set has histories of both kinds; XEL_ROOM where the work slice is too
+ *            short
+ */
+uint8_t xel_loudness_range(const size_t *entries, size_t entries_len, const uint32_t *counters,
+                           size_t counters_len, const double *energies, size_t energies_len,
+                           double *work, size_t work_len, double *low, double *high);
 
 #ifdef __cplusplus
 }

@@ -4,6 +4,8 @@
 
 use ebur128::history::{History, HistoryError};
 
+use crate::refusals::SCALE;
+
 #[path = "../../target/oracle/ebur128/histogram_bins.rs"]
 #[allow(clippy::excessive_precision)]
 mod histogram_bins;
@@ -12,9 +14,6 @@ use histogram_bins::BOUNDARIES as HISTOGRAM_BOUNDARIES;
 pub use histogram_bins::{BOUNDARIES, ENERGIES};
 
 include!("../../target/oracle/find_histogram_index.rs");
-
-/// Refusal 11 of document 01.
-pub const SCALE: u8 = 11;
 
 /// The bin of an energy: the Rust's own search, as one call.
 #[inline(never)]

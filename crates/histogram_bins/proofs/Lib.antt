@@ -1,6 +1,9 @@
+pub mod Arms
 pub mod Pairs
 pub mod Rules
 pub mod Bins
+pub mod Ends
+pub mod Rows
 pub mod Halving
 pub mod Readings
 pub mod Taken

@@ -1,4 +1,5 @@
 pub mod Tables
+pub mod Rows
 pub mod Rules
 pub mod Bin
 pub mod Reading

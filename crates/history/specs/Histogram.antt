@@ -8,7 +8,7 @@ use lib.Ieee.{Float}
 use Rattle.refusals.specs.Refusal.{STORE, FULL}
 use Rattle.refusals.specs.Outcome.{Outcome, went, refused, NoValues, done}
 use Rattle.histogram_bins.specs.Bin.{bins, binOf}
-use Rattle.history.specs.Energy.{dropped}
+use Rattle.history.specs.Energy.{received}
 
 -- the largest count of a bin
 abbrev pub largestCount : ℕ
@@ -22,7 +22,7 @@ isHistogram counters = eqb (length counters) bins
 unfoldable pub empty : List ℕ
 empty = replicate bins 0
 
--- one block more in the bin of the energy. NaN's bin is 0
+-- one block more in the bin of the energy
 abbrev pub oneMore : List ℕ → Float → List ℕ
 oneMore counters energy = set counters (binOf energy) (getD counters (binOf energy) 0 + 1)
 
@@ -33,7 +33,7 @@ takesOne counters energy = leb (getD counters (binOf energy) 0 + 1) largestCount
 unfoldable pub addTo : List ℕ → Float → Outcome (List ℕ) NoValues
 addTo counters energy =
     cond (isHistogram counters)
-    (cond (dropped energy) (went counters done) (cond (takesOne counters energy) (went (oneMore counters energy) done) (refused FULL)))
+    (received counters energy (cond (takesOne counters energy) (went (oneMore counters energy) done) (refused FULL)))
     (refused STORE)
 
 -- counters added bin by bin

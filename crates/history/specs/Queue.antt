@@ -9,7 +9,7 @@ use lib.Ieee.{Float, nan}
 use Rattle.refusals.specs.Refusal.{STORE}
 use Rattle.refusals.specs.Outcome.{Outcome, went, refused, NoValues, done, keptBy}
 use Rattle.history.specs.declared.queue.Queue.{Queue}
-use Rattle.history.specs.Energy.{dropped}
+use Rattle.history.specs.Energy.{dropped, received}
 
 -- the longest queue
 abbrev pub longest : ℕ
@@ -46,7 +46,7 @@ advanced queue =
 unfoldable pub enqueued : Stored → Float → Outcome Stored NoValues
 enqueued s energy =
     cond (suits (s .queue) (length (s .store)))
-    (cond (dropped energy) (went s done) (went (over (advanced (s .queue)) (set (s .store) (nextPlace (s .queue)) energy)) done))
+    (received s energy (went (over (advanced (s .queue)) (set (s .store) (nextPlace (s .queue)) energy)) done))
     (refused STORE)
 
 -- the energies at `count` places from a place on, round the ring of the store

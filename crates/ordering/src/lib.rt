@@ -190,6 +190,7 @@ fn middle(part: &[f64], i: usize, j: usize, k: usize) -> usize
 }
 
 // A place whose energy is likely to split the part evenly: the middle of three, or of three such middles.
+// The nine places lie at uneven distances, so that no period in the energies makes them all alike.
 fn pivot_place(part: &[f64]) -> usize
     requires { ⌜ 0 < length (now part) ⌝ }
     ensures { λ r. ⌜ r < length (now (part .entry)) ⌝ }
@@ -199,10 +200,19 @@ fn pivot_place(part: &[f64]) -> usize
         return middle(part, n / 4, n / 2, n - 1 - n / 4);
     }
     let step = n / 9;
-    let at = n / 18;
-    let low = middle(part, at, at + step, at + 2 * step);
-    let mid = middle(part, at + 3 * step, at + 4 * step, at + 5 * step);
-    let high = middle(part, at + 6 * step, at + 7 * step, at + 8 * step);
+    let low = middle(part, step / 2, step + step / 3, 2 * step + step / 5);
+    let mid = middle(
+        part,
+        3 * step + step / 7,
+        4 * step + step / 11,
+        5 * step + step / 13,
+    );
+    let high = middle(
+        part,
+        6 * step + step / 17,
+        7 * step + step / 19,
+        8 * step + step / 23,
+    );
     middle(part, low, mid, high)
 }
 

@@ -1,5 +1,7 @@
 // Replays the oracle's answers, kept as a list on standard input, and prints for each operation how many are the same.
 // The list is sections until its end. A section: u32 operation, u32 number of cases, u32 bytes a case, then the cases. All numbers low byte first.
+mod histories;
+
 use histogram_bins::Level;
 use libc::STDIN_FILENO;
 use libc::STDOUT_FILENO;
@@ -10,6 +12,12 @@ const TABLES: u64 = 1;
 const BINS: u64 = 2;
 
 const READINGS: u64 = 3;
+
+const HISTOGRAM_ADDS: u64 = 4;
+
+const MERGES: u64 = 5;
+
+const QUEUE_ADDS: u64 = 6;
 
 fn main() {
     let mut sections: u64 = 64;
@@ -81,6 +89,15 @@ fn case_same(operation: u64, case: &[u8]) -> bool {
     if operation == READINGS {
         return reading_same(case);
     }
+    if operation == HISTOGRAM_ADDS {
+        return histories::adds_same(case);
+    }
+    if operation == MERGES {
+        return histories::merge_same(case);
+    }
+    if operation == QUEUE_ADDS {
+        return histories::queue_same(case);
+    }
     false
 }
 
@@ -127,6 +144,12 @@ fn print_name(operation: u64) {
         io::write_all(STDOUT_FILENO, b"bins ");
     } else if operation == READINGS {
         io::write_all(STDOUT_FILENO, b"readings ");
+    } else if operation == HISTOGRAM_ADDS {
+        io::write_all(STDOUT_FILENO, b"histogram adds ");
+    } else if operation == MERGES {
+        io::write_all(STDOUT_FILENO, b"merges ");
+    } else if operation == QUEUE_ADDS {
+        io::write_all(STDOUT_FILENO, b"queue adds ");
     } else {
         io::write_all(STDOUT_FILENO, b"unknown ");
     }

@@ -6,3 +6,5 @@ pub mod Refusals
 pub mod Independence
 pub mod Cuts
 pub mod Worked
+pub mod Loud
+pub mod Quarters

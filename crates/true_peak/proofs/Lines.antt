@@ -5,7 +5,6 @@ use mathlib.Core.Logic.{_⊎_, inl, inr}
 use mathlib.Core.List.{List, [], _∷_, _++_}
 use Prim.Native.Nat.{ℕ, zero, suc, _+_, _*_, _-_, _≤_, _<_}
 use native.Mathlib.Nat.{not-suc-le-zero, le-of-suc-le-suc, suc-mul, add-zero, eq-or-lt-of-le}
-use native.Mathlib.Numerals.{add-one}
 use native.Mathlib.Omega.{arith}
 use lib.ListN.{length, getD, take, drop, set, length-take, length-drop, length-set}
 use lib.Seq.{sets, ext-getD, getD-take, getD-drop, getD-set-other, getD-set-same}
@@ -123,23 +122,6 @@ twofold-window l at x y e f =
     ap (λ (w : Twelve). phases twofold (listed w ++ listed y)) e
     ∙ ap (λ (w : Twelve). phases twofold (listed (windowAt l (at + 12)) ++ listed w)) f
     ∙ ap (phases twofold) (sym (window l at))
-
--- ---- one frame more
-pub scanned-turn : (i : Interp) (l : List Float) (at n : ℕ) (peak loud : Float) → at < n → loud ≡ loudest peak (phases i (back l at 24))
-    → scanned i l (at + 1) (n - (at + 1)) loud ≡ scanned i l at (n - at) peak
-unfolding scanned
-scanned-turn i l at n peak loud h e =
-    let f : n - at ≡ suc (n - (at + 1)) = omega arith in
-    ap (λ (p : ℕ). scanned i l p (n - (at + 1)) loud) (add-one at)
-    ∙ ap (λ (v : Float). scanned i l (suc at) (n - (at + 1)) v) e
-    ∙ ap (λ (k : ℕ). scanned i l at k peak) (sym f)
-
-pub scanned-start : (i : Interp) (l : List Float) (n : ℕ) (peak : Float) → scanned i l 0 (n - 0) peak ≡ scanned i l 0 n peak
-scanned-start i l n peak = let e : n - 0 ≡ n = omega arith in ap (λ (k : ℕ). scanned i l 0 k peak) e
-
-pub scanned-end : (i : Interp) (l : List Float) (at n : ℕ) (peak : Float) → n ≤ at → peak ≡ scanned i l at (n - at) peak
-unfolding scanned
-scanned-end i l at n peak h = let e : 0 ≡ n - at = omega arith in ap (λ (k : ℕ). scanned i l at k peak) e
 
 -- ---- the last samples of a line become its first
 pub record Moved (old l : List Float) (n k : ℕ) : Type 0 where

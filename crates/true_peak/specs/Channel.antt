@@ -1,8 +1,9 @@
 -- The true peak of one channel (01, step 6): "largest absolute phase so far, kept as f32; NaN never wins."
+use mathlib.Core.Path.{_≡_}
 use mathlib.Core.List.{List, [], _∷_}
 use mathlib.Core.Bool.{false, cond}
-use Prim.Native.Nat.{ℕ, zero, suc, _+_, _-_}
-use lib.ListN.{getD, take}
+use Prim.Native.Nat.{ℕ, zero, suc, _+_, _-_, _<_}
+use lib.ListN.{length, getD, take}
 use lib.Ieee.{Float, nan, inf, fin, lt}
 use Rattle.interp.specs.declared.Interp.{Interp}
 use Rattle.interp.specs.declared.Twelve.{Twelve}
@@ -45,7 +46,7 @@ heard i ch (x ∷ xs) = heard i (hear i ch x) xs
 -- ---- a line of samples, oldest first, in which each frame's window is a run
 -- how many frames are taken at a time, and the room for them after the history
 abbrev pub block : ℕ
-block = 256
+block = 128
 
 abbrev pub room : ℕ
 room = past + block
@@ -59,6 +60,16 @@ back l at (suc n) = getD l (at + n) nan ∷ back l at n
 unfoldable pub scanned : Interp → List Float → ℕ → ℕ → Float → Float
 scanned i l at zero peak = peak
 scanned i l at (suc n) peak = scanned i l (suc at) n (loudest peak (phases i (back l at (twofold .taps))))
+
+-- the largest of n values from place `at` on, and of a peak
+unfoldable pub loudestOf : List Float → ℕ → ℕ → Float → Float
+loudestOf l at zero peak = peak
+loudestOf l at (suc n) peak = loudestOf l (suc at) n (louder peak (getD l at nan))
+
+-- every place of a block holds what its frame's phases make of a peak
+pub record Louds (i : Interp) (line : List Float) (peak : Float) (louds : List Float) : Type 0 where
+  pub size : length louds ≡ block
+  pub raised : (at : ℕ) → at < block → getD louds at nan ≡ loudest peak (phases i (back line at (twofold .taps)))
 
 -- twelve of them at once
 abbrev pub windowAt : List Float → ℕ → Twelve

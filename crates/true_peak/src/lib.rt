@@ -1,20 +1,22 @@
 // True peak: the largest absolute phase of each channel, over interleaved samples.
 ghost use mathlib.Core.Path.{_≡_};
 ghost use mathlib.Core.Logic.{_⊎_};
-ghost use Prim.Native.Nat.{_+_, _*_, _<_, _≤_, _^_};
-ghost use lib.ListN.{length, set};
+ghost use Prim.Native.Nat.{ℕ, _+_, _*_, _<_, _≤_, _^_};
+ghost use lib.ListN.{length, getD};
 ghost use lib.Seq.{sets};
+ghost use lib.Ieee.{nan};
 ghost use Rattle.refusals.specs.Answer.{said};
 ghost use Rattle.refusals.specs.Outcome.{saidBy, keptBy};
 ghost use Rattle.interp.specs.Interp.{fourfold, twofold, upsampled, kindOf, Known};
 ghost use Rattle.interp.specs.Phase.{four, two, phases};
-ghost use Rattle.true_peak.specs.Channel.{Channel, heard, magnitude, louder, loudest, back, windowAt, past, block, room, scanned};
+ghost use Rattle.true_peak.specs.Channel.{Channel, heard, magnitude, louder, loudest, back, windowAt, past, block, room, scanned, loudestOf, Louds};
 ghost use Rattle.true_peak.specs.TruePeak.{Block, mostChannels, silent, historyAt, channelOf, withChannel, column, measured, refusalOf, processed, seeded};
 use interp::Four;
 use interp::Interp;
 use interp::Scan;
 use interp::Twelve;
 use interp::Two;
+use interp::Window;
 use refusals::Answer;
 
 // The memory and the peaks of eight channels.
@@ -46,10 +48,12 @@ impl TruePeak {
 }
 
 // How many frames of a channel are taken at a time.
-const BLOCK: usize = 256;
+const BLOCK: usize = 128;
+
+const QUARTER: usize = 32;
 
 // A channel's history and a block of its samples, oldest first.
-const LINE: usize = 279;
+const LINE: usize = 151;
 
 fn magnitude(x: f32) -> f32
     ensures { λ r. ⌜ r ≡ magnitude x ⌝ }
@@ -84,7 +88,7 @@ fn loudest_two(peak: f32, p: Two) -> f32
 
 // Twelve samples of a line back from place at + 11, newest first.
 fn twelve(line: &[f32; LINE], at: usize) -> Twelve
-    requires { ⌜ at < 268 ⌝ }
+    requires { ⌜ at < 140 ⌝ }
     ensures { λ r. ⌜ r ≡ windowAt (now (line .entry)) at ⌝ }
 {
     Twelve {
@@ -103,23 +107,104 @@ fn twelve(line: &[f32; LINE], at: usize) -> Twelve
     }
 }
 
-// The peak after the frame whose window begins at `at`, by factor 4.
-fn frame_fourfold(line: &[f32; LINE], at: usize, peak: f32) -> f32
-    requires { ⌜ at < block ⌝ }
-    ensures { λ r. ⌜ r ≡ loudest peak (phases fourfold (back (now (line .entry)) at 24)) ⌝ }
+// Every frame of a line raises the peak by itself, by factor 4: a frame of each quarter at a time, none of which waits for another.
+fn frames_fourfold(line: &[f32; LINE], peak: f32, loud: &mut [f32; BLOCK])
+    requires { ⌜ length (now loud) ≡ block ⌝ }
+    ensures { λ _. ⌜ Louds fourfold (now (line .entry)) peak (now (loud .exit)) ⌝ }
 {
-    let x = twelve(line, at + 12);
-    loudest_four(peak, interp::fourfold_phases(x))
+    let mut at = 0;
+    while at < QUARTER {
+        let second = at + QUARTER;
+        let third = second + QUARTER;
+        let fourth = third + QUARTER;
+        let e = interp::fourfold_each(
+            twelve(line, at + 12),
+            twelve(line, second + 12),
+            twelve(line, third + 12),
+            twelve(line, fourth + 12),
+        );
+        let a = e.a;
+        loud[at] = loudest_four(peak, a);
+        let b = e.b;
+        loud[second] = loudest_four(peak, b);
+        let c = e.c;
+        loud[third] = loudest_four(peak, c);
+        let d = e.d;
+        loud[fourth] = loudest_four(peak, d);
+        at += 1;
+    }
 }
 
-// The same, by factor 2.
-fn frame_twofold(line: &[f32; LINE], at: usize, peak: f32) -> f32
+// Twenty-four samples of a line back from place at + 23.
+fn window(line: &[f32; LINE], at: usize) -> Window
     requires { ⌜ at < block ⌝ }
-    ensures { λ r. ⌜ r ≡ loudest peak (phases twofold (back (now (line .entry)) at 24)) ⌝ }
+    ensures { λ r. ⌜ r ≡ record { newer = windowAt (now (line .entry)) (at + 12); older = windowAt (now (line .entry)) at } ⌝ }
 {
-    let newer = twelve(line, at + 12);
-    let older = twelve(line, at);
-    loudest_two(peak, interp::twofold_phases(newer, older))
+    Window {
+        newer: twelve(line, at + 12),
+        older: twelve(line, at),
+    }
+}
+
+// Every frame of a line raises the peak by itself, by factor 2: a frame of each quarter at a time, none of which waits for another.
+fn frames_twofold(line: &[f32; LINE], peak: f32, loud: &mut [f32; BLOCK])
+    requires { ⌜ length (now loud) ≡ block ⌝ }
+    ensures { λ _. ⌜ Louds twofold (now (line .entry)) peak (now (loud .exit)) ⌝ }
+{
+    let mut at = 0;
+    while at < QUARTER {
+        let second = at + QUARTER;
+        let third = second + QUARTER;
+        let fourth = third + QUARTER;
+        let e = interp::twofold_each(
+            window(line, at),
+            window(line, second),
+            window(line, third),
+            window(line, fourth),
+        );
+        let a = e.a;
+        loud[at] = loudest_two(peak, a);
+        let b = e.b;
+        loud[second] = loudest_two(peak, b);
+        let c = e.c;
+        loud[third] = loudest_two(peak, c);
+        let d = e.d;
+        loud[fourth] = loudest_two(peak, d);
+        at += 1;
+    }
+}
+
+// The places from n on hold no frame's value but the peak.
+fn rest(loud: &mut [f32; BLOCK], n: usize, peak: f32)
+    requires { ⌜ n ≤ block ⌝ }
+    requires { ⌜ length (now loud) ≡ block ⌝ }
+    ensures { λ _. ⌜ ((j : ℕ) → j < n → getD (now (loud .exit)) j nan ≡ getD (now (loud .entry)) j nan) ⌝ }
+    ensures { λ _. ⌜ ((j : ℕ) → n ≤ j → j < block → getD (now (loud .exit)) j nan ≡ peak) ⌝ }
+{
+    let mut k = n;
+    while k < BLOCK {
+        loud[k] = peak;
+        k += 1;
+    }
+}
+
+// The largest of a block's values and the peak, the quarters side by side.
+fn loudest_of(loud: &[f32; BLOCK], peak: f32) -> f32
+    ensures { λ r. ⌜ r ≡ loudestOf (now (loud .entry)) 0 block peak ⌝ }
+{
+    let mut a = peak;
+    let mut b = peak;
+    let mut c = peak;
+    let mut d = peak;
+    let mut k = 0;
+    while k < QUARTER {
+        a = louder(a, loud[k]);
+        b = louder(b, loud[32 + k]);
+        c = louder(c, loud[64 + k]);
+        d = louder(d, loud[96 + k]);
+        k += 1;
+    }
+    louder(louder(louder(a, b), c), d)
 }
 
 // The peak after n frames of a line, the first window beginning at its first place, by factor 4.
@@ -127,13 +212,10 @@ fn scan_fourfold(line: &[f32; LINE], n: usize, peak: f32) -> f32
     requires { ⌜ n ≤ block ⌝ }
     ensures { λ r. ⌜ r ≡ scanned fourfold (now (line .entry)) 0 n peak ⌝ }
 {
-    let mut loud = peak;
-    let mut at = 0;
-    while at < n {
-        loud = frame_fourfold(line, at, loud);
-        at += 1;
-    }
-    loud
+    let mut loud = [peak; BLOCK];
+    frames_fourfold(line, peak, &mut loud);
+    rest(&mut loud, n, peak);
+    loudest_of(&loud, peak)
 }
 
 // The same, by factor 2.
@@ -141,13 +223,10 @@ fn scan_twofold(line: &[f32; LINE], n: usize, peak: f32) -> f32
     requires { ⌜ n ≤ block ⌝ }
     ensures { λ r. ⌜ r ≡ scanned twofold (now (line .entry)) 0 n peak ⌝ }
 {
-    let mut loud = peak;
-    let mut at = 0;
-    while at < n {
-        loud = frame_twofold(line, at, loud);
-        at += 1;
-    }
-    loud
+    let mut loud = [peak; BLOCK];
+    frames_twofold(line, peak, &mut loud);
+    rest(&mut loud, n, peak);
+    loudest_of(&loud, peak)
 }
 
 // By the interpolator that the rate has.

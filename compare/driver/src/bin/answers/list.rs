@@ -1,7 +1,9 @@
 //! The fixed list that the proved program `replay` runs with no Rust at hand. Little-endian, sections
 //! to the end: u32 operation, u32 number of cases, u32 bytes a case, then the cases. Beside it, the
 //! lines that the program prints when every answer is the same. A new operation is a new function
-//! here and a line in `sections`.
+//! here or in `histories`, and a line in `sections`.
+
+mod histories;
 
 use driver::energies::{self, above, below};
 use driver::oracle::{self, BOUNDARIES, ENERGIES};
@@ -18,24 +20,24 @@ struct Section {
     cases: Vec<Vec<u8>>,
 }
 
-fn sections() -> [Section; 3] {
-    [
-        Section {
-            operation: 1,
-            name: "tables",
-            cases: tables(),
-        },
-        Section {
-            operation: 2,
-            name: "bins",
-            cases: bins(),
-        },
-        Section {
-            operation: 3,
-            name: "readings",
-            cases: readings(),
-        },
-    ]
+/// Operations are numbered from 1 in this order.
+fn sections() -> Vec<Section> {
+    let named = [
+        ("tables", tables()),
+        ("bins", bins()),
+        ("readings", readings()),
+        ("histogram adds", histories::histogram_adds()),
+        ("merges", histories::merges()),
+        ("queue adds", histories::queue_adds()),
+    ];
+    let numbered = (1..).zip(named);
+    numbered
+        .map(|(operation, (name, cases))| Section {
+            operation,
+            name,
+            cases,
+        })
+        .collect()
 }
 
 pub fn bytes() -> Vec<u8> {

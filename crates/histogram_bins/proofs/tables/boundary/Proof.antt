@@ -1,12 +1,18 @@
--- `histogram_bins::tables::boundary` meets its contract: the constant's entries are the table's, and past its end both sides are NaN.
+-- `histogram_bins::tables::boundary` meets its contract: entry i % 8 of row i / 8 is boundary i, and past the table's end both sides are NaN.
 -- Assumes nothing.
-use mathlib.Core.Path.{sym}
+use mathlib.Core.Path.{sym, ap, _∙_}
+use Prim.Native.Nat.{_/_, _%_}
+use native.Mathlib.Omega.{arith}
 use borrow.Author.Needs.{needs}
 use lib.Ieee.{div, ofBits}
 use Rattle.histogram_bins.specs.Tables.{boundaryAt}
 use Rattle.histogram_bins.proofs.Rules.{boundary-past}
+use Rattle.histogram_bins.proofs.Rows.{row-entry}
 use Rattle.histogram_bins.proofs.tables.boundary.Statement.{statement}
 use Rattle.histogram_bins.proofs.tables.boundary.Tie as tie
+
+row-requires : tie.Need-row-requires
+row-requires c κs = search needs
 
 mul-result : tie.Need-mul-result
 mul-result c = search needs
@@ -15,12 +21,19 @@ array-read-result : tie.Need-array-read-result
 array-read-result c = search needs
 
 returns : tie.Need-returns
-unfolding boundaryAt
-returns c = search needs
+returns c =
+    let i = c .before .before .args .i in
+    row-entry (c .row .result) (i / 8) (i % 8) i (c .row .ensures) (search needs) (omega arith) (omega arith)
+
+highest-boundary-requires : tie.Need-highest-boundary-requires
+highest-boundary-requires c κs = search needs
 
 returns-2 : tie.Need-returns-2
+returns-2 c = c .highest-boundary .ensures ∙ ap boundaryAt (sym (c .before .if2 .taken))
+
+returns-3 : tie.Need-returns-3
 unfolding div ofBits
-returns-2 c = sym (boundary-past (c .before .args .i) (search needs))
+returns-3 c = sym (boundary-past (c .before .before .args .i) (omega (arith, c .before .if1 .left, c .if2 .left)))
 
 pub boundary-spec : {M : Type 1} → statement M
-boundary-spec = tie.close (tie.spec mul-result array-read-result returns returns-2)
+boundary-spec = tie.close (tie.spec row-requires mul-result array-read-result returns highest-boundary-requires returns-2 returns-3)

@@ -1,0 +1,182 @@
+//! The range, of sets that the Rust's `History` is asked about too. The Rust answers the difference of
+//! two loudnesses; our two energies are document 01's bit for bit, and their difference, after the
+//! logarithm, is the Rust's.
+
+use driver::energies;
+use driver::refusals::{MODE, ROOM, SET, STORE};
+use driver::rng::Rng;
+use driver::sets::Set;
+use driver::words;
+use ebur128::energy_to_loudness;
+use ebur128::history::History;
+
+use super::{same_float, sets, Difference, Operation, UNTOUCHED};
+use crate::ours::{self, NOTHING, NOT_A_NUMBER};
+
+const SMALL_QUEUES: usize = 1_500_000;
+const SPARSE: usize = 150_000;
+const MIXED: usize = 20_000;
+const SO_MANY: usize = 6_000;
+const EDGES: usize = 50_000;
+const EXACT: usize = 200_000;
+const REFUSED: usize = 300_000;
+
+pub fn run(seed: u64) -> Result<(), Difference> {
+    let mut asked = Asked::new();
+    let rng = &mut Rng::new(seed);
+    for _ in 0..SMALL_QUEUES {
+        asked.range(&sets::small_queues(rng), rng)?;
+    }
+    for _ in 0..SPARSE {
+        asked.range(&sets::sparse_histograms(rng), rng)?;
+    }
+    for i in 0..MIXED {
+        asked.range(&sets::mixed(i % 17, rng), rng)?;
+    }
+    for i in 0..SO_MANY {
+        asked.range(&sets::so_many_in_a_queue(i % 300, rng), rng)?;
+        asked.range(&sets::so_many_in_a_histogram(i % 300, rng), rng)?;
+    }
+    for _ in 0..EDGES {
+        asked.range(&sets::ranks_on_an_edge(rng), rng)?;
+    }
+    for _ in 0..EXACT {
+        let (set, exact) = sets::range_gate_on_an_energy(rng);
+        asked.range(&set, rng)?;
+        asked.exact += usize::from(exact);
+    }
+    for _ in 0..REFUSED {
+        asked.range(&sets::perhaps_refused(rng), rng)?;
+    }
+    for set in sets::large(rng) {
+        asked.range(&set, rng)?;
+    }
+    asked.same()
+}
+
+struct Asked {
+    op: Operation,
+    nothing: usize,
+    not_a_number: usize,
+    /// Sets whose gate falls on an energy.
+    exact: usize,
+}
+
+/// The number, the two energies, and what the work slice holds afterwards.
+struct Answer {
+    number: u8,
+    low: f64,
+    high: f64,
+    work: Vec<f64>,
+}
+
+impl Asked {
+    fn new() -> Self {
+        Asked {
+            op: Operation::new("loudness_range"),
+            nothing: 0,
+            not_a_number: 0,
+            exact: 0,
+        }
+    }
+
+    fn same(self) -> Result<(), Difference> {
+        let (nothing, nan, exact) = (self.nothing, self.not_a_number, self.exact);
+        let remark = format!(
+            "as the Rust's range; {exact} gates on an energy, nothing {nothing}, not a number {nan}"
+        );
+        self.op.same(&remark, &[SET, STORE, MODE, ROOM])
+    }
+
+    fn range(&mut self, set: &Set, rng: &mut Rng) -> Result<(), Difference> {
+        let refusal = set.refusal();
+        let held = if refusal == 0 { set.held() } else { Vec::new() };
+        // The work slice: as long as it has to be, longer, or now and then too short.
+        let length = match rng.below(8) {
+            0 => rng.below(held.len() as u64 + 1) as usize,
+            1..=4 => held.len(),
+            _ => held.len() + rng.below(4) as usize,
+        };
+        let mut ours = Answer {
+            number: 0,
+            low: UNTOUCHED,
+            high: UNTOUCHED,
+            work: (0..length).map(|_| energies::in_table(rng)).collect(),
+        };
+        let expected = expected(set, refusal, held, ours.work.clone());
+        ours.number = ours::loudness_range(set, &mut ours.work, &mut ours.low, &mut ours.high);
+        let input = || format!("{set:?} with {length} places to work in");
+        self.op.answer(input, ours.number, expected.number)?;
+        self.op
+            .also(input, "low", same_float(ours.low, expected.low))?;
+        self.op
+            .also(input, "high", same_float(ours.high, expected.high))?;
+        let mut places = ours.work.iter().zip(&expected.work);
+        let same = places.all(|(a, b)| a.to_bits() == b.to_bits());
+        self.op.also(input, "the work slice", same)?;
+        self.nothing += usize::from(ours.number == NOTHING);
+        self.not_a_number += usize::from(ours.number == NOT_A_NUMBER);
+        let rust = match refusal {
+            0 => rust_agrees(set, &ours),
+            _ => true,
+        };
+        self.op.also(input, "the Rust's range", rust)
+    }
+}
+
+/// Whether the Rust answers the same, for a set that is a set. It knows no lack of room, and nothing
+/// is a range of 0 to it.
+fn rust_agrees(set: &Set, ours: &Answer) -> bool {
+    let rust = set.rust();
+    let rust: Vec<&History> = rust.iter().collect();
+    match History::loudness_range_multiple(&rust) {
+        Err(_) => ours.number == MODE,
+        Ok(range) => match ours.number {
+            0 => {
+                let ours = energy_to_loudness(ours.high) - energy_to_loudness(ours.low);
+                same_float(ours, range)
+            }
+            NOTHING => range == 0.0,
+            NOT_A_NUMBER => range.is_nan(),
+            number => number == ROOM,
+        },
+    }
+}
+
+/// Document 01's answer.
+fn expected(set: &Set, refusal: u8, held: Vec<f64>, given: Vec<f64>) -> Answer {
+    let answer = |number, work| Answer {
+        number,
+        low: UNTOUCHED,
+        high: UNTOUCHED,
+        work,
+    };
+    if refusal != 0 {
+        return answer(refusal, given);
+    }
+    if set.is_mixed() {
+        return answer(MODE, given);
+    }
+    if given.len() < held.len() {
+        return answer(ROOM, given);
+    }
+    if held.iter().any(|energy| energy.is_nan()) {
+        return answer(NOT_A_NUMBER, given);
+    }
+    let (mut rising, mut work) = (held, given);
+    rising.sort_by(f64::total_cmp);
+    work[..rising.len()].copy_from_slice(&rising);
+    let span = match rising.is_empty() {
+        true => words::range::of_counters(&set.counted()),
+        false => words::range::of_energies(&rising),
+    };
+    match span {
+        None => answer(NOTHING, work),
+        Some((low, high)) => Answer {
+            number: 0,
+            low,
+            high,
+            work,
+        },
+    }
+}

@@ -1,0 +1,94 @@
+//! Document 01's words on histories, where the Rust has no say: the refusals, counters of 32 bits,
+//! merging, and the places of a queue's store.
+
+pub mod range;
+
+use crate::oracle::{self, BOUNDARIES};
+use crate::refusals::{FULL, STORE};
+
+const LONGEST: usize = 36_000;
+
+/// Step 7: "An energy below boundary 0 is dropped, with answer done."
+pub fn dropped(energy: f64) -> bool {
+    energy < BOUNDARIES[0]
+}
+
+/// Step 7: the energy is counted in its bin.
+pub fn histogram_add(counters: &mut [u32], energy: f64) -> u8 {
+    if counters.len() != 1000 {
+        return STORE;
+    }
+    if dropped(energy) {
+        return 0;
+    }
+    let counter = &mut counters[oracle::bin(energy)];
+    match counter.checked_add(1) {
+        Some(count) => *counter = count,
+        None => return FULL,
+    }
+    0
+}
+
+/// "Merge adds counters into one lent store, or FULL and nothing is added."
+pub fn histogram_merge(into: &mut [u32], from: &[u32]) -> u8 {
+    if into.len() != 1000 || from.len() != 1000 {
+        return STORE;
+    }
+    let pairs = into.iter().zip(from);
+    let sums: Option<Vec<u32>> = pairs.map(|(a, b)| a.checked_add(*b)).collect();
+    match sums {
+        Some(sums) => into.copy_from_slice(&sums),
+        None => return FULL,
+    }
+    0
+}
+
+pub fn histogram_reset(counters: &mut [u32]) -> u8 {
+    if counters.len() != 1000 {
+        return STORE;
+    }
+    counters.fill(0);
+    0
+}
+
+/// A queue over its store.
+#[derive(Clone, Debug)]
+pub struct Queue {
+    pub maximum: usize,
+    pub head: usize,
+    pub held: usize,
+    pub store: Vec<f64>,
+}
+
+impl Queue {
+    pub fn suits(&self) -> bool {
+        (1..=LONGEST).contains(&self.maximum)
+            && self.maximum == self.store.len()
+            && self.head < self.maximum
+            && self.held <= self.maximum
+    }
+
+    /// The held energies, oldest first.
+    pub fn energies(&self) -> Vec<f64> {
+        let place = |i| self.store[(self.head + i) % self.maximum];
+        (0..self.held).map(place).collect()
+    }
+
+    /// "A new energy goes to place (head + held) mod maximum; a full queue drops its oldest, and head
+    /// moves on by one, mod maximum. Other places stay."
+    pub fn add(&mut self, energy: f64) -> u8 {
+        if !self.suits() {
+            return STORE;
+        }
+        if dropped(energy) {
+            return 0;
+        }
+        self.store[(self.head + self.held) % self.maximum] = energy;
+        if self.held < self.maximum {
+            self.held += 1;
+        } else {
+            self.head = (self.head + 1) % self.maximum;
+        }
+        0
+    }
+}

@@ -1,0 +1,180 @@
+// The cases of histories: adds to a histogram, merges of two, adds to a queue.
+use history::queue::Queue;
+use refusals::Answer;
+
+// 0, or the refusal's number.
+fn number_of(answer: Answer) -> u64 {
+    match answer {
+        Answer::Done => 0,
+        Answer::Refused(number) => number as u64,
+    }
+}
+
+// ---- adds to a histogram
+// 64 times u64 pattern of an energy, u16 its bin, u16 the count there afterwards; then u16 how many bins have a count.
+// An energy that is dropped has a bin past the last, with count 0.
+pub fn adds_same(case: &[u8]) -> bool {
+    let mut counters = [0u32; 1000];
+    all_added(case, &mut counters) && bins_hit(&counters) == fields::number_at(case, 768, 2)
+}
+
+fn all_added(case: &[u8], counters: &mut [u32]) -> bool {
+    let mut at = 0;
+    while at < 768 {
+        let energy = floats::float_of(fields::number_at(case, at, 8));
+        let bin = fields::number_at(case, at + 8, 2) as usize;
+        let count = fields::number_at(case, at + 10, 2);
+        if !added(counters, energy, bin, count) {
+            return false;
+        }
+        at += 12;
+    }
+    true
+}
+
+// Whether the energy is counted, and its bin has this count.
+fn added(counters: &mut [u32], energy: f64, bin: usize, count: u64) -> bool {
+    let answer = history::histogram::add(counters, energy);
+    number_of(answer) == 0 && count_at(counters, bin) == count
+}
+
+fn widened(count: u32) -> u64 {
+    count as u64
+}
+
+// A number that is no count stands for none.
+fn narrowed(number: u64) -> u32 {
+    if 4294967295 < number {
+        return 0;
+    }
+    number as u32
+}
+
+// A bin past the last has no count.
+fn count_at(counters: &[u32], bin: usize) -> u64 {
+    if bin < counters.len() {
+        return widened(counters[bin]);
+    }
+    0
+}
+
+fn bins_hit(counters: &[u32]) -> u64 {
+    let mut hit = 0;
+    let mut bin = 0;
+    while bin < counters.len() {
+        if counters[bin] == 0 {
+            bin += 1;
+            continue;
+        }
+        hit += 1;
+        bin += 1;
+    }
+    hit
+}
+
+// ---- merges
+// u16 refusal (0: merged), u16 how many counters are added; then 16 times u16 bin, u32 its count in one histogram, in the other, and in the first afterwards.
+pub fn merge_same(case: &[u8]) -> bool {
+    let mut into = [0u32; 1000];
+    let mut from = [0u32; 1000];
+    fill(case, false, &mut into);
+    fill(case, true, &mut from);
+    merged(case, &mut into, &from) && all_counted(case, &into)
+}
+
+fn merged(case: &[u8], into: &mut [u32], from: &[u32]) -> bool {
+    let length = fields::number_at(case, 2, 2) as usize;
+    if from.len() < length {
+        return false;
+    }
+    let answer = history::histogram::merge(into, &from[..length]);
+    number_of(answer) == fields::number_at(case, 0, 2)
+}
+
+// Every bin of the case gets its count in the one histogram, or in the other.
+fn fill(case: &[u8], other: bool, counters: &mut [u32]) {
+    let mut at = 0;
+    while at < 224 {
+        let bin = fields::number_at(case, at + 4, 2) as usize;
+        let count = if other {
+            fields::number_at(case, at + 10, 4)
+        } else {
+            fields::number_at(case, at + 6, 4)
+        };
+        put(counters, bin, narrowed(count));
+        at += 14;
+    }
+}
+
+fn put(counters: &mut [u32], bin: usize, count: u32) {
+    if bin < counters.len() {
+        counters[bin] = count;
+    }
+}
+
+fn all_counted(case: &[u8], counters: &[u32]) -> bool {
+    let mut at = 0;
+    while at < 224 {
+        let bin = fields::number_at(case, at + 4, 2) as usize;
+        if count_at(counters, bin) != fields::number_at(case, at + 14, 4) {
+            return false;
+        }
+        at += 14;
+    }
+    true
+}
+
+// ---- adds to a queue
+// u16 maximum, u16 places of the store, at most 8 and all 0, u16 head, u16 held; then 12 times u64 pattern of an energy, u16 refusal, u16 head and u16 held afterwards;
+// then the 8 patterns of the store.
+pub fn queue_same(case: &[u8]) -> bool {
+    let mut store = [0.0; 8];
+    part_queued(case, &mut store) && store_same(case, &store)
+}
+
+fn part_queued(case: &[u8], store: &mut [f64]) -> bool {
+    let places = fields::number_at(case, 2, 2) as usize;
+    if store.len() < places {
+        return false;
+    }
+    all_queued(case, &mut store[..places])
+}
+
+fn all_queued(case: &[u8], store: &mut [f64]) -> bool {
+    let mut queue = Queue {
+        maximum: fields::number_at(case, 0, 2) as usize,
+        head: fields::number_at(case, 4, 2) as usize,
+        held: fields::number_at(case, 6, 2) as usize,
+    };
+    let mut at = 8;
+    while at < 176 {
+        let energy = floats::float_of(fields::number_at(case, at, 8));
+        let queued = queue.add(store, energy);
+        let answer = queued.answer;
+        queue = queued.queue;
+        if number_of(answer) != fields::number_at(case, at + 8, 2) {
+            return false;
+        }
+        if queue.head as u64 != fields::number_at(case, at + 10, 2) {
+            return false;
+        }
+        if queue.held as u64 != fields::number_at(case, at + 12, 2) {
+            return false;
+        }
+        at += 14;
+    }
+    true
+}
+
+fn store_same(case: &[u8], store: &[f64]) -> bool {
+    let mut place = 0;
+    while place < 8 {
+        if place < store.len() {
+            if floats::pattern_of(store[place]) != fields::number_at(case, 176 + 8 * place, 8) {
+                return false;
+            }
+        }
+        place += 1;
+    }
+    true
+}
