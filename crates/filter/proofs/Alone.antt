@@ -10,7 +10,7 @@ use lib.ListN.{length, getD}
 use lib.Ieee.{Float, nan}
 use Rattle.samples.specs.Frames.{framesOf, column, channelOf}
 use Rattle.samples.proofs.Columns.{length-column}
-use Rattle.filter.specs.Call.{Call, mostChannels, used, heard, part}
+use Rattle.filter.specs.Call.{Call, mostChannels, used, heard, part, statePlaces}
 use Rattle.filter.specs.Weighting.{after, outs, flushed, memoryOf, overUsed, stateAfter, destAfter}
 use Rattle.filter.specs.Peak.{greater, largestFrom, nought, overChannels, peaksAfter}
 use Rattle.filter.proofs.Recurrence.{length-outs}
@@ -33,7 +33,7 @@ module _ (call : Call) where
   given-length : (k : ℕ) → length (given k) ≡ frames
   given-length k = length-outs (call .filter .coefficients .a) (call .filter .coefficients .b) (memoryOf (call .filter .state .values) k) (heard call k) ∙ heard-length k
 
-  pub own-state : (k : ℕ) → k < length (call .map) → k < mostChannels → length (call .filter .state .values) ≡ 40
+  pub own-state : (k : ℕ) → k < length (call .map) → k < mostChannels → length (call .filter .state .values) ≡ statePlaces
       → memoryOf (stateAfter call) k
       ≡ cond (used (getD (call .map) k 0)) (flushed (after (call .filter .coefficients .a) (memoryOf (call .filter .state .values) k) (heard call k))) (memoryOf (call .filter .state .values) k)
   unfolding stateAfter

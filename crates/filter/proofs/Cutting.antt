@@ -17,8 +17,8 @@ use Rattle.samples.specs.Sample.{sampleOf16, sampleOfF32}
 use Rattle.samples.specs.Frames.{silence, column}
 use Rattle.samples.proofs.Columns.{length-column, column-append, column-agrees}
 use Rattle.filter.specs.declared.weighting.Memory.{Memory}
-use Rattle.filter.specs.Call.{mostChannels, used}
-use Rattle.filter.specs.Sizes.{Whole}
+use Rattle.filter.specs.Call.{mostChannels, used, statePlaces}
+use Rattle.filter.specs.Sizes.{Whole, blockPlaces}
 use Rattle.filter.specs.Source.{sourceOf}
 use Rattle.filter.specs.Weighting.{after, outs, flushed, memoryOf, overUsed, overParts}
 use Rattle.filter.specs.Peak.{largestFrom, nought}
@@ -93,7 +93,7 @@ module _ (src block : List Float) (channels done count : ℕ) (next : Next src b
   joined j h = ap (λ (l : List Float). column src j channels done ++ l) (columns j h) ∙ sym (column-append src j channels done count)
 
   -- the state
-  module _ (a b values : List Float) (map : List ℕ) (fits : length map ≡ channels) (few : channels ≤ mostChannels) (size : length values ≡ 40) where
+  module _ (a b values : List Float) (map : List ℕ) (fits : length map ≡ channels) (few : channels ≤ mostChannels) (size : length values ≡ statePlaces) where
     cut-moves : (j : ℕ) (m : Memory) → j < channels → moves a block channels count j (moves a src channels done j m) ≡ moves a src channels (done + count) j m
     cut-moves j m h = sym (after-append a m (column src j channels done) (column block j channels count)) ∙ ap (after a m) (joined j h)
 
@@ -154,7 +154,7 @@ start-dest a b values src channels part start map d = sym (parts-none (writes a 
 
 -- ---- all frames, and the flush
 
-pub end-state : (a src : List Float) (channels : ℕ) (map : List ℕ) → length map ≤ mostChannels → (values : List Float) → length values ≡ 40
+pub end-state : (a src : List Float) (channels : ℕ) (map : List ℕ) → length map ≤ mostChannels → (values : List Float) → length values ≡ statePlaces
     → (done frames : ℕ) → done ≡ frames → (v : List Float) → v ≡ overUsed (moves a src channels done) map 0 values
     → overUsed (λ k m. flushed m) map 0 v ≡ overUsed (λ k m. flushed (moves a src channels frames k m)) map 0 values
 end-state a src channels map few values size done frames e v h =
@@ -164,24 +164,24 @@ end-state a src channels map few values size done frames e v h =
 -- ---- the sizes of the next block
 
 pub record Step (channels frames samples done count : ℕ) : Type 0 where
-  pub block-fits : count * channels ≤ 1024
+  pub block-fits : count * channels ≤ blockPlaces
   pub block-ends : done + count ≤ frames
   pub samples-end : done * channels + count * channels ≤ samples
   pub forward : 0 < count
 
-most-fits : (channels : ℕ) → 1024 / channels * channels ≤ 1024
-most-fits channels = omega (arith, div-add-mod' 1024 channels)
+most-fits : (channels : ℕ) → blockPlaces / channels * channels ≤ blockPlaces
+most-fits channels = omega (arith, div-add-mod' blockPlaces channels)
 
-some-frames : (channels : ℕ) → 0 < channels → channels ≤ mostChannels → 0 < 1024 / channels
+some-frames : (channels : ℕ) → 0 < channels → channels ≤ mostChannels → 0 < blockPlaces / channels
 some-frames channels h few =
-    ⊎-elim (λ (z : 1024 / channels ≡ 0). absurd (lt-irrefl 0 (omega (arith, div-add-mod' 1024 channels, ap (λ (x : ℕ). x * channels) z, zero-mul channels, mod-lt 1024 h))))
-    (λ (p : 0 < 1024 / channels). p) (eq-zero-or-pos (1024 / channels))
+    ⊎-elim (λ (z : blockPlaces / channels ≡ 0). absurd (lt-irrefl 0 (omega (arith, div-add-mod' blockPlaces channels, ap (λ (x : ℕ). x * channels) z, zero-mul channels, mod-lt blockPlaces h))))
+    (λ (p : 0 < blockPlaces / channels). p) (eq-zero-or-pos (blockPlaces / channels))
 
 -- as many frames as a block has places for, or those that are left
-pub step : {channels frames samples done count : ℕ} → Whole channels frames samples → done < frames → count ≡ min (frames - done) (1024 / channels) → Step channels frames samples done count
+pub step : {channels frames samples done count : ℕ} → Whole channels frames samples → done < frames → count ≡ min (frames - done) (blockPlaces / channels) → Step channels frames samples done count
 step {channels} {frames} {samples} {done} {count} all left e =
-    let low : count ≤ 1024 / channels = omega (arith, min-le-right (frames - done) (1024 / channels)) in
-    let ends : done + count ≤ frames = omega (arith, min-le-left (frames - done) (1024 / channels)) in
+    let low : count ≤ blockPlaces / channels = omega (arith, min-le-right (frames - done) (blockPlaces / channels)) in
+    let ends : done + count ≤ frames = omega (arith, min-le-left (frames - done) (blockPlaces / channels)) in
     record {
       block-fits = omega (arith, mul-le-mul-right channels low, most-fits channels);
       block-ends = ends;

@@ -12,7 +12,7 @@ use lib.ListN.{length, getD, drop, drop-of-length-le}
 use lib.Seq.{sets, length-sets, set-getD, drop-cons}
 use lib.Ieee.{Float, nan}
 use Rattle.filter.specs.declared.weighting.Memory.{Memory}
-use Rattle.filter.specs.Call.{mostChannels, used}
+use Rattle.filter.specs.Call.{mostChannels, used, statePlaces}
 use Rattle.filter.specs.Weighting.{at, memoryOf, withMemory, overUsed}
 use Rattle.filter.proofs.Stores.{sets-comm, sets-again, at-before, at-after, at-within}
 
@@ -59,7 +59,7 @@ pub with-again : (v : List Float) (k : ℕ) (m m′ : Memory) → withMemory (wi
 unfolding withMemory
 with-again v k m m′ = sets-again (five m) (five m′) v (k * 5) refl
 
-pub memory-same : (v : List Float) (k : ℕ) (m : Memory) → k < mostChannels → length v ≡ 40 → memoryOf (withMemory v k m) k ≡ m
+pub memory-same : (v : List Float) (k : ℕ) (m : Memory) → k < mostChannels → length v ≡ statePlaces → memoryOf (withMemory v k m) k ≡ m
 unfolding withMemory
 memory-same v k m h l =
     let e : k * 5 ≡ k * 5 + 0 = omega arith in
@@ -136,7 +136,7 @@ over-comm f (b ∷ bytes) j k v m h =
     ap (overUsed f bytes (suc k)) (changed-comm f (used b) j k v m h) ∙ over-comm f bytes j (suc k) (changed f (used b) k v) m (omega arith)
 
 -- one channel, where the channels after it are known
-over-step : (f g : ℕ → Memory → Memory) (t : Bool) (bytes : List ℕ) (k : ℕ) (v : List Float) → k < mostChannels → length v ≡ 40
+over-step : (f g : ℕ → Memory → Memory) (t : Bool) (bytes : List ℕ) (k : ℕ) (v : List Float) → k < mostChannels → length v ≡ statePlaces
     → overUsed g bytes (suc k) (overUsed f bytes (suc k) v) ≡ overUsed (λ j m. g j (f j m)) bytes (suc k) v
     → overUsed g bytes (suc k) (changed g t k (overUsed f bytes (suc k) (changed f t k v))) ≡ overUsed (λ j m. g j (f j m)) bytes (suc k) (changed (λ j m. g j (f j m)) t k v)
 over-step f g true bytes k v few l rest =
@@ -151,7 +151,7 @@ over-step f g true bytes k v few l rest =
 over-step f g false bytes k v few l rest = rest
 
 -- one change after another is one change of each channel
-pub over-over : (f g : ℕ → Memory → Memory) (bytes : List ℕ) (k : ℕ) (v : List Float) → k + length bytes ≤ mostChannels → length v ≡ 40
+pub over-over : (f g : ℕ → Memory → Memory) (bytes : List ℕ) (k : ℕ) (v : List Float) → k + length bytes ≤ mostChannels → length v ≡ statePlaces
     → overUsed g bytes k (overUsed f bytes k v) ≡ overUsed (λ j m. g j (f j m)) bytes k v
 unfolding overUsed
 over-over f g [] k v few l = refl
@@ -178,7 +178,7 @@ over-end f bytes k v h = ap (λ (t : List ℕ). overUsed f t k v) (drop-of-lengt
 
 -- ---- one channel alone: channel k + i's memory afterwards is its own memory, changed where its byte says so, whatever the other channels hold
 
-pub over-own : (f : ℕ → Memory → Memory) (bytes : List ℕ) (k i : ℕ) (v : List Float) → i < length bytes → k + i < mostChannels → length v ≡ 40
+pub over-own : (f : ℕ → Memory → Memory) (bytes : List ℕ) (k i : ℕ) (v : List Float) → i < length bytes → k + i < mostChannels → length v ≡ statePlaces
     → memoryOf (overUsed f bytes k v) (k + i) ≡ cond (used (getD bytes i 0)) (f (k + i) (memoryOf v (k + i))) (memoryOf v (k + i))
 unfolding overUsed
 over-own f [] k i v h few l = absurd (not-suc-le-zero h)

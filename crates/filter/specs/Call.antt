@@ -27,6 +27,10 @@ seedOf filter samples map = callOf filter samples map [] 0
 abbrev pub mostChannels : ℕ
 mostChannels = 8
 
+-- five places of the flat state a channel
+abbrev pub statePlaces : ℕ
+statePlaces = 40
+
 -- the bytes that a map admits: 0 for an unused channel, 1 for a used one
 abbrev pub admits : ℕ → Bool
 admits byte = leb byte 1

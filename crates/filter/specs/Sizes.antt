@@ -3,6 +3,10 @@ use Prim.Native.Nat.{ℕ, _+_, _*_, _^_, _<_, _≤_}
 use mathlib.Core.Path.{_≡_}
 use Rattle.filter.specs.Call.{mostChannels}
 
+-- the places of a block
+abbrev pub blockPlaces : ℕ
+blockPlaces = 1024
+
 -- count samples from place first on, one in every step places, lie within a block of so many places
 pub record Reach (first step count size : ℕ) : Type 0 where
   pub few : step ≤ mostChannels

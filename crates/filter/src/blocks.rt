@@ -5,6 +5,7 @@ ghost use lib.ListN.{length, drop, getD};
 ghost use lib.Seq.{sets};
 ghost use lib.Ieee.{nan};
 ghost use Rattle.samples.specs.Frames.{column};
+ghost use Rattle.filter.specs.Call.{statePlaces};
 ghost use Rattle.filter.specs.Weighting.{after, outs, flushed, memoryOf, overUsed, overParts};
 ghost use Rattle.filter.specs.Peak.{largestFrom, nought};
 ghost use Rattle.filter.specs.Source.{sourceOf};
@@ -54,7 +55,7 @@ fn shorter(a: usize, b: usize) -> usize
 // The state of these values, of which there are forty: cutting a call into blocks counts on each channel's places.
 fn state_of(values: [f64; 40]) -> State
     ensures { λ r. ⌜ r .values ≡ values ⌝ }
-    ensures { λ _. ⌜ length values ≡ 40 ⌝ }
+    ensures { λ _. ⌜ length values ≡ statePlaces ⌝ }
 {
     State { values: values }
 }
@@ -77,7 +78,7 @@ pub(crate) fn weigh_all(
     ensures { λ r. ⌜ r .values ≡ overUsed (λ k m. flushed (after (c .a) m (column (sourceOf (now (ints .entry)) (now (floats .entry))) k channels frames))) (now (map .entry)) 0 (s .values) ⌝ }
     ensures { λ r. ⌜ now (dest .exit) ≡ overParts (λ k. outs (c .a) (c .b) (memoryOf (s .values) k) (column (sourceOf (now (ints .entry)) (now (floats .entry))) k channels frames)) part start (now (map .entry)) 0 (now (dest .entry)) ⌝ }
 {
-    let mut block: [f64; 1024] = [0.0; 1024];
+    let mut block: [f64; BLOCK] = [0.0; BLOCK];
     let most = BLOCK / channels;
     let values = s.values;
     let mut w = state_of(values);
@@ -105,7 +106,7 @@ pub(crate) fn advance_all(
     requires { ⌜ channels ≡ length (now map) ⌝ }
     ensures { λ r. ⌜ r .values ≡ overUsed (λ k m. flushed (after a m (column (sourceOf (now (ints .entry)) (now (floats .entry))) k channels frames))) (now (map .entry)) 0 (s .values) ⌝ }
 {
-    let mut block: [f64; 1024] = [0.0; 1024];
+    let mut block: [f64; BLOCK] = [0.0; BLOCK];
     let most = BLOCK / channels;
     let values = s.values;
     let mut w = state_of(values);
@@ -124,7 +125,7 @@ pub(crate) fn largest_all(channels: usize, frames: usize, ints: &[i16], floats: 
     requires { ⌜ Whole channels frames (length (sourceOf (now ints) (now floats))) ⌝ }
     ensures { λ r. ⌜ ((k : ℕ) → k < channels → getD (r .values) k nan ≡ largestFrom nought (column (sourceOf (now (ints .entry)) (now (floats .entry))) k channels frames)) ⌝ }
 {
-    let mut block: [f64; 1024] = [0.0; 1024];
+    let mut block: [f64; BLOCK] = [0.0; BLOCK];
     let most = BLOCK / channels;
     let mut tops = Peaks { values: [0.0; 8] };
     let mut done = 0;

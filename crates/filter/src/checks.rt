@@ -3,6 +3,9 @@ ghost use mathlib.Core.Path.{_≡_};
 ghost use Prim.Native.Nat.{_<_};
 ghost use Rattle.filter.specs.Refusing.{numberOf, allAdmitted, checkOf, checkDest};
 
+// The channels that states and peaks have places for.
+const MOST_CHANNELS: usize = 8;
+
 fn all_admitted(map: &[u8]) -> bool
     ensures { λ r. ⌜ r ≡ allAdmitted (now (map .entry)) ⌝ }
 {
@@ -23,7 +26,7 @@ pub(crate) fn refused(channels: usize, samples: usize, map: &[u8]) -> u8
     if channels == 0 {
         return refusals::CHANNELS;
     }
-    if 8 < channels {
+    if MOST_CHANNELS < channels {
         return refusals::CHANNELS;
     }
     if samples % channels != 0 {

@@ -7,7 +7,7 @@ ghost use Rattle.refusals.specs.Answer.{said};
 ghost use Rattle.refusals.specs.Outcome.{saidBy, says, refusal, done};
 ghost use Rattle.samples.specs.Sample.{samplesOf16, samplesOfF32};
 ghost use Rattle.samples.specs.Frames.{column};
-ghost use Rattle.filter.specs.Call.{callOf, seedOf};
+ghost use Rattle.filter.specs.Call.{callOf, seedOf, mostChannels, statePlaces};
 ghost use Rattle.filter.specs.Peak.{nought, greater, largestFrom, overChannels};
 ghost use Rattle.filter.specs.Process.{processed, seeded, kept, moved};
 ghost use Rattle.filter.specs.Sizes.{Whole, Parts};
@@ -58,7 +58,7 @@ pub struct Filtered {
 
 // A filter at rest. A channel count that is 0 or above 8 is refused by each call.
 pub fn new(channels: usize, switches: Switches, coefficients: Coefficients) -> Filter
-    ensures { λ r. ⌜ r ≡ record { channels = channels; switches = switches; coefficients = coefficients; state = record { values = replicate 40 nought }; peaks = record { values = replicate 8 nought } } ⌝ }
+    ensures { λ r. ⌜ r ≡ record { channels = channels; switches = switches; coefficients = coefficients; state = record { values = replicate statePlaces nought }; peaks = record { values = replicate mostChannels nought } } ⌝ }
 {
     Filter {
         channels: channels,
@@ -71,7 +71,7 @@ pub fn new(channels: usize, switches: Switches, coefficients: Coefficients) -> F
 
 // The filter with peaks of 0 and a state at rest.
 pub fn reset(filter: Filter) -> Filter
-    ensures { λ r. ⌜ r ≡ moved filter (replicate 40 nought) (replicate 8 nought) ⌝ }
+    ensures { λ r. ⌜ r ≡ moved filter (replicate statePlaces nought) (replicate mostChannels nought) ⌝ }
 {
     let switches = filter.switches;
     let coefficients = filter.coefficients;
@@ -80,7 +80,7 @@ pub fn reset(filter: Filter) -> Filter
 
 // The filter with peaks of 0.
 pub fn reset_peaks(filter: Filter) -> Filter
-    ensures { λ r. ⌜ r ≡ moved filter (filter .state .values) (replicate 8 nought) ⌝ }
+    ensures { λ r. ⌜ r ≡ moved filter (filter .state .values) (replicate mostChannels nought) ⌝ }
 {
     let state = filter.state;
     let peaks = Peaks { values: [0.0; 8] };

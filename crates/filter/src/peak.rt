@@ -5,6 +5,7 @@ ghost use Prim.Native.Nat.{ℕ, _*_, _<_, _≤_};
 ghost use lib.ListN.{length, getD};
 ghost use lib.Ieee.{nan, lt};
 ghost use Rattle.samples.specs.Frames.{column};
+ghost use Rattle.filter.specs.Call.{mostChannels};
 ghost use Rattle.filter.specs.Peak.{absolute, greater, largestFrom, nought, overChannels};
 ghost use Rattle.filter.specs.Sizes.{Reach};
 use super::Peaks;
@@ -42,7 +43,7 @@ fn largest(top: f64, block: &[f64], first: usize, step: usize, count: usize) -> 
 
 // Every channel's frames of a block.
 pub(crate) fn peak_block(tops: Peaks, channels: usize, count: usize, block: &[f64]) -> Peaks
-    requires { ⌜ channels ≤ 8 ⌝ }
+    requires { ⌜ channels ≤ mostChannels ⌝ }
     requires { ⌜ count * channels ≤ length (now block) ⌝ }
     requires { ⌜ ((k : ℕ) → k < channels → lt (getD (tops .values) k nan) nought ≡ false) ⌝ }
     ensures { λ r. ⌜ r .values ≡ overChannels (λ k top. largestFrom top (column (now (block .entry)) k channels count)) channels 0 (tops .values) ⌝ }
@@ -65,7 +66,7 @@ fn greater_of(stored: f64, top: f64) -> f64
 
 // The stored peaks, each replaced only by a greater one.
 pub(crate) fn raise_peaks(stored: Peaks, tops: Peaks, channels: usize) -> Peaks
-    requires { ⌜ channels ≤ 8 ⌝ }
+    requires { ⌜ channels ≤ mostChannels ⌝ }
     ensures { λ r. ⌜ r .values ≡ overChannels (λ k peak. greater peak (getD (tops .values) k nan)) channels 0 (stored .values) ⌝ }
 {
     let mut w = stored;

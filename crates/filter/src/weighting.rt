@@ -5,7 +5,7 @@ ghost use Prim.Native.Nat.{_+_, _*_, _<_, _≤_};
 ghost use lib.ListN.{length, set};
 ghost use lib.Seq.{sets};
 ghost use Rattle.samples.specs.Frames.{column};
-ghost use Rattle.filter.specs.Call.{used};
+ghost use Rattle.filter.specs.Call.{mostChannels, used};
 ghost use Rattle.filter.specs.Weighting.{head, output, shift, after, outs, flush, flushed, memoryOf, withMemory, overUsed, overParts};
 ghost use Rattle.filter.specs.Sizes.{Reach, Parts};
 use super::Coefficients;
@@ -69,7 +69,7 @@ fn flush_all(m: Memory) -> Memory
 }
 
 fn load(s: State, k: usize) -> Memory
-    requires { ⌜ k < 8 ⌝ }
+    requires { ⌜ k < mostChannels ⌝ }
     ensures { λ r. ⌜ r ≡ memoryOf (s .values) k ⌝ }
 {
     Memory {
@@ -82,7 +82,7 @@ fn load(s: State, k: usize) -> Memory
 }
 
 fn store(s: State, k: usize, m: Memory) -> State
-    requires { ⌜ k < 8 ⌝ }
+    requires { ⌜ k < mostChannels ⌝ }
     ensures { λ r. ⌜ r .values ≡ withMemory (s .values) k m ⌝ }
 {
     let mut w = s;
@@ -155,7 +155,7 @@ fn weigh_channel(
     dest: &mut [f64],
     to: usize,
 ) -> State
-    requires { ⌜ k < 8 ⌝ }
+    requires { ⌜ k < mostChannels ⌝ }
     requires { ⌜ Reach k channels count (length (now block)) ⌝ }
     requires { ⌜ to + count ≤ length (now dest) ⌝ }
     ensures { λ r. ⌜ r .values ≡ cond (used byte) (withMemory (s .values) k (after (c .a) (memoryOf (s .values) k) (column (now (block .entry)) k channels count))) (s .values) ⌝ }
@@ -203,7 +203,7 @@ fn advance_channel(
     channels: usize,
     count: usize,
 ) -> State
-    requires { ⌜ k < 8 ⌝ }
+    requires { ⌜ k < mostChannels ⌝ }
     requires { ⌜ Reach k channels count (length (now block)) ⌝ }
     ensures { λ r. ⌜ r .values ≡ cond (used byte) (withMemory (s .values) k (after a (memoryOf (s .values) k) (column (now (block .entry)) k channels count))) (s .values) ⌝ }
 {
@@ -223,7 +223,7 @@ pub(crate) fn advance_block(
     block: &[f64],
     map: &[u8],
 ) -> State
-    requires { ⌜ channels ≤ 8 ⌝ }
+    requires { ⌜ channels ≤ mostChannels ⌝ }
     requires { ⌜ channels ≡ length (now map) ⌝ }
     requires { ⌜ count * channels ≤ length (now block) ⌝ }
     ensures { λ r. ⌜ r .values ≡ overUsed (λ k m. after a m (column (now (block .entry)) k channels count)) (now (map .entry)) 0 (s .values) ⌝ }
@@ -238,7 +238,7 @@ pub(crate) fn advance_block(
 }
 
 fn flush_channel(s: State, byte: u8, k: usize) -> State
-    requires { ⌜ k < 8 ⌝ }
+    requires { ⌜ k < mostChannels ⌝ }
     ensures { λ r. ⌜ r .values ≡ cond (used byte) (withMemory (s .values) k (flushed (memoryOf (s .values) k))) (s .values) ⌝ }
 {
     if byte == 0 {
@@ -249,7 +249,7 @@ fn flush_channel(s: State, byte: u8, k: usize) -> State
 
 // The flush at the end of a call.
 pub(crate) fn flush_used(s: State, map: &[u8]) -> State
-    requires { ⌜ length (now map) ≤ 8 ⌝ }
+    requires { ⌜ length (now map) ≤ mostChannels ⌝ }
     ensures { λ r. ⌜ r .values ≡ overUsed (λ k m. flushed m) (now (map .entry)) 0 (s .values) ⌝ }
 {
     let mut w = s;

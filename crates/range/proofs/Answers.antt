@@ -1,14 +1,14 @@
 -- What the range comes to, case by case. Each picks its case by tests, and each law settles those tests. Assumes nothing.
 use mathlib.Core.Path.{_≡_, refl, sym, ap, _∙_}
-use mathlib.Core.Bool.{Bool, true, false, cond}
+use mathlib.Core.Bool.{true, false}
 use mathlib.Core.List.{List, [], _∷_, _++_}
-use Prim.Native.Nat.{ℕ, suc, _+_, _-_, _≤_, _<_, min}
+use Prim.Native.Nat.{ℕ, suc, _+_, _-_, _≤_, _<_}
 use native.Mathlib.Omega.{arith}
 use borrow.Author.Tests.{eq-eqb, ne-eqb, lt-ltb, le-ltb}
 use lib.ListN.{length, getD, take, drop, length-take}
 use lib.Ieee.{Float, nan}
 use Rattle.refusals.specs.Refusal.{MODE, ROOM}
-use Rattle.refusals.specs.Outcome.{Outcome, went, refused, Said, refusal, saidBy, keptBy}
+use Rattle.refusals.specs.Outcome.{went, refused, Said, refusal, saidBy, keptBy}
 use Rattle.histogram_bins.specs.Tables.{energies, energyAt}
 use Rattle.history.specs.Histogram.{empty}
 use Rattle.history.specs.declared.set.Entry.{Entry}

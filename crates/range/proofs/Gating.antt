@@ -1,9 +1,8 @@
 -- Gating blocks and putting them in order: it is the same either way round, and in rising order a gate takes the leading ones only.
 -- Putting one more in its place changes no other, and where one is not below the gate no later one is. Assumes nothing.
 use mathlib.Core.Path.{_≡_, refl, sym, ap, _∙_, subst}
-use mathlib.Core.Bool.{Bool, true, false, not, _&&_, _||_, cond, true≢false}
+use mathlib.Core.Bool.{Bool, true, false, not, _&&_, cond, true≢false}
 use mathlib.Core.List.{List, [], _∷_}
-use Prim.Native.Nat.{ℕ}
 use lib.Dec.{T}
 use lib.Ieee.{Float, lt, le}
 use lib.Ieee.Positive.{above}

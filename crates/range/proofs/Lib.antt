@@ -8,3 +8,6 @@ pub mod Skipping
 pub mod Answers
 pub mod Gating
 pub mod Meaning
+pub mod Arising
+pub mod Starting
+pub mod Spreading

@@ -1,6 +1,6 @@
 -- The energies that the entries hold, an entry at a time: how many, whether one is NaN, and that all are above zero where none is NaN.
 -- An entry's energies stand before those of the rest; none is below boundary 0, which is above zero. Assumes nothing.
-use mathlib.Core.Path.{_≡_, refl, sym, ap, _∙_, subst}
+use mathlib.Core.Path.{_≡_, refl, sym, ap, _∙_}
 use mathlib.Core.Bool.{Bool, true, false, not, _&&_, _||_, true≢false}
 use mathlib.Core.List.{List, [], _∷_, _++_, append-assoc}
 use Prim.Native.Nat.{ℕ, zero, suc, _+_, _-_, _*_, _≤_, _<_}
@@ -8,7 +8,7 @@ use native.Mathlib.Nat.{le-of-suc-le-suc, not-suc-le-zero, mul-pos}
 use native.Mathlib.Numerals.{add-one}
 use native.Mathlib.Omega.{arith}
 use borrow.Author.Tests.{lt-ltb}
-use lib.Dec.{T, ltb, ltb→lt, lt→ltb}
+use lib.Dec.{T, ltb→lt, lt→ltb}
 use lib.ListN.{length, getD, take, drop, length-take, length-append, drop-of-length-le}
 use lib.Seq.{drop-cons, getD-take}
 use lib.Ieee.{Float, nan, inf, fin, up, down, lt, ne, isNan}
@@ -134,7 +134,7 @@ held-any counters energies (entry ∷ l) = one (entry .shape) (held-any counters
 
 -- ---- above zero
 -- below no boundary 0 and no NaN: above zero
-above-one : (lo x : Float) → T (positive lo) → lt x lo ≡ false → isNan x ≡ false → T (above x)
+pub above-one : (lo x : Float) → T (positive lo) → lt x lo ≡ false → isNan x ≡ false → T (above x)
 unfolding lt isNan
 above-one nan x p h n = absurd p
 above-one (inf s) x p h n = absurd p

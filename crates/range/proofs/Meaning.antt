@@ -1,35 +1,33 @@
 -- What the range answers over queues is what Tech 3342 gives over their energies: to gate and then order is to order and then skip the leading ones,
 -- and the two ranks are the nearest to a tenth and to nineteen twentieths of the last. Assumes nothing.
-use mathlib.Core.Path.{_≡_, refl, sym, ap, _∙_}
-use mathlib.Core.Bool.{Bool, true, false, cond}
-use mathlib.Core.List.{List, [], _∷_, _++_}
-use Prim.Native.Nat.{ℕ, _+_, _-_, _*_, _/_, _≤_}
+use mathlib.Core.Path.{_≡_, sym, ap, _∙_}
+use mathlib.Core.Bool.{true, false, cond}
+use mathlib.Core.List.{List, _++_}
+use Prim.Native.Nat.{ℕ, _-_, _≤_}
 use native.Mathlib.Omega.{arith}
-use borrow.Author.Tests.{eq-eqb, ne-eqb}
 use lib.Dec.{eqb}
 use lib.ListN.{length, getD, drop}
 use lib.Ieee.{Float, nan}
-use Rattle.refusals.specs.Outcome.{Outcome, went}
+use Rattle.refusals.specs.Outcome.{went}
 use Rattle.history.specs.Set.{Histories, historiesOf, chosen, refusalOf, sound, noneBelow}
-use Rattle.history.proofs.Verdicts.{Kept, kept}
+use Rattle.history.proofs.Verdicts.{kept}
 use Rattle.gate.specs.Gate.{none, energiesFrom}
 use Rattle.ranks.specs.Ranks.{lowRank, highRank}
 use Rattle.ordering.specs.Order.{inOrder}
 use Rattle.ordering.proofs.Perms.{perm-length, all-perm}
 use Rattle.ordering.proofs.InOrder.{in-order-perm, in-order-rises}
 use Rattle.ordering.proofs.Runs.{above-all}
-use Rattle.range.specs.Range.{Span, found, nothing, gateEnergy, fromGate, atRanks, allHeld, anyNan, listedSpan, queuesIn, rangeOf}
-use Rattle.range.specs.Inner.{heldIn}
-use Rattle.range.specs.Tech3342.{gated, absoluteGate, relativeGate, percentileRank, percentiles, rangeAbove, loudnessRange}
+use Rattle.range.specs.Range.{found, nothing, gateEnergy, atRanks, allHeld, anyNan, listedSpan, queuesIn, rangeOf}
+use Rattle.range.specs.Tech3342.{gated, relativeGate, percentileRank, percentiles, loudnessRange}
 use Rattle.range.proofs.Looking.{above-held, none-below-held, held-any}
 use Rattle.range.proofs.Answers.{listed-went, over-queues, range-asked}
 use Rattle.range.proofs.Gating.{absolute-all, leading, gated-order}
 
 -- the ranks of the two percentiles
-low-is : (n : ℕ) → lowRank (n - 1) ≡ percentileRank 10 n
+pub low-is : (n : ℕ) → lowRank (n - 1) ≡ percentileRank 10 n
 low-is n = omega arith
 
-high-is : (n : ℕ) → highRank (n - 1) ≡ percentileRank 95 n
+pub high-is : (n : ℕ) → highRank (n - 1) ≡ percentileRank 95 n
 high-is n = omega arith
 
 -- the energies at the two ranks of blocks in order are their percentiles

@@ -1,6 +1,6 @@
 -- Where the energies of an entry stand: those of a queue in two parts of the lent energies, those of a histogram nowhere. Assumes nothing.
 use mathlib.Core.Path.{_≡_, refl}
-use mathlib.Core.Bool.{Bool, true}
+use mathlib.Core.Bool.{true}
 use mathlib.Core.List.{List}
 use Prim.Native.Nat.{ℕ, _+_, _-_, _≤_}
 use native.Mathlib.Omega.{arith}
@@ -9,9 +9,8 @@ use lib.Ieee.{Float}
 use Rattle.history.specs.declared.queue.Queue.{Queue}
 use Rattle.history.specs.declared.set.Shape.the-variants.{Histogram, Queue as Queue-at}
 use Rattle.history.specs.Queue.{suits, firstPart}
-use Rattle.history.proofs.Ring.{Suited, suited}
+use Rattle.history.proofs.Ring.{suited}
 use Rattle.history.proofs.Slices.{held-slices}
-use Rattle.range.specs.declared.Parts.{Parts}
 use Rattle.range.specs.Inner.{StandIn}
 
 pub histogram-stands : (start : ℕ) → StandIn (Histogram start) (record { from = 0; until = 0; start = 0; end = 0 })

@@ -1,11 +1,10 @@
 -- What the steps of the range are stated by: where the energies of an entry stand, and what the counters of up to 16 histograms come to.
 use mathlib.Core.Path.{_≡_}
 use mathlib.Core.Bool.{Bool, true}
-use mathlib.Core.List.{List, [], _∷_, _++_}
+use mathlib.Core.List.{List, [], _++_}
 use Prim.Native.Nat.{ℕ, _+_, _-_, _*_, _≤_}
 use lib.ListN.{length, getD, take, drop}
 use lib.Ieee.{Float}
-use Rattle.histogram_bins.specs.Bin.{bins}
 use Rattle.history.specs.Histogram.{largestCount}
 use Rattle.history.specs.Queue.{longest, suits}
 use Rattle.history.specs.declared.set.Entry.{Entry}

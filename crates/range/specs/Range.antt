@@ -3,7 +3,7 @@
 -- times the mean, the sum taken in that order; the gate bin as in 8. Queues skip the leading energies below it. Nothing left: Nothing. With n = blocks
 -- left - 1, low rank = floor((n+5)/10), high rank = floor((19n+10)/20), counted from the first block left."
 use Prim.Native.Nat.{ℕ, suc, _+_, _-_}
-use mathlib.Core.Bool.{Bool, true, false, _||_, cond}
+use mathlib.Core.Bool.{Bool, false, _||_, cond}
 use mathlib.Core.List.{List, [], _∷_, _++_}
 use lib.Dec.{eqb, ltb}
 use lib.ListN.{length, getD, take, drop}

@@ -3,7 +3,7 @@
 -- What the document leaves open is taken as 01 has it: sums and the factor are f64, the sum in rising order; a block at a gate stays; a percentile that
 -- falls between two ranks is the nearer one, and the upper of two that are as near.
 use Prim.Native.Nat.{ℕ, suc, _+_, _-_, _*_, _/_}
-use mathlib.Core.Bool.{Bool, true, false, cond}
+use mathlib.Core.Bool.{cond}
 use mathlib.Core.List.{List, [], _∷_, _++_}
 use lib.Dec.{eqb}
 use lib.ListN.{length, getD, replicate}

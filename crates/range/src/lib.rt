@@ -351,7 +351,8 @@ fn of_queues(entries: [Entry; 16], count: usize, energies: &[f64], work: &mut [f
 }
 
 // ---- the question
-fn is_queue(entry: Entry) -> usize
+// 1 where the entry is a queue.
+fn queues_by(entry: Entry) -> usize
     ensures { λ r. ⌜ ((counters : List ℕ) (energies : List Float) → r ≡ queuesBy (shows counters energies entry)) ⌝ }
 {
     let shape = entry.shape;
@@ -370,7 +371,7 @@ fn queues_in(entries: [Entry; 16], count: usize) -> usize
     let mut i = 0;
     while i < count {
         let entry = entries[i];
-        queues = queues + is_queue(entry);
+        queues = queues + queues_by(entry);
         i += 1;
     }
     queues

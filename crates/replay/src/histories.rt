@@ -43,7 +43,7 @@ fn widened(count: u32) -> u64 {
 }
 
 // A number that is no count stands for none.
-fn narrowed(number: u64) -> u32 {
+pub fn narrowed(number: u64) -> u32 {
     if 4294967295 < number {
         return 0;
     }
@@ -106,7 +106,7 @@ fn fill(case: &[u8], other: bool, counters: &mut [u32]) {
     }
 }
 
-fn put(counters: &mut [u32], bin: usize, count: u32) {
+pub fn put(counters: &mut [u32], bin: usize, count: u32) {
     if bin < counters.len() {
         counters[bin] = count;
     }

@@ -1,6 +1,7 @@
 // Replays the oracle's answers, kept as a list on standard input, and prints for each operation how many are the same.
 // The list is sections until its end. A section: u32 operation, u32 number of cases, u32 bytes a case, then the cases. All numbers low byte first.
 mod histories;
+mod questions;
 
 use histogram_bins::Level;
 use libc::STDIN_FILENO;
@@ -18,6 +19,8 @@ const HISTOGRAM_ADDS: u64 = 4;
 const MERGES: u64 = 5;
 
 const QUEUE_ADDS: u64 = 6;
+
+const QUESTIONS: u64 = 7;
 
 fn main() {
     let mut sections: u64 = 64;
@@ -98,6 +101,9 @@ fn case_same(operation: u64, case: &[u8]) -> bool {
     if operation == QUEUE_ADDS {
         return histories::queue_same(case);
     }
+    if operation == QUESTIONS {
+        return questions::answers_same(case);
+    }
     false
 }
 
@@ -150,6 +156,8 @@ fn print_name(operation: u64) {
         io::write_all(STDOUT_FILENO, b"merges ");
     } else if operation == QUEUE_ADDS {
         io::write_all(STDOUT_FILENO, b"queue adds ");
+    } else if operation == QUESTIONS {
+        io::write_all(STDOUT_FILENO, b"questions ");
     } else {
         io::write_all(STDOUT_FILENO, b"unknown ");
     }

@@ -8,7 +8,8 @@ use lib.ListN.{length, getD}
 use lib.Seq.{sets, length-sets}
 use lib.Ieee.{Float, nan}
 use Rattle.interp.specs.declared.Interp.{Interp}
-use Rattle.true_peak.specs.Channel.{Channel, hear, heard, past, back, scanned}
+use Rattle.true_peak.specs.Channel.{Channel, hear, heard, past}
+use Rattle.true_peak.specs.Line.{back, scanned}
 use Rattle.true_peak.specs.TruePeak.{column}
 use Rattle.true_peak.proofs.Lines.{heard-stored}
 

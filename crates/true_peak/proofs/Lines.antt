@@ -13,7 +13,8 @@ use Rattle.interp.specs.declared.Interp.{Interp}
 use Rattle.interp.specs.declared.Twelve.{Twelve}
 use Rattle.interp.specs.Interp.{fourfold, twofold}
 use Rattle.interp.specs.Phase.{phase, phases, listed}
-use Rattle.true_peak.specs.Channel.{Channel, hear, heard, past, loudest, back, scanned, windowAt}
+use Rattle.true_peak.specs.Channel.{Channel, hear, heard, past, loudest}
+use Rattle.true_peak.specs.Line.{back, scanned, windowAt}
 use Rattle.true_peak.specs.TruePeak.{column, historyAt}
 
 -- ---- runs of a line

@@ -14,7 +14,8 @@ use lib.Ieee.{Float, nan, inf, fin, up, down, below, level, lt, eq, le, isNan}
 use Rattle.floats.proofs.Order.{is-true, float-le-trans, lt→le, lt-not-le}
 use Rattle.interp.specs.declared.Interp.{Interp}
 use Rattle.interp.specs.Phase.{phases}
-use Rattle.true_peak.specs.Channel.{magnitude, louder, loudest, back, scanned, loudestOf}
+use Rattle.true_peak.specs.Channel.{magnitude, louder, loudest}
+use Rattle.true_peak.specs.Line.{back, scanned, loudestOf}
 
 -- ---- the order of floats that are no NaN is total
 or-right : (a : Bool) → a || true ≡ true

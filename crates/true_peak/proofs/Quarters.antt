@@ -11,7 +11,8 @@ use lib.Seq.{getD-set-other, getD-set-same}
 use lib.Ieee.{Float, nan}
 use Rattle.interp.specs.declared.Interp.{Interp}
 use Rattle.interp.specs.Phase.{phases}
-use Rattle.true_peak.specs.Channel.{block, louder, loudest, back, scanned, loudestOf, Louds}
+use Rattle.true_peak.specs.Channel.{louder, loudest}
+use Rattle.true_peak.specs.Line.{block, back, scanned, loudestOf, Louds}
 use Rattle.true_peak.proofs.Independence.{either}
 use Rattle.true_peak.proofs.Loud.{Over, over-self, apart, loudest-over, loudest-join, loudest-none, scanned-louds}
 

@@ -1,2 +1,3 @@
 pub mod Channel
+pub mod Line
 pub mod TruePeak

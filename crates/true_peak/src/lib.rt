@@ -1,6 +1,5 @@
 // True peak: the largest absolute phase of each channel, over interleaved samples.
 ghost use mathlib.Core.Path.{_≡_};
-ghost use mathlib.Core.Logic.{_⊎_};
 ghost use Prim.Native.Nat.{ℕ, _+_, _*_, _<_, _≤_, _^_};
 ghost use lib.ListN.{length, getD};
 ghost use lib.Seq.{sets};
@@ -9,7 +8,8 @@ ghost use Rattle.refusals.specs.Answer.{said};
 ghost use Rattle.refusals.specs.Outcome.{saidBy, keptBy};
 ghost use Rattle.interp.specs.Interp.{fourfold, twofold, upsampled, kindOf, Known};
 ghost use Rattle.interp.specs.Phase.{four, two, phases};
-ghost use Rattle.true_peak.specs.Channel.{Channel, heard, magnitude, louder, loudest, back, windowAt, past, block, room, scanned, loudestOf, Louds};
+ghost use Rattle.true_peak.specs.Channel.{Channel, heard, magnitude, louder, loudest, past};
+ghost use Rattle.true_peak.specs.Line.{back, windowAt, block, room, scanned, loudestOf, Louds};
 ghost use Rattle.true_peak.specs.TruePeak.{Block, mostChannels, silent, historyAt, channelOf, withChannel, column, measured, refusalOf, processed, seeded};
 use interp::Four;
 use interp::Interp;
@@ -26,6 +26,7 @@ pub struct TruePeak {
     pub peaks: [f32; 8],
 }
 
+// What `process` and `seed` answer, beside the state.
 pub struct Measured {
     pub answer: Answer,
     pub state: TruePeak,
@@ -47,14 +48,19 @@ impl TruePeak {
     }
 }
 
-// How many frames of a channel are taken at a time.
+// How many frames of a channel are taken at a time, and where its quarters begin: four frames side by side fill a vector each.
 const BLOCK: usize = 128;
 
 const QUARTER: usize = 32;
 
+const HALF: usize = 64;
+
+const THREE_QUARTERS: usize = 96;
+
 // A channel's history and a block of its samples, oldest first.
 const LINE: usize = 151;
 
+// The absolute value: the pattern without the sign's bit. A NaN has no pattern of its own.
 fn magnitude(x: f32) -> f32
     ensures { λ r. ⌜ r ≡ magnitude x ⌝ }
 {
@@ -64,6 +70,7 @@ fn magnitude(x: f32) -> f32
     f32::from_bits(f32::to_bits(x) % 0x8000_0000)
 }
 
+// A value replaces the peak only if it is greater.
 fn louder(peak: f32, v: f32) -> f32
     ensures { λ r. ⌜ r ≡ louder peak v ⌝ }
 {
@@ -88,7 +95,7 @@ fn loudest_two(peak: f32, p: Two) -> f32
 
 // Twelve samples of a line back from place at + 11, newest first.
 fn twelve(line: &[f32; LINE], at: usize) -> Twelve
-    requires { ⌜ at < 140 ⌝ }
+    requires { ⌜ at < block + 12 ⌝ }
     ensures { λ r. ⌜ r ≡ windowAt (now (line .entry)) at ⌝ }
 {
     Twelve {
@@ -199,9 +206,9 @@ fn loudest_of(loud: &[f32; BLOCK], peak: f32) -> f32
     let mut k = 0;
     while k < QUARTER {
         a = louder(a, loud[k]);
-        b = louder(b, loud[32 + k]);
-        c = louder(c, loud[64 + k]);
-        d = louder(d, loud[96 + k]);
+        b = louder(b, loud[QUARTER + k]);
+        c = louder(c, loud[HALF + k]);
+        d = louder(d, loud[THREE_QUARTERS + k]);
         k += 1;
     }
     louder(louder(louder(a, b), c), d)

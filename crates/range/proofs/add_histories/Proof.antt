@@ -1,10 +1,10 @@
 -- `range::add_histories` meets its contract. The invariant: the histories from `i` on, on top of what was added, give what all give. Assumes nothing.
-use mathlib.Core.Path.{_≡_, refl, sym, ap, subst, _∙_}
-use mathlib.Core.List.{List, []}
-use Prim.Native.Nat.{ℕ, _+_, _-_, _*_, _≤_}
+use mathlib.Core.Path.{_≡_, refl, sym, _∙_}
+use mathlib.Core.List.{[]}
+use Prim.Native.Nat.{ℕ, _-_, _*_, _≤_}
 use native.Mathlib.Omega.{arith}
 use denote.Ref.{now}
-use lib.ListN.{length, getD, take, drop}
+use lib.ListN.{length, take, drop}
 use Rattle.histogram_bins.specs.Bin.{bins}
 use Rattle.history.specs.Histogram.{largestCount}
 use Rattle.history.specs.Set.{allShow}

@@ -1,5 +1,4 @@
 -- `range::below` meets its contract: below bin 0 there is none, else the running count of the bin before. Assumes nothing.
-use mathlib.Core.Path.{_≡_, refl, sym, ap, _∙_}
 use Prim.Native.Nat.{ℕ}
 use mathlib.Core.List.{List}
 use denote.Ref.{now}

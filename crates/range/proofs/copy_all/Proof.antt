@@ -1,13 +1,11 @@
 -- `range::copy_all` meets its contract. The invariant: what the entries from `i` on hold, stored from `at` on, gives what all of it gives. Assumes nothing.
-use mathlib.Core.Path.{_≡_, refl, sym, ap, subst, _∙_}
-use mathlib.Core.Bool.{_||_}
-use mathlib.Core.List.{List, _++_}
-use Prim.Native.Nat.{ℕ, _+_, _-_, _*_, _≤_, _<_}
+use mathlib.Core.Path.{_≡_, refl, sym, ap, _∙_}
+use mathlib.Core.List.{List}
+use Prim.Native.Nat.{_+_, _-_, _≤_}
 use native.Mathlib.Omega.{arith}
 use denote.Ref.{now}
 use lib.Ieee.{Float}
 use lib.ListN.{length, getD, take, drop}
-use Rattle.history.specs.Queue.{longest}
 use Rattle.history.specs.declared.set.Shape.{Shape}
 use Rattle.history.specs.Set.{storeEnd}
 use Rattle.history.proofs.Entries.{past-the-last, sound-at}

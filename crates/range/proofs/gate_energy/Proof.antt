@@ -1,6 +1,6 @@
 -- `range::gate_energy` meets its contract: the code's 0.01 is the f64 nearest 1/100. Assumes nothing.
 use mathlib.Core.Path.{_≡_, refl}
-use lib.Ieee.{Float, binary64, ofBits, round}
+use lib.Ieee.{binary64, ofBits, round}
 use Rattle.range.specs.Range.{hundredth}
 use borrow.Author.Needs.{needs}
 use Rattle.range.proofs.gate_energy.Statement.{statement}

@@ -1,11 +1,9 @@
 -- `range::look` meets its contract. The invariant: what was seen before `i`, with what the entries from there on hold, is what all hold. Assumes nothing.
-use mathlib.Core.Path.{_≡_, refl, sym, ap, subst, _∙_}
+use mathlib.Core.Path.{_≡_, refl, sym, ap, _∙_}
 use mathlib.Core.Bool.{_||_}
-use mathlib.Core.List.{List, _++_}
-use Prim.Native.Nat.{ℕ, _+_, _-_, _*_, _≤_, _<_}
+use Prim.Native.Nat.{_+_, _-_, _*_, _≤_}
 use native.Mathlib.Omega.{arith}
 use denote.Ref.{now}
-use lib.Ieee.{Float}
 use lib.ListN.{length, getD, take, drop}
 use Rattle.history.specs.Queue.{longest}
 use Rattle.history.specs.declared.set.Shape.{Shape}

@@ -1,13 +1,12 @@
 -- `range::loudness_range` meets its contract: the set's refusals first, then by how many of its histories are queues. Assumes nothing.
-use mathlib.Core.Path.{_≡_, refl, sym, ap, subst, _∙_}
+use mathlib.Core.Path.{_≡_, refl, sym, ap, _∙_}
 use mathlib.Core.List.{List}
 use Prim.Native.Nat.{ℕ}
 use native.Mathlib.Omega.{arith}
 use denote.Ref.{now}
 use lib.Ieee.{Float}
-use lib.ListN.{length, take}
-use Rattle.refusals.specs.Outcome.{says, refused}
-use Rattle.refusals.specs.Refusal.{MODE}
+use lib.ListN.{length}
+use Rattle.refusals.specs.Outcome.{says}
 use Rattle.history.specs.Histogram.{empty}
 use Rattle.history.specs.Set.{Histories, histories, historiesOf, chosen, refusalOf, sound}
 use Rattle.history.proofs.Entries.{blocks-inside, stores-inside}

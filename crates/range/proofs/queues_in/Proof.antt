@@ -1,9 +1,9 @@
 -- `range::queues_in` meets its contract. The invariant: those counted before `i`, with those from there on, are all. Assumes nothing.
-use mathlib.Core.Path.{_≡_, refl, sym, ap, _∙_}
+use mathlib.Core.Path.{_≡_}
 use mathlib.Core.List.{List, []}
 use Prim.Native.Nat.{ℕ, _+_, _-_, _≤_}
 use native.Mathlib.Omega.{arith}
-use lib.ListN.{length, getD, take, drop}
+use lib.ListN.{getD, take, drop}
 use lib.Ieee.{Float}
 use Rattle.history.specs.Set.{shows, allShow}
 use Rattle.history.proofs.Entries.{past-the-last}
@@ -28,13 +28,13 @@ mul-entry c = search needs
 array-copy-out-entry : tie.Need-array-copy-out-entry Inv-loop μ-loop
 array-copy-out-entry c = search needs
 
-is-queue-requires : tie.Need-is-queue-requires Inv-loop μ-loop
-is-queue-requires c κs = search needs
+queues-by-requires : tie.Need-queues-by-requires Inv-loop μ-loop
+queues-by-requires c κs = search needs
 
 add-queues : tie.Need-add-queues Inv-loop μ-loop
 add-queues c =
     let l = c .before .before .before in
-    omega (arith, c .is-queue .ensures [] [], queues-one (shows [] [] (getD (l .before .args .t1) (l .loop .i) past-the-last)))
+    omega (arith, c .queues-by .ensures [] [], queues-one (shows [] [] (getD (l .before .args .t1) (l .loop .i) past-the-last)))
 
 add-i : tie.Need-add-i Inv-loop μ-loop
 add-i c = search needs
@@ -47,8 +47,8 @@ loop-again c =
     let l = c .before .before .before in
     let a = l .before .args in (
       omega arith,
-      omega (arith, c .is-queue .ensures [] [], queues-one (shows [] [] (getD (a .t1) (l .loop .i) past-the-last))),
-      λ (counters : List ℕ) (energies : List Float). omega (arith, l .loop .inv .2 counters energies, queues-next counters energies (a .t1) (a .count) (l .loop .i) (omega arith) (omega arith), c .is-queue .ensures counters energies),
+      omega (arith, c .queues-by .ensures [] [], queues-one (shows [] [] (getD (a .t1) (l .loop .i) past-the-last))),
+      λ (counters : List ℕ) (energies : List Float). omega (arith, l .loop .inv .2 counters energies, queues-next counters energies (a .t1) (a .count) (l .loop .i) (omega arith) (omega arith), c .queues-by .ensures counters energies),
     )
 
 returns : tie.Need-returns Inv-loop μ-loop
@@ -66,7 +66,7 @@ queues-in-spec =
     loop-holds
     mul-entry
     array-copy-out-entry
-    is-queue-requires
+    queues-by-requires
     add-queues
     add-i
     loop-less

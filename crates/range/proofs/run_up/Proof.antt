@@ -1,14 +1,13 @@
 -- `range::run_up` meets its contract. The invariant: the counters before `bin` are running counts, and the bins from there on, on top of what was counted,
 -- give what all give. Assumes nothing.
-use mathlib.Core.Path.{_≡_, refl, sym, ap, subst, _∙_}
-use mathlib.Core.List.{List}
-use Prim.Native.Nat.{ℕ, _+_, _-_, _*_, _≤_, _<_}
+use mathlib.Core.Path.{_≡_, refl, sym, ap, _∙_}
+use Prim.Native.Nat.{ℕ, _+_, _-_, _≤_, _<_}
 use native.Mathlib.Omega.{arith}
 use denote.Ref.{now}
 use lib.IntN.{pos}
 use lib.Ieee.{Float, nan, binary64, add, mul, ofInt}
 use lib.ListN.{length, length-set, getD, take, drop}
-use Rattle.histogram_bins.specs.Tables.{energies, energyAt}
+use Rattle.histogram_bins.specs.Tables.{energyAt}
 use Rattle.histogram_bins.specs.Bin.{bins}
 use Rattle.histogram_bins.proofs.Rules.{energies-length}
 use Rattle.gate.specs.Gate.{none, binsFrom}

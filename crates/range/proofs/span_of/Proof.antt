@@ -1,16 +1,15 @@
 -- `range::span_of` meets its contract: the blocks below the gate, those left, and the bins of the two ranks, each searched from the one before. Assumes nothing.
-use mathlib.Core.Path.{_≡_, refl, sym, ap, subst, _∙_}
+use mathlib.Core.Path.{_≡_, sym, ap, subst, _∙_}
 use mathlib.Core.List.{List}
-use Prim.Native.Nat.{ℕ, _+_, _-_, _*_, _≤_, _<_, zero-le}
+use Prim.Native.Nat.{ℕ, _+_, _-_, _*_, _≤_, _<_}
 use native.Mathlib.Omega.{arith}
 use denote.Ref.{now}
-use lib.Ieee.{Float}
 use lib.ListN.{length, take, drop}
 use Rattle.refusals.specs.Outcome.{says}
 use Rattle.histogram_bins.specs.Bin.{bins}
 use Rattle.histogram_bins.proofs.Rules.{energies-length}
 use Rattle.gate.specs.declared.Totals.{Totals}
-use Rattle.gate.specs.Gate.{none, binsFrom, startBin}
+use Rattle.gate.specs.Gate.{none, startBin}
 use Rattle.gate.proofs.Start.{start-most}
 use Rattle.range.specs.Range.{gateEnergy, blocksIn, runningFrom, firstPast, leftIn, countedSpan}
 use Rattle.range.specs.Inner.{mostInBin}

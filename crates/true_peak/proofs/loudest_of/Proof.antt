@@ -4,7 +4,8 @@ use mathlib.Core.Path.{_≡_, refl, ap, _∙_}
 use Prim.Native.Nat.{_+_, _-_, _≤_}
 use native.Mathlib.Omega.{arith}
 use lib.Ieee.{Float}
-use Rattle.true_peak.specs.Channel.{loudestOf, louder}
+use Rattle.true_peak.specs.Channel.{louder}
+use Rattle.true_peak.specs.Line.{loudestOf}
 use Rattle.true_peak.proofs.Quarters.{run-turn, run-end, by-quarters}
 use Rattle.true_peak.proofs.loudest_of.Statement.{statement}
 use Rattle.true_peak.proofs.loudest_of.Tie as tie

@@ -7,7 +7,8 @@ use native.Mathlib.Omega.{arith}
 use lib.ListN.{length}
 use lib.Ieee.{Float}
 use lib.Seq.{sets}
-use Rattle.true_peak.specs.Channel.{Channel, heard, past, room, back}
+use Rattle.true_peak.specs.Channel.{Channel, heard, past}
+use Rattle.true_peak.specs.Line.{room, back}
 use Rattle.true_peak.specs.TruePeak.{mostChannels, column, historyAt}
 use Rattle.true_peak.proofs.Blocks.{block-turn, none-left, places, stored-length}
 use Rattle.true_peak.proofs.one_channel.Statement.{statement}

@@ -2,7 +2,7 @@
 use borrow.Author.Needs.{needs}
 use Prim.Native.Nat.{_-_, _≤_}
 use native.Mathlib.Omega.{arith}
-use Rattle.true_peak.specs.Channel.{block}
+use Rattle.true_peak.specs.Line.{block}
 use Rattle.true_peak.proofs.Quarters.{Filled, filled-start, filled-turn}
 use Rattle.true_peak.proofs.rest.Statement.{statement}
 use Rattle.true_peak.proofs.rest.Tie as tie

@@ -2,7 +2,7 @@
 use borrow.Author.Needs.{needs}
 use mathlib.Core.Path.{ap, _∙_}
 use Rattle.interp.specs.declared.Interp.{Interp}
-use Rattle.true_peak.specs.Channel.{scanned}
+use Rattle.true_peak.specs.Line.{scanned}
 use Rattle.interp.proofs.Rates.{known-fourfold, known-twofold}
 use Rattle.true_peak.proofs.scan.Statement.{statement}
 use Rattle.true_peak.proofs.scan.Tie as tie

@@ -1,9 +1,10 @@
 //! The fixed list that the proved program `replay` runs with no Rust at hand. Little-endian, sections
 //! to the end: u32 operation, u32 number of cases, u32 bytes a case, then the cases. Beside it, the
 //! lines that the program prints when every answer is the same. A new operation is a new function
-//! here or in `histories`, and a line in `sections`.
+//! here or in a module below, and a line in `sections`.
 
 mod histories;
+mod questions;
 
 use driver::energies::{self, above, below};
 use driver::oracle::{self, BOUNDARIES, ENERGIES};
@@ -29,6 +30,7 @@ fn sections() -> Vec<Section> {
         ("histogram adds", histories::histogram_adds()),
         ("merges", histories::merges()),
         ("queue adds", histories::queue_adds()),
+        ("questions", questions::questions()),
     ];
     let numbered = (1..).zip(named);
     numbered

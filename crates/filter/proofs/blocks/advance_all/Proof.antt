@@ -6,6 +6,8 @@ use mathlib.Core.Path.{_≡_, refl, sym, ap, _∙_}
 use mathlib.Core.List.{List}
 use lib.ListN.{length, getD}
 use lib.Ieee.{Float, nan}
+use Rattle.filter.specs.Sizes.{blockPlaces}
+use Rattle.filter.specs.Call.{statePlaces}
 use Rattle.filter.specs.Source.{sourceOf}
 use Rattle.filter.specs.Weighting.{flushed, overUsed}
 use Rattle.filter.proofs.Recurrence.{moves}
@@ -15,7 +17,7 @@ use Rattle.filter.proofs.blocks.advance_all.Tie as tie
 
 abbrev Inv-loop : tie.InvT-loop
 Inv-loop a channels frames ints floats map block₀ most w₀ done₀ block w done =
-    (done ≤ frames) × ((length block ≡ 1024) × (w .values ≡ overUsed (moves a (sourceOf ints floats) channels done) map 0 (w₀ .values)))
+    (done ≤ frames) × ((length block ≡ blockPlaces) × (w .values ≡ overUsed (moves a (sourceOf ints floats) channels done) map 0 (w₀ .values)))
 
 abbrev μ-loop : tie.MeasureT-loop
 μ-loop a channels frames ints floats map block₀ most w₀ done₀ block w done = frames - done
@@ -31,7 +33,7 @@ loop-holds c =
     let a = c .before .before .before .before .args in
     (omega arith, (refl, start-state (a .a) (sourceOf (a .ints .now) (a .floats .now)) (a .channels) (a .map .now) (c .state-of .result .values)))
 
-forty : (c : tie.After-state-of Inv-loop μ-loop) → length (c .state-of .result .values) ≡ 40
+forty : (c : tie.After-state-of Inv-loop μ-loop) → length (c .state-of .result .values) ≡ statePlaces
 forty c = ap length (c .state-of .ensures .0) ∙ c .state-of .ensures .1
 
 sub-shorter : tie.Need-sub-shorter Inv-loop μ-loop
@@ -54,7 +56,7 @@ mul-fill c = omega (arith, sizes (c .before) .samples-end, c .before .before .be
 fill-requires : tie.Need-fill-requires Inv-loop μ-loop
 fill-requires c κs = search needs
 
-size : (c : tie.After-fill Inv-loop μ-loop) → length (c .fill .last .0) ≡ 1024
+size : (c : tie.After-fill Inv-loop μ-loop) → length (c .fill .last .0) ≡ blockPlaces
 size c = c .fill .kept .0 ∙ c .before .before .before .before .loop .inv .1 .0
 
 next : (c : tie.After-fill Inv-loop μ-loop) → let q = c .before .before .before in let s = q .before .before .before .before .before .before in

@@ -8,6 +8,7 @@ use lib.ListN.{length, getD}
 use lib.Ieee.{Float, nan}
 use lib.Ieee.{lt, ofBits}
 use Rattle.samples.specs.Frames.{column}
+use Rattle.filter.specs.Sizes.{blockPlaces}
 use Rattle.filter.specs.Source.{sourceOf}
 use Rattle.filter.specs.Peak.{largestFrom, nought}
 use Rattle.filter.proofs.Loudest.{peaks, High, largest-high, channels-length, channels-first, start-peaks, nought-high}
@@ -18,7 +19,7 @@ use Rattle.filter.proofs.blocks.largest_all.Tie as tie
 abbrev Inv-loop : tie.InvT-loop
 Inv-loop channels frames ints floats block₀ most tops₀ done₀ block tops done =
     (done ≤ frames)
-    × ((length block ≡ 1024)
+    × ((length block ≡ blockPlaces)
     × ((length (tops .values) ≡ 8)
     × ((k : ℕ) → k < channels → getD (tops .values) k nan ≡ largestFrom nought (column (sourceOf ints floats) k channels done))))
 
@@ -52,7 +53,7 @@ mul-fill c = omega (arith, sizes (c .before) .samples-end, c .before .before .be
 fill-requires : tie.Need-fill-requires Inv-loop μ-loop
 fill-requires c κs = search needs
 
-size : (c : tie.After-fill Inv-loop μ-loop) → length (c .fill .last .0) ≡ 1024
+size : (c : tie.After-fill Inv-loop μ-loop) → length (c .fill .last .0) ≡ blockPlaces
 size c = c .fill .kept .0 ∙ c .before .before .before .before .loop .inv .1 .0
 
 next : (c : tie.After-fill Inv-loop μ-loop) → let q = c .before .before .before in let s = q .before .before .before in

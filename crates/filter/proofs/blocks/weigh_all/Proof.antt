@@ -6,8 +6,9 @@ use mathlib.Core.Path.{_≡_, refl, sym, ap, _∙_}
 use mathlib.Core.List.{List}
 use lib.ListN.{length, getD}
 use lib.Ieee.{Float, nan}
+use Rattle.filter.specs.Call.{statePlaces}
 use Rattle.filter.specs.Source.{sourceOf}
-use Rattle.filter.specs.Sizes.{Parts}
+use Rattle.filter.specs.Sizes.{Parts, blockPlaces}
 use Rattle.filter.specs.Weighting.{flushed, overUsed, overParts}
 use Rattle.filter.proofs.Recurrence.{moves, writes}
 use Rattle.filter.proofs.Cutting.{Next, Step, step, filled, cut-state, cut-dest, start-state, start-dest, end-state}
@@ -17,7 +18,7 @@ use Rattle.filter.proofs.blocks.weigh_all.Tie as tie
 abbrev Inv-loop : tie.InvT-loop
 Inv-loop c channels frames ints floats map dest₀ part start block₀ most w₀ done₀ dest block w done =
     (done ≤ frames)
-    × ((length block ≡ 1024)
+    × ((length block ≡ blockPlaces)
     × ((length dest ≡ length dest₀)
     × ((w .values ≡ overUsed (moves (c .a) (sourceOf ints floats) channels done) map 0 (w₀ .values))
     × (dest ≡ overParts (writes (c .a) (c .b) (w₀ .values) (sourceOf ints floats) channels done) part start map 0 dest₀))))
@@ -46,7 +47,7 @@ loop-holds c =
       ),
     )
 
-forty : (c : tie.After-state-of Inv-loop μ-loop) → length (c .state-of .result .values) ≡ 40
+forty : (c : tie.After-state-of Inv-loop μ-loop) → length (c .state-of .result .values) ≡ statePlaces
 forty c = ap length (c .state-of .ensures .0) ∙ c .state-of .ensures .1
 
 sub-shorter : tie.Need-sub-shorter Inv-loop μ-loop
@@ -69,7 +70,7 @@ mul-fill c = omega (arith, sizes (c .before) .samples-end, c .before .before .be
 fill-requires : tie.Need-fill-requires Inv-loop μ-loop
 fill-requires c κs = search needs
 
-size : (c : tie.After-fill Inv-loop μ-loop) → length (c .fill .last .0) ≡ 1024
+size : (c : tie.After-fill Inv-loop μ-loop) → length (c .fill .last .0) ≡ blockPlaces
 size c = c .fill .kept .0 ∙ c .before .before .before .before .loop .inv .1 .0
 
 next : (c : tie.After-fill Inv-loop μ-loop) → let q = c .before .before .before in let s = q .before .before .before .before .before .before .before in

@@ -1,4 +1,4 @@
--- `range::is_queue` meets its contract, shape by shape. Assumes nothing.
+-- `range::queues_by` meets its contract, shape by shape. Assumes nothing.
 use mathlib.Core.Path.{sym, ap}
 use mathlib.Core.List.{List}
 use Prim.Native.Nat.{ℕ}
@@ -7,8 +7,8 @@ use Rattle.history.specs.declared.set.Shape.{Shape}
 use Rattle.history.specs.Set.{shapeShows}
 use Rattle.range.specs.Range.{queuesBy}
 use borrow.Author.Needs.{needs}
-use Rattle.range.proofs.is_queue.Statement.{statement}
-use Rattle.range.proofs.is_queue.Tie as tie
+use Rattle.range.proofs.queues_by.Statement.{statement}
+use Rattle.range.proofs.queues_by.Tie as tie
 
 enum-told : tie.Need-enum-told
 enum-told c = search needs
@@ -22,5 +22,5 @@ returns c = λ (counters : List ℕ) (energies : List Float). sym (ap (λ (s : S
 returns-2 : tie.Need-returns-2
 returns-2 c = λ (counters : List ℕ) (energies : List Float). sym (ap (λ (s : Shape). queuesBy (shapeShows counters energies s)) (c .enum-told2 .given .1))
 
-pub is-queue-spec : {M : Type 1} → statement M
-is-queue-spec = tie.close (tie.spec enum-told enum-told-2 returns returns-2)
+pub queues-by-spec : {M : Type 1} → statement M
+queues-by-spec = tie.close (tie.spec enum-told enum-told-2 returns returns-2)

@@ -1,0 +1,139 @@
+// The cases of questions: the gate and the range of a set of up to 4 histories.
+// A case: u16 number of histories; 4 times u16 kind (0 a histogram, 1 a queue), start, maximum, head and held; 8 times u16 bin and u32 count;
+// u64 patterns of 24 energies. Then the answers: u16 refusal of the gate (0: none), u64 blocks, u64 pattern of their sum; u16 code of the range, u64 patterns
+// of its two energies; u64 patterns of the 24 places to work in, all 0 before. What is not answered is 0.
+use gate::Gated;
+use history::queue::Queue;
+use history::set::Entry;
+use history::set::Shape;
+use range::Range;
+
+pub fn answers_same(case: &[u8]) -> bool {
+    let mut counters = [0u32; 1000];
+    let mut energies = [0.0; 24];
+    let mut work = [0.0; 24];
+    fill_counters(case, &mut counters);
+    fill_energies(case, &mut energies);
+    let count = fields::number_at(case, 0, 2) as usize;
+    let gated = gate::gate(entries_of(case), count, &counters, &energies);
+    let range = range::loudness_range(entries_of(case), count, &counters, &energies, &mut work);
+    gate_same(case, gated) && range_same(case, range) && work_same(case, &work)
+}
+
+fn number_at(case: &[u8], at: usize) -> usize {
+    fields::number_at(case, at, 2) as usize
+}
+
+// The entry of ten bytes at a place.
+fn entry_at(case: &[u8], at: usize) -> Entry {
+    if 1000 < at {
+        return Entry {
+            shape: Shape::Histogram(0),
+        };
+    }
+    let start = number_at(case, at + 2);
+    let maximum = number_at(case, at + 4);
+    let head = number_at(case, at + 6);
+    let held = number_at(case, at + 8);
+    if number_at(case, at) == 0 {
+        return Entry {
+            shape: Shape::Histogram(start),
+        };
+    }
+    Entry {
+        shape: Shape::Queue(
+            start,
+            Queue {
+                maximum,
+                head,
+                held,
+            },
+        ),
+    }
+}
+
+// The set has 16 places; those that do not count repeat the first.
+fn entries_of(case: &[u8]) -> [Entry; 16] {
+    let one = entry_at(case, 2);
+    [
+        one,
+        entry_at(case, 12),
+        entry_at(case, 22),
+        entry_at(case, 32),
+        one,
+        one,
+        one,
+        one,
+        one,
+        one,
+        one,
+        one,
+        one,
+        one,
+        one,
+        one,
+    ]
+}
+
+fn fill_counters(case: &[u8], counters: &mut [u32]) {
+    let mut at = 42;
+    while at < 90 {
+        let count = crate::histories::narrowed(fields::number_at(case, at + 2, 4));
+        crate::histories::put(counters, number_at(case, at), count);
+        at += 6;
+    }
+}
+
+fn fill_energies(case: &[u8], energies: &mut [f64]) {
+    let mut place = 0;
+    while place < 24 {
+        let energy = floats::float_of(fields::number_at(case, 90 + 8 * place, 8));
+        put(energies, place, energy);
+        place += 1;
+    }
+}
+
+fn put(energies: &mut [f64], place: usize, energy: f64) {
+    if place < energies.len() {
+        energies[place] = energy;
+    }
+}
+
+fn gate_same(case: &[u8], gated: Gated) -> bool {
+    let refusal = fields::number_at(case, 282, 2);
+    let blocks = fields::number_at(case, 284, 8);
+    let sum = fields::number_at(case, 292, 8);
+    match gated {
+        Gated::Blocks(count, total) => {
+            refusal == 0 && blocks == count && sum == floats::pattern_of(total)
+        }
+        Gated::Refused(number) => refusal == number as u64,
+    }
+}
+
+fn range_same(case: &[u8], range: Range) -> bool {
+    let code = fields::number_at(case, 300, 2);
+    let low = fields::number_at(case, 302, 8);
+    let high = fields::number_at(case, 310, 8);
+    match range {
+        Range::Found(lower, higher) => {
+            code == 0 && low == floats::pattern_of(lower) && high == floats::pattern_of(higher)
+        }
+        Range::Nothing => code == 128,
+        Range::NotANumber => code == 129,
+        Range::Refused(number) => code == number as u64,
+    }
+}
+
+fn work_same(case: &[u8], work: &[f64]) -> bool {
+    let mut place = 0;
+    while place < 24 {
+        if place < work.len() {
+            if floats::pattern_of(work[place]) != fields::number_at(case, 318 + 8 * place, 8) {
+                return false;
+            }
+        }
+        place += 1;
+    }
+    true
+}
