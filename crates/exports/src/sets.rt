@@ -57,14 +57,14 @@ fn entry_at(numbers: &[usize], place: usize) -> Entry
 }
 
 // The first entry.
-pub fn first_of(numbers: &[usize]) -> Entry
+pub(crate) fn first_of(numbers: &[usize]) -> Entry
     ensures { λ r. ⌜ r ≡ entryAt (now (numbers .entry)) 0 ⌝ }
 {
     entry_at(numbers, 0)
 }
 
 // Sixteen entries, of which as many count as there are numbers for.
-pub fn entries_of(numbers: &[usize]) -> [Entry; 16]
+pub(crate) fn entries_of(numbers: &[usize]) -> [Entry; 16]
     ensures { λ r. ⌜ r ≡ entriesFrom (now (numbers .entry)) 0 mostHistories ⌝ }
 {
     [

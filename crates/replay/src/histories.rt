@@ -13,7 +13,7 @@ fn number_of(answer: Answer) -> u64 {
 // ---- adds to a histogram
 // 64 times u64 pattern of an energy, u16 its bin, u16 the count there afterwards; then u16 how many bins have a count.
 // An energy that is dropped has a bin past the last, with count 0.
-pub fn adds_same(case: &[u8]) -> bool {
+pub(crate) fn adds_same(case: &[u8]) -> bool {
     let mut counters = [0u32; 1000];
     all_added(case, &mut counters) && bins_hit(&counters) == fields::number_at(case, 768, 2)
 }
@@ -43,7 +43,7 @@ fn widened(count: u32) -> u64 {
 }
 
 // A number that is no count stands for none.
-pub fn narrowed(number: u64) -> u32 {
+pub(crate) fn narrowed(number: u64) -> u32 {
     if 4294967295 < number {
         return 0;
     }
@@ -74,7 +74,7 @@ fn bins_hit(counters: &[u32]) -> u64 {
 
 // ---- merges
 // u16 refusal (0: merged), u16 how many counters are added; then 16 times u16 bin, u32 its count in one histogram, in the other, and in the first afterwards.
-pub fn merge_same(case: &[u8]) -> bool {
+pub(crate) fn merge_same(case: &[u8]) -> bool {
     let mut into = [0u32; 1000];
     let mut from = [0u32; 1000];
     fill(case, false, &mut into);
@@ -106,7 +106,7 @@ fn fill(case: &[u8], other: bool, counters: &mut [u32]) {
     }
 }
 
-pub fn put(counters: &mut [u32], bin: usize, count: u32) {
+pub(crate) fn put(counters: &mut [u32], bin: usize, count: u32) {
     if bin < counters.len() {
         counters[bin] = count;
     }
@@ -127,7 +127,7 @@ fn all_counted(case: &[u8], counters: &[u32]) -> bool {
 // ---- adds to a queue
 // u16 maximum, u16 places of the store, at most 8 and all 0, u16 head, u16 held; then 12 times u64 pattern of an energy, u16 refusal, u16 head and u16 held afterwards;
 // then the 8 patterns of the store.
-pub fn queue_same(case: &[u8]) -> bool {
+pub(crate) fn queue_same(case: &[u8]) -> bool {
     let mut store = [0.0; 8];
     part_queued(case, &mut store) && store_same(case, &store)
 }

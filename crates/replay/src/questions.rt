@@ -8,7 +8,7 @@ use history::set::Entry;
 use history::set::Shape;
 use range::Range;
 
-pub fn answers_same(case: &[u8]) -> bool {
+pub(crate) fn answers_same(case: &[u8]) -> bool {
     let mut counters = [0u32; 1000];
     let mut energies = [0.0; 24];
     let mut work = [0.0; 24];
