@@ -1,4 +1,5 @@
--- The gated measurement of ITU-R BS.1770, written from that document and not from the Rust, over the energies of its gating blocks.
+-- The gated measurement of ITU-R BS.1770 as that document is commonly cited, and not from the Rust, over the energies of its gating blocks. Its text was not at
+-- hand: docs/DIFFERENCES.md says what is to be checked against it.
 -- The document: a block's loudness is -0.691 + 10 log10 of its energy. Blocks that are not above the absolute gate, -70 LKFS, are left out. The relative
 -- gate lies 10 LU below the loudness of the others' mean energy. The measurement is the mean energy of the blocks above both gates.
 -- In energies, the absolute gate is boundary 0, and 10 LU less is a tenth.

@@ -1,5 +1,6 @@
 -- The loudness range as EBU Tech 3342 has it, over the energies of blocks in any order: an absolute gate at -70 LUFS; a relative gate 20 LU below the mean
--- of the blocks that the first leaves; and of those left the 10th and the 95th percentile, by rank in rising order. It is written from that document.
+-- of the blocks that the first leaves; and of those left the 10th and the 95th percentile, by rank in rising order. It is written from how
+-- that document is commonly cited; its text was not at hand, and docs/DIFFERENCES.md says what is to be checked against it.
 -- What the document leaves open is taken as 01 has it: sums and the factor are f64, the sum in rising order; a block at a gate stays; a percentile that
 -- falls between two ranks is the nearer one, and the upper of two that are as near.
 use Prim.Native.Nat.{ℕ, suc, _+_, _-_, _*_, _/_}
