@@ -1,0 +1,14 @@
+// How the C interface tells an answer: 0, or the refusal's number.
+ghost use mathlib.Core.Path.{_≡_};
+ghost use Rattle.codes.specs.Codes.{numberSaid};
+use refusals::Answer;
+
+// 0, or the refusal's number.
+pub fn number_of(answer: Answer) -> u8
+    ensures { λ r. ⌜ r ≡ numberSaid answer ⌝ }
+{
+    match answer {
+        Answer::Done => 0,
+        Answer::Refused(number) => number,
+    }
+}

@@ -1,0 +1,41 @@
+// The C interface of the tables, the bins and the readings. include/xelamphoun.h declares it.
+ghost use mathlib.Core.Path.{_≡_};
+ghost use Rattle.histogram_bins.specs.Tables.{boundaryAt, energyAt};
+ghost use Rattle.histogram_bins.specs.Bin.{binOf};
+ghost use Rattle.histogram_bins.specs.Reading.{readingOf};
+ghost use Rattle.codes.specs.Codes.{code, valueOr};
+use histogram_bins::Level;
+
+#[no_mangle]
+pub extern "C" fn xel_boundary(i: usize) -> f64
+    ensures { λ r. ⌜ r ≡ boundaryAt i ⌝ }
+{
+    histogram_bins::tables::boundary(i)
+}
+
+#[no_mangle]
+pub extern "C" fn xel_energy(i: usize) -> f64
+    ensures { λ r. ⌜ r ≡ energyAt i ⌝ }
+{
+    histogram_bins::tables::energy(i)
+}
+
+#[no_mangle]
+pub extern "C" fn xel_find_histogram_index(energy: f64) -> usize
+    ensures { λ r. ⌜ r ≡ binOf energy ⌝ }
+{
+    histogram_bins::find_histogram_index(energy)
+}
+
+#[no_mangle]
+pub extern "C" fn xel_reading(energy: f64, tenths: &mut i32) -> u8
+    ensures { λ r. ⌜ (r ≡ code (readingOf energy)) × (now (tenths .exit) ≡ valueOr (now (tenths .entry)) (readingOf energy)) ⌝ }
+{
+    match histogram_bins::reading(energy) {
+        Level::Tenths(t) => {
+            *tenths = t;
+            0
+        }
+        Level::Refused(number) => number,
+    }
+}

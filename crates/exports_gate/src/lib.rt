@@ -1,0 +1,86 @@
+// The C interface of the gate. include/xelamphoun.h declares it.
+ghost use mathlib.Core.Path.{_≡_};
+ghost use Rattle.gate.specs.Gate.{gateOf};
+ghost use Rattle.gate.specs.GatedEnergy.{gatedEnergyOf};
+ghost use Rattle.gate.specs.Relative.{relativeOf};
+ghost use Rattle.codes.specs.Codes.{code, valueOr};
+ghost use Rattle.entries.specs.Sets.{asked, askedAlone};
+ghost use Rattle.exports_gate.specs.Measures.{totalsOver, floatOr};
+use gate::Energy;
+use gate::Gated;
+use gate::Threshold;
+
+#[no_mangle]
+pub extern "C" fn xel_gate(
+    entries: &[usize],
+    counters: &[u32],
+    energies: &[f64],
+    blocks: &mut u64,
+    sum: &mut f64,
+) -> u8
+    ensures { λ r. ⌜ (r ≡ code (asked gateOf (now (entries .entry)) (now (counters .entry)) (now (energies .entry))))
+        × (now (blocks .exit) ≡ valueOr (totalsOver (now (blocks .entry)) (now (sum .entry))) (asked gateOf (now (entries .entry)) (now (counters .entry)) (now (energies .entry))) .count)
+        × (now (sum .exit) ≡ valueOr (totalsOver (now (blocks .entry)) (now (sum .entry))) (asked gateOf (now (entries .entry)) (now (counters .entry)) (now (energies .entry))) .sum) ⌝ }
+{
+    if entries.len() % entries::NUMBERS != 0 {
+        return refusals::SET;
+    }
+    let count = entries.len() / entries::NUMBERS;
+    match gate::gate(entries::entries_of(entries), count, counters, energies) {
+        Gated::Blocks(above, total) => {
+            *blocks = above;
+            *sum = total;
+            0
+        }
+        Gated::Refused(number) => number,
+    }
+}
+
+#[no_mangle]
+pub extern "C" fn xel_gated_energy(
+    entries: &[usize],
+    counters: &[u32],
+    energies: &[f64],
+    energy: &mut f64,
+) -> u8
+    ensures { λ r. ⌜ (r ≡ code (asked gatedEnergyOf (now (entries .entry)) (now (counters .entry)) (now (energies .entry))))
+        × (now (energy .exit) ≡ valueOr (now (energy .entry)) (asked gatedEnergyOf (now (entries .entry)) (now (counters .entry)) (now (energies .entry)))) ⌝ }
+{
+    if entries.len() % entries::NUMBERS != 0 {
+        return refusals::SET;
+    }
+    let count = entries.len() / entries::NUMBERS;
+    match gate::gated_energy(entries::entries_of(entries), count, counters, energies) {
+        Energy::Of(mean) => {
+            *energy = mean;
+            0
+        }
+        Energy::Refused(number) => number,
+    }
+}
+
+#[no_mangle]
+pub extern "C" fn xel_relative_threshold(
+    entry: &[usize],
+    counters: &[u32],
+    energies: &[f64],
+    value: &mut f64,
+) -> u8
+    ensures { λ r. ⌜ (r ≡ code (askedAlone relativeOf (now (entry .entry)) (now (counters .entry)) (now (energies .entry))))
+        × (now (value .exit) ≡ floatOr (now (value .entry)) (askedAlone relativeOf (now (entry .entry)) (now (counters .entry)) (now (energies .entry)))) ⌝ }
+{
+    if entry.len() != entries::NUMBERS {
+        return refusals::SET;
+    }
+    match gate::relative_threshold(entries::first_of(entry), counters, energies) {
+        Threshold::Loudness(loudness) => {
+            *value = loudness;
+            0
+        }
+        Threshold::Energy(energy) => {
+            *value = energy;
+            0
+        }
+        Threshold::Refused(number) => number,
+    }
+}

@@ -1,0 +1,26 @@
+-- `exports_histories::xel_histogram_merge` meets its contract: what the answer says is told by its number. Assumes nothing.
+use mathlib.Core.Path.{_∙_}
+use borrow.Author.Needs.{needs}
+use denote.Ref.{now}
+use Rattle.history.specs.Histogram.{mergeInto}
+use Rattle.codes.proofs.Told.{answer-told}
+use Rattle.exports_histories.proofs.xel_histogram_merge.Statement.{statement}
+use Rattle.exports_histories.proofs.xel_histogram_merge.Tie as tie
+
+merge-requires : tie.Need-merge-requires
+merge-requires c κs = search needs
+
+number-of-requires : tie.Need-number-of-requires
+number-of-requires c κs = search needs
+
+same-length : tie.Need-same-length
+same-length c = search needs
+
+returns : tie.Need-returns
+returns c =
+    let at-start = c .before .before .before .before .before .before .before .args in
+    let call = c .before .before .before .merge in
+    (c .number-of .ensures ∙ answer-told (mergeInto (now (at-start .into)) (now (at-start .from))) (call .result) (call .ensures .0), call .ensures .1)
+
+pub xel-histogram-merge-spec : {M : Type 1} → statement M
+xel-histogram-merge-spec = tie.close (tie.spec merge-requires number-of-requires same-length returns)

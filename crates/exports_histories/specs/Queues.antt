@@ -1,0 +1,13 @@
+-- A queue as the C interface takes it: its numbers, each in its own place, over its store.
+use Prim.Native.Nat.{ℕ}
+use mathlib.Core.List.{List}
+use lib.Ieee.{Float}
+use Rattle.refusals.specs.Outcome.{keptBy}
+use Rattle.history.specs.Queue.{Stored, over, enqueued}
+
+abbrev pub queueOver : ℕ → ℕ → ℕ → List Float → Stored
+queueOver maximum head held store = over (record { maximum = maximum; head = head; held = held }) store
+
+-- the queue and its store after an energy was added, or refused
+abbrev pub afterAdd : Stored → Float → Stored
+afterAdd given energy = keptBy given (enqueued given energy)

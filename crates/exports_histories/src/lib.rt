@@ -1,0 +1,59 @@
+// The C interface of the histories. include/xelamphoun.h declares it.
+ghost use mathlib.Core.Path.{_≡_};
+ghost use Rattle.refusals.specs.Outcome.{keptBy};
+ghost use Rattle.codes.specs.Codes.{code};
+ghost use Rattle.history.specs.Histogram.{addTo, mergeInto, cleared};
+ghost use Rattle.history.specs.Queue.{enqueued};
+ghost use Rattle.exports_histories.specs.Queues.{queueOver, afterAdd};
+use codes::number_of;
+use history::queue::Queue;
+
+#[no_mangle]
+pub extern "C" fn xel_histogram_add(counters: &mut [u32], energy: f64) -> u8
+    ensures { λ r. ⌜ (r ≡ code (addTo (now (counters .entry)) energy))
+        × (now (counters .exit) ≡ keptBy (now (counters .entry)) (addTo (now (counters .entry)) energy)) ⌝ }
+{
+    number_of(history::histogram::add(counters, energy))
+}
+
+#[no_mangle]
+pub extern "C" fn xel_histogram_merge(into: &mut [u32], from: &[u32]) -> u8
+    ensures { λ r. ⌜ (r ≡ code (mergeInto (now (into .entry)) (now (from .entry))))
+        × (now (into .exit) ≡ keptBy (now (into .entry)) (mergeInto (now (into .entry)) (now (from .entry)))) ⌝ }
+{
+    number_of(history::histogram::merge(into, from))
+}
+
+#[no_mangle]
+pub extern "C" fn xel_histogram_reset(counters: &mut [u32]) -> u8
+    ensures { λ r. ⌜ (r ≡ code (cleared (now (counters .entry))))
+        × (now (counters .exit) ≡ keptBy (now (counters .entry)) (cleared (now (counters .entry)))) ⌝ }
+{
+    number_of(history::histogram::reset(counters))
+}
+
+#[no_mangle]
+pub extern "C" fn xel_queue_add(
+    maximum: usize,
+    head: &mut usize,
+    held: &mut usize,
+    store: &mut [f64],
+    energy: f64,
+) -> u8
+    ensures { λ r. ⌜ (r ≡ code (enqueued (queueOver maximum (now (head .entry)) (now (held .entry)) (now (store .entry))) energy))
+        × (now (head .exit) ≡ afterAdd (queueOver maximum (now (head .entry)) (now (held .entry)) (now (store .entry))) energy .queue .head)
+        × (now (held .exit) ≡ afterAdd (queueOver maximum (now (head .entry)) (now (held .entry)) (now (store .entry))) energy .queue .held)
+        × (now (store .exit) ≡ afterAdd (queueOver maximum (now (head .entry)) (now (held .entry)) (now (store .entry))) energy .store) ⌝ }
+{
+    let given = Queue {
+        maximum,
+        head: *head,
+        held: *held,
+    };
+    let queued = given.add(store, energy);
+    let after = queued.queue;
+    *head = after.head;
+    *held = after.held;
+    let answer = queued.answer;
+    number_of(answer)
+}
