@@ -1,5 +1,9 @@
 //! The numbers of the refusals, as document 01 lists them.
 
+pub const CHANNELS: u8 = 1;
+pub const SAMPLES: u8 = 2;
+pub const MAP: u8 = 3;
+pub const DEST: u8 = 4;
 pub const STORE: u8 = 5;
 pub const FULL: u8 = 6;
 pub const SET: u8 = 7;
@@ -12,6 +16,10 @@ pub const ROOM: u8 = 15;
 /// The name of a refusal.
 pub fn name(number: u8) -> &'static str {
     match number {
+        CHANNELS => "CHANNELS",
+        SAMPLES => "SAMPLES",
+        MAP => "MAP",
+        DEST => "DEST",
         STORE => "STORE",
         FULL => "FULL",
         SET => "SET",

@@ -27,6 +27,11 @@ impl Rng {
     }
 }
 
+/// One of these.
+pub fn pick<T: Copy>(from: &[T], rng: &mut Rng) -> T {
+    from[rng.below(from.len() as u64) as usize]
+}
+
 #[cfg(test)]
 mod tests {
     use super::Rng;

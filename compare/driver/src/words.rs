@@ -1,6 +1,7 @@
 //! Document 01's words on histories, where the Rust has no say: the refusals, counters of 32 bits,
-//! merging, and the places of a queue's store.
+//! merging, and the places of a queue's store. Those on the range and the filter are beside them.
 
+pub mod filter;
 pub mod range;
 
 use crate::oracle::{self, BOUNDARIES};

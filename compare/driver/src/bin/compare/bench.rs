@@ -3,6 +3,7 @@
 //! work on the machine can only add to a time.
 
 mod bins;
+mod filter;
 mod histories;
 mod questions;
 
@@ -35,6 +36,7 @@ pub fn run(seed: u64) {
     }
     histories::run(&mut rng);
     questions::run(&mut rng);
+    filter::run(&mut rng);
 }
 
 /// Times both sides, which each do `items` items a call, and prints the row.

@@ -1,11 +1,14 @@
 //! The comparison: one function an operation, each a stream of cases that ends at the first difference.
 
 mod bins;
+mod filter;
 mod gate;
 mod histogram;
+mod interp;
 mod queue;
 mod range;
 mod sets;
+mod true_peak;
 
 use std::fmt::{self, Debug};
 
@@ -27,7 +30,10 @@ pub fn run(seed: u64) -> Result<(), Difference> {
     histogram::run(seed)?;
     queue::run(seed)?;
     gate::run(seed)?;
-    range::run(seed)
+    range::run(seed)?;
+    interp::run(seed)?;
+    true_peak::run(seed)?;
+    filter::run(seed)
 }
 
 /// An operation under comparison, the cases that were the same so far, and how often each refusal
@@ -117,6 +123,17 @@ fn shown(energy: f64) -> String {
 /// The same float; every NaN is the same.
 fn same_float(a: f64, b: f64) -> bool {
     a.to_bits() == b.to_bits() || a.is_nan() && b.is_nan()
+}
+
+/// The same floats, place by place.
+fn same_floats(a: &[f64], b: &[f64]) -> bool {
+    a.len() == b.len() && a.iter().zip(b).all(|(&a, &b)| same_float(a, b))
+}
+
+/// As `same_floats`; a float of 32 bits is the same after it was made wider.
+fn same_narrow(a: &[f32], b: &[f32]) -> bool {
+    let mut pairs = a.iter().zip(b);
+    a.len() == b.len() && pairs.all(|(&a, &b)| same_float(f64::from(a), f64::from(b)))
 }
 
 /// What stands in a place that a question does not write.

@@ -1,5 +1,7 @@
 //! The proved library's functions, as include/xelamphoun.h declares them, and safe names for them.
 
+pub mod filter;
+
 use driver::sets::Set;
 
 mod c {

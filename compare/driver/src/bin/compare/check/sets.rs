@@ -2,15 +2,11 @@
 
 use driver::energies::{self, above, below};
 use driver::oracle::{BOUNDARIES, ENERGIES};
-use driver::rng::Rng;
+use driver::rng::{pick, Rng};
 use driver::sets::Set;
 use driver::words::{self, range::ranks};
 
 const LONGEST: usize = 36_000;
-
-fn pick<T: Copy>(from: &[T], rng: &mut Rng) -> T {
-    from[rng.below(from.len() as u64) as usize]
-}
 
 /// An energy that a queue can hold: mostly within the table, at its values, or next to them; now and
 /// then any float, an infinity or a NaN.
