@@ -65,7 +65,7 @@ impl Kind for f32 {
             Sound::Quiet => f32::from_bits(rng.bits() as u32 & 0x80FF_FFFF),
             Sound::Clicks => rarely(16, rng).unwrap_or(0.0),
             Sound::Silence => pick(&[0.0, -0.0], rng),
-            Sound::Odd if rng.below(64) == 0 => pick(&ODD, rng),
+            Sound::Odd if rng.below(64) == 0 => f32::from_bits(pick(&ODD, rng)),
             Sound::Odd => f32::sample(Sound::Noise, rng),
             Sound::Wild => f32::from_bits(rng.bits() as u32),
         }
@@ -77,18 +77,21 @@ fn rarely<T: Kind>(times: u64, rng: &mut Rng) -> Option<T> {
     (rng.below(times) == 0).then(|| T::sample(Sound::Noise, rng))
 }
 
-const ODD: [f32; 11] = [
-    f32::INFINITY,
-    f32::NEG_INFINITY,
-    f32::NAN,
-    f32::MAX,
-    f32::MIN,
-    f32::MIN_POSITIVE,
-    -0.0,
-    f32::from_bits(0x0000_0001), // the smallest subnormal
-    f32::from_bits(0x807F_FFFF), // the largest, negative
-    f32::from_bits(0x7FA0_1234), // a signalling NaN
-    f32::from_bits(0xFFD5_AAAA), // a quiet NaN with a sign and a payload
+/// Patterns of infinities, NaNs with odd payloads, zeros and both ends of the normal range and the
+/// subnormal one.
+const ODD: [u32; 12] = [
+    0x7F80_0000, // infinity
+    0xFF80_0000,
+    0x7FC0_0000, // the usual NaN
+    0x7FA0_1234, // a signalling NaN
+    0xFFD5_AAAA, // a quiet NaN with a sign and a payload
+    0x7F7F_FFFF, // largest finite
+    0xFF7F_FFFF,
+    0x0080_0000, // smallest normal
+    0x807F_FFFF, // largest subnormal, negative
+    0x0000_0001, // smallest subnormal
+    0x0000_0000,
+    0x8000_0000,
 ];
 
 /// So many samples.

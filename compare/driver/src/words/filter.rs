@@ -156,9 +156,9 @@ impl<T: Sample> Call<'_, T> {
     /// Step 3: "Per channel, unused ones too: start at 0, take the largest absolute value; NaN never
     /// wins. It replaces the stored peak only if greater."
     fn sample_peak(&self, peaks: &mut [f64]) {
-        for c in 0..self.channels {
+        for (c, peak) in peaks.iter_mut().enumerate().take(self.channels) {
             let values = self.column(c).map(|sample| sample.wide().abs());
-            peaks[c] = greater(peaks[c], values.fold(0.0, greater));
+            *peak = greater(*peak, values.fold(0.0, greater));
         }
     }
 

@@ -6,8 +6,9 @@
 //! By the `Debug` form, which shows the field `filter`; a float's `Debug` form reads back as the same
 //! float, the sign of zero included. So that form decides, and behaviour confirms it but for that sign.
 
-use std::fmt::{Debug, Write};
+use std::fmt::Write;
 
+use driver::shown;
 use ebur128::interp::InterpF;
 
 /// A line `factor index pattern value` for each coefficient.
@@ -20,7 +21,7 @@ pub fn text() -> String {
 
 fn write_factor<const TAPS: usize, const FACTOR: usize>(text: &mut String) {
     let fresh = InterpF::<TAPS, FACTOR, [f32; 1]>::new();
-    let shown = by_debug(&fresh);
+    let shown: Vec<f32> = shown::list(&format!("{fresh:?}"), "filter");
     let heard = by_impulse(fresh);
     // Floats compare as numbers here: zeros of either sign are equal.
     assert_eq!(shown, heard, "factor {FACTOR}: field and behaviour differ");
@@ -38,18 +39,5 @@ fn by_impulse<const TAPS: usize, const FACTOR: usize>(
     (0..TAPS)
         .flat_map(|i| interp.interpolate([if i == 0 { 1.0 } else { 0.0 }]))
         .map(|[phase]| phase)
-        .collect()
-}
-
-fn by_debug(interp: &impl Debug) -> Vec<f32> {
-    let form = format!("{interp:?}");
-    let (_, rest) = form
-        .split_once("filter: [[")
-        .expect("InterpF shows its filter");
-    let (filter, _) = rest.split_once("]]").expect("the filter ends");
-    filter
-        .split(", ")
-        .map(|number| number.trim_matches(|c| c == '[' || c == ']'))
-        .map(|number| number.parse().expect("the filter holds floats"))
         .collect()
 }

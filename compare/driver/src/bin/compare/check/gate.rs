@@ -11,34 +11,16 @@ use super::sets;
 use super::{same_float, Difference, Operation, UNTOUCHED};
 use crate::ours;
 
-const SMALL_QUEUES: usize = 1_500_000;
-const SPARSE: usize = 150_000;
-const MIXED: usize = 20_000;
 const EXACT: usize = 200_000;
-const REFUSED: usize = 300_000;
 
 pub fn run(seed: u64) -> Result<(), Difference> {
     let mut asked = Asked::new();
     let rng = &mut Rng::new(seed);
-    for _ in 0..SMALL_QUEUES {
-        asked.all(&sets::small_queues(rng))?;
-    }
-    for _ in 0..SPARSE {
-        asked.all(&sets::sparse_histograms(rng))?;
-    }
-    for i in 0..MIXED {
-        asked.all(&sets::mixed(i % 17, rng))?;
-    }
+    sets::each(rng, |set, _| asked.all(set))?;
     for i in 0..EXACT {
         let (set, exact) = sets::threshold_on_an_energy(i, rng);
         asked.all(&set)?;
         asked.exact += usize::from(exact);
-    }
-    for _ in 0..REFUSED {
-        asked.all(&sets::perhaps_refused(rng))?;
-    }
-    for set in sets::large(rng) {
-        asked.all(&set)?;
     }
     asked.same()
 }

@@ -13,26 +13,14 @@ use ebur128::history::History;
 use super::{same_float, sets, Difference, Operation, UNTOUCHED};
 use crate::ours::{self, NOTHING, NOT_A_NUMBER};
 
-const SMALL_QUEUES: usize = 1_500_000;
-const SPARSE: usize = 150_000;
-const MIXED: usize = 20_000;
 const SO_MANY: usize = 6_000;
 const EDGES: usize = 50_000;
 const EXACT: usize = 200_000;
-const REFUSED: usize = 300_000;
 
 pub fn run(seed: u64) -> Result<(), Difference> {
     let mut asked = Asked::new();
     let rng = &mut Rng::new(seed);
-    for _ in 0..SMALL_QUEUES {
-        asked.range(&sets::small_queues(rng), rng)?;
-    }
-    for _ in 0..SPARSE {
-        asked.range(&sets::sparse_histograms(rng), rng)?;
-    }
-    for i in 0..MIXED {
-        asked.range(&sets::mixed(i % 17, rng), rng)?;
-    }
+    sets::each(rng, |set, rng| asked.range(set, rng))?;
     for i in 0..SO_MANY {
         asked.range(&sets::so_many_in_a_queue(i % 300, rng), rng)?;
         asked.range(&sets::so_many_in_a_histogram(i % 300, rng), rng)?;
@@ -44,12 +32,6 @@ pub fn run(seed: u64) -> Result<(), Difference> {
         let (set, exact) = sets::range_gate_on_an_energy(rng);
         asked.range(&set, rng)?;
         asked.exact += usize::from(exact);
-    }
-    for _ in 0..REFUSED {
-        asked.range(&sets::perhaps_refused(rng), rng)?;
-    }
-    for set in sets::large(rng) {
-        asked.range(&set, rng)?;
     }
     asked.same()
 }

@@ -6,11 +6,41 @@ use driver::rng::{pick, Rng};
 use driver::sets::Set;
 use driver::words::{self, range::ranks};
 
+use super::Difference;
+
 const LONGEST: usize = 36_000;
+
+const SMALL_QUEUES: usize = 1_500_000;
+const SPARSE: usize = 150_000;
+const MIXED: usize = 20_000;
+const REFUSED: usize = 300_000;
+
+/// Asks about each set that every question is asked about.
+pub fn each(
+    rng: &mut Rng,
+    mut ask: impl FnMut(&Set, &mut Rng) -> Result<(), Difference>,
+) -> Result<(), Difference> {
+    for _ in 0..SMALL_QUEUES {
+        ask(&small_queues(rng), rng)?;
+    }
+    for _ in 0..SPARSE {
+        ask(&sparse_histograms(rng), rng)?;
+    }
+    for i in 0..MIXED {
+        ask(&mixed(i % 17, rng), rng)?;
+    }
+    for _ in 0..REFUSED {
+        ask(&perhaps_refused(rng), rng)?;
+    }
+    for set in large(rng) {
+        ask(&set, rng)?;
+    }
+    Ok(())
+}
 
 /// An energy that a queue can hold: mostly within the table, at its values, or next to them; now and
 /// then any float, an infinity or a NaN.
-pub fn energy(rng: &mut Rng) -> f64 {
+fn energy(rng: &mut Rng) -> f64 {
     loop {
         let energy = match rng.below(64) {
             0 => energies::any(rng),
@@ -63,7 +93,7 @@ fn push_dense(set: &mut Set, rng: &mut Rng) {
 }
 
 /// One to three queues of up to 12 energies.
-pub fn small_queues(rng: &mut Rng) -> Set {
+fn small_queues(rng: &mut Rng) -> Set {
     let mut set = Set::default();
     for _ in 0..1 + rng.below(3) {
         push_queue(&mut set, 12, rng);
@@ -72,7 +102,7 @@ pub fn small_queues(rng: &mut Rng) -> Set {
 }
 
 /// One or two histograms.
-pub fn sparse_histograms(rng: &mut Rng) -> Set {
+fn sparse_histograms(rng: &mut Rng) -> Set {
     let mut set = Set::default();
     for _ in 0..1 + rng.below(2) {
         match rng.below(4) {
@@ -84,7 +114,7 @@ pub fn sparse_histograms(rng: &mut Rng) -> Set {
 }
 
 /// So many histories, of both kinds or of one; an entry may repeat another, or overlap it.
-pub fn mixed(number: usize, rng: &mut Rng) -> Set {
+fn mixed(number: usize, rng: &mut Rng) -> Set {
     let kinds = rng.below(3);
     let mut set = Set::default();
     for i in 0..number {
@@ -220,7 +250,7 @@ fn nearest(target: f64, guess: f64, function: impl Fn(f64) -> f64) -> f64 {
 }
 
 /// A small set with a number changed, or a held energy, or with more entries than a set has.
-pub fn perhaps_refused(rng: &mut Rng) -> Set {
+fn perhaps_refused(rng: &mut Rng) -> Set {
     let mut set = Set::default();
     for _ in 0..1 + rng.below(3) {
         match rng.below(8) {
@@ -266,7 +296,7 @@ pub fn perhaps_refused(rng: &mut Rng) -> Set {
 }
 
 /// The largest sets: sixteen full histograms, and sixteen full queues.
-pub fn large(rng: &mut Rng) -> Vec<Set> {
+fn large(rng: &mut Rng) -> Vec<Set> {
     let (mut full, mut dense, mut queues) = (Set::default(), Set::default(), Set::default());
     for i in 0..16 {
         full.push_histogram(&[u32::MAX; 1000]);

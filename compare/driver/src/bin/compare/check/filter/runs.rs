@@ -9,8 +9,8 @@ use super::pair::{Asked, Pair};
 use crate::check::Difference;
 use crate::ours::filter::Lent;
 
-const RANDOM: usize = 15_000;
-const LONG: usize = 100;
+const RANDOM: usize = 40_000;
+const LONG: usize = 150;
 const TAILS: usize = 6;
 
 /// Of all three classes, at their edges, and odd ones.
