@@ -44,7 +44,8 @@ pub fn run(rng: &mut Rng) {
     }
 }
 
-/// A row of so many calls to a second, nanoseconds a sample.
+/// A row of so many calls to a second, nanoseconds a sample. Nothing of it is known to either side before.
+#[inline(never)]
 fn second<T: Kind + Lent>(
     name: &str,
     on: u8,

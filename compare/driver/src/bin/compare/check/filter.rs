@@ -17,7 +17,7 @@ pub fn run(seed: u64) -> Result<(), Difference> {
 }
 
 /// What of all that passes from call to call is not the same on both sides, if anything.
-fn parted(ours: &Kept, expected: &Kept) -> Option<&'static str> {
+pub fn parted(ours: &Kept, expected: &Kept) -> Option<&'static str> {
     let same = [
         ("state", same_floats(&ours.state, &expected.state)),
         ("sample peaks", same_floats(&ours.peaks, &expected.peaks)),

@@ -8,7 +8,8 @@ use driver::words::filter::{self, Call, Kept, PAST, TRUE_PEAK};
 use ebur128::true_peak::TruePeak;
 use ebur128::Interleaved;
 
-use super::{same_narrow, Difference, Operation, UNTOUCHED};
+use super::filter::parted;
+use super::{Difference, Operation, UNTOUCHED};
 use crate::ours::filter::Lent;
 
 const RUNS: usize = 30_000;
@@ -99,53 +100,30 @@ impl Pair {
         };
         let input = || format!("{call:?}");
         op.answer(input, number, 0)?;
-        let expected = self.expected();
-        let peaks = same_narrow(&self.kept.true_peaks, &expected.true_peaks);
-        op.also(input, "the peaks", peaks)?;
-        let memory = self.remembers_as_the_rust() && self.leaves_the_rest(&expected);
-        op.also(input, "the memory", memory)?;
+        let parted = parted(&self.kept, &self.expected());
+        op.also(input, parted.unwrap_or_default(), parted.is_none())?;
         Ok(data.len())
     }
 
-    /// The Rust's peaks, and what past the channels and without a true peak stays as it was.
+    /// The Rust's peaks and buffers, and all else as it was. The Rust keeps as many samples as the rate has
+    /// taps, the last frame's among them: at factor 2 one more than ours, at factor 4 eleven fewer.
     fn expected(&self) -> Kept {
         let mut kept = Kept::new(self.channels, UNTOUCHED as f32);
         for (ours, &rust) in kept.true_peaks.iter_mut().zip(&self.peaks) {
             *ours = rust as f32;
         }
-        kept
-    }
-
-    /// The Rust keeps as many samples as the rate has taps, the last frame's among them: at factor 2 one
-    /// more than ours, at factor 4 eleven fewer.
-    fn remembers_as_the_rust(&self) -> bool {
-        let (Some(rust), Some(factor)) = (&self.rust, filter::factor(self.rate)) else {
-            return self.kept.memory[..PAST * self.channels]
-                .iter()
-                .all(|x| x.to_bits() == 0);
+        let Some(rust) = &self.rust else {
+            return kept;
         };
-        let taps = 48 / factor;
+        let taps = 48 / filter::factor(self.rate).expect("the Rust has a true peak");
         let buffers = filters::buffers(rust, taps);
-        let reach = taps.min(PAST);
-        let mut pairs = self.kept.memory.chunks(PAST).zip(&buffers);
-        buffers.len() == self.channels
-            && pairs.all(|(ours, rust)| same_narrow(&ours[..reach], &rust[..reach]))
-    }
-
-    fn leaves_the_rest(&self, expected: &Kept) -> bool {
-        let past = PAST * self.channels;
-        same_narrow(&self.kept.memory[past..], &expected.memory[past..])
-            && self
-                .kept
-                .state
-                .iter()
-                .zip(&expected.state)
-                .all(|(a, b)| a == b)
-            && self
-                .kept
-                .peaks
-                .iter()
-                .zip(&expected.peaks)
-                .all(|(a, b)| a == b)
+        assert_eq!(buffers.len(), self.channels);
+        let channels = PAST * self.channels;
+        kept.memory[..channels].copy_from_slice(&self.kept.memory[..channels]);
+        for (ours, rust) in kept.memory.chunks_mut(PAST).zip(&buffers) {
+            let shown = taps.min(PAST);
+            ours[..shown].copy_from_slice(&rust[..shown]);
+        }
+        kept
     }
 }
