@@ -68,16 +68,22 @@ impl Asked {
         self.seed.same("the same calls", &[CHANNELS, SAMPLES, MAP])
     }
 
+    /// The samples of a call that was not refused.
+    fn count<T>(&mut self, number: u8, call: &Call<T>) {
+        if number == 0 {
+            self.samples += call.data.len();
+        }
+    }
+
     /// Both operations on what is given; all that was lent is looked at.
     fn both<T: Kind + Lent>(&mut self, given: &Given<T>, rng: &mut Rng) -> Result<(), Difference> {
         let call = given.call();
         let before = any_kept(rng);
         let input = || format!("{} over {before:?}, {} places", shown(&call), given.places);
-        self.samples += 2 * call.data.len();
-
         let (mut ours, mut words) = (before.clone(), before.clone());
         let number = T::seed(&call, &mut ours);
         self.seed.answer(input, number, call.seed(&mut words))?;
+        self.count(number, &call);
         let seeded = parted(&ours, &words);
         self.seed
             .also(input, seeded.unwrap_or_default(), seeded.is_none())?;
@@ -88,6 +94,7 @@ impl Asked {
         let number = T::process(&call, &mut ours, &mut dest);
         let refusal = call.process(&mut words, &mut expected);
         self.process.answer(input, number, refusal)?;
+        self.count(number, &call);
         let parted = parted(&ours, &words);
         self.process
             .also(input, parted.unwrap_or_default(), parted.is_none())?;
