@@ -93,6 +93,88 @@ size_t xel_find_histogram_index(double energy);
 uint8_t xel_reading(double energy, int32_t *tenths);
 
 /*
+ * The filter: sample peak, weighting and true peak over interleaved samples, 1 to 8 channels. The
+ * caller owns its state, which a call takes and gives back in place:
+ *
+ *   state       40 doubles: channel c's five at 5c to 5c + 4. All 0 in a new measurement
+ *   peaks       8 doubles: channel c's sample peak at c. All 0 at first, and to begin peaks anew
+ *   memory      184 floats: channel c's last 23 samples, newest first, from 23c on. All 0 at first
+ *   true_peaks  8 floats: channel c's true peak at c. All 0 at first
+ *
+ * Places of channels that the call does not have stay as they are. What is switched off alters
+ * nothing and its arrays must be lent all the same.
+ */
+
+/* What a call works out: the sum of these. Higher bits are not looked at. */
+#define XEL_LOUDNESS 1
+#define XEL_SAMPLE_PEAK 2
+#define XEL_TRUE_PEAK 4
+
+#define XEL_MOST_CHANNELS 8
+#define XEL_STATE 40
+#define XEL_MEMORY 184
+
+/*
+ * One call over interleaved samples. Sample peak and true peak look at every channel, the weighting at
+ * the used ones; an unused one keeps its state and its part of the destination.
+ *
+ *   channels    1 to 8
+ *   rate        samples a second: below 96000 the true peak looks four times a frame, below 192000
+ *               twice, else it is off. Nothing else looks at it
+ *   on          a sum of XEL_LOUDNESS, XEL_SAMPLE_PEAK, XEL_TRUE_PEAK
+ *   a, b        the weighting's coefficients, five each: a weighs the state, b the output. a[0] is
+ *               not looked at
+ *   state, peaks, memory, true_peaks  as above
+ *   data, data_len  the samples, channel after channel within a frame. An int16_t s counts as s/32768
+ *   map, map_len  a byte a channel: 1 where it is used, 0 where not
+ *   dest, dest_len  with XEL_LOUDNESS, an equal part for each channel, one after the other. The
+ *               weighted frames go to each used channel's part from its place start on; all other
+ *               places stay. Without XEL_LOUDNESS it is not touched, and may have length 0
+ *   start       the first place within each part
+ *   answers  0; XEL_CHANNELS; XEL_SAMPLES where data_len is not a multiple of channels; XEL_MAP where
+ *            map_len is not channels or a byte is neither 0 nor 1; XEL_DEST, with XEL_LOUDNESS, where
+ *            dest_len is 0 or not a multiple of channels, or a part has no room for the frames from
+ *            start on
+ */
+uint8_t xel_process_i16(size_t channels, uint32_t rate, uint8_t on, const double a[5],
+                        const double b[5], double state[40], double peaks[8], float memory[184],
+                        float true_peaks[8], const int16_t *data, size_t data_len,
+                        const uint8_t *map, size_t map_len, double *dest, size_t dest_len,
+                        size_t start);
+
+/* The same over float samples, of any value. */
+uint8_t xel_process_f32(size_t channels, uint32_t rate, uint8_t on, const double a[5],
+                        const double b[5], double state[40], double peaks[8], float memory[184],
+                        float true_peaks[8], const float *data, size_t data_len,
+                        const uint8_t *map, size_t map_len, double *dest, size_t dest_len,
+                        size_t start);
+
+/*
+ * Moves the states as xel_process_i16 would, and writes no peak and no destination: state with
+ * XEL_LOUDNESS, memory with XEL_TRUE_PEAK. XEL_SAMPLE_PEAK has nothing to move.
+ *
+ *   answers  0; XEL_CHANNELS, XEL_SAMPLES or XEL_MAP
+ */
+uint8_t xel_seed_i16(size_t channels, uint32_t rate, uint8_t on, const double a[5],
+                     double state[40], float memory[184], const int16_t *data, size_t data_len,
+                     const uint8_t *map, size_t map_len);
+
+/* The same over float samples. */
+uint8_t xel_seed_f32(size_t channels, uint32_t rate, uint8_t on, const double a[5],
+                     double state[40], float memory[184], const float *data, size_t data_len,
+                     const uint8_t *map, size_t map_len);
+
+/*
+ * The interpolator's phases at a frame, from the frame's own sample and those before it, newest
+ * first; before the start a sample is 0. Their largest magnitude is what the true peak keeps.
+ *
+ *   samples  12, or 24, floats of any value
+ *   phases   receives 4, or 2
+ */
+void xel_phases_fourfold(const float samples[12], float phases[4]);
+void xel_phases_twofold(const float samples[24], float phases[2]);
+
+/*
  * Histories of block energies. The caller owns the memory: a histogram is 1000 counters, a queue a
  * store of energies with three numbers beside it. A slice is a pointer and its length, in elements;
  * the pointer must not be null and must point to so many elements, aligned as C aligns them. Slices

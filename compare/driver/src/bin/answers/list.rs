@@ -3,6 +3,7 @@
 //! lines that the program prints when every answer is the same. A new operation is a new function
 //! here or in a module below, and a line in `sections`.
 
+mod filter;
 mod histories;
 mod questions;
 
@@ -31,6 +32,9 @@ fn sections() -> Vec<Section> {
         ("merges", histories::merges()),
         ("queue adds", histories::queue_adds()),
         ("questions", questions::questions()),
+        ("phases", filter::phases()),
+        ("filter calls", filter::calls()),
+        ("impulses", filter::impulses()),
     ];
     let numbered = (1..).zip(named);
     numbered
