@@ -8,7 +8,7 @@ use lib.ListN.{length, getD}
 use lib.Ieee.{Float}
 use Rattle.refusals.specs.Refusal.{SET}
 use Rattle.refusals.specs.Outcome.{Outcome, Question, refused}
-use Rattle.history.specs.declared.queue.Queue.{Queue}
+use Rattle.queue.specs.declared.Queue.{Queue}
 use Rattle.history.specs.declared.set.Entry.{Entry}
 use Rattle.history.specs.declared.set.Shape.the-variants.{Histogram, Queue as Queue-at}
 use Rattle.history.specs.Set.{Histories}

@@ -1,7 +1,7 @@
 // A set of histories as the C interface takes it: five numbers an entry.
-use history::queue::Queue;
 use history::set::Entry;
 use history::set::Shape;
+use queue::Queue;
 ghost use mathlib.Core.Path.{_≡_};
 ghost use Prim.Native.Nat.{_≤_};
 ghost use lib.ListN.{getD};

@@ -1,6 +1,6 @@
 // The C interface of the tables, the bins and the readings. include/xelamphoun.h declares it.
 ghost use mathlib.Core.Path.{_≡_};
-ghost use Rattle.histogram_bins.specs.Tables.{boundaryAt, energyAt};
+ghost use Rattle.tables.specs.Tables.{boundaryAt, energyAt};
 ghost use Rattle.histogram_bins.specs.Bin.{binOf};
 ghost use Rattle.histogram_bins.specs.Reading.{readingOf};
 ghost use Rattle.codes.specs.Codes.{code, valueOr};
@@ -10,14 +10,14 @@ use histogram_bins::Level;
 pub extern "C" fn xel_boundary(i: usize) -> f64
     ensures { λ r. ⌜ r ≡ boundaryAt i ⌝ }
 {
-    histogram_bins::tables::boundary(i)
+    histogram_bins::boundary(i)
 }
 
 #[no_mangle]
 pub extern "C" fn xel_energy(i: usize) -> f64
     ensures { λ r. ⌜ r ≡ energyAt i ⌝ }
 {
-    histogram_bins::tables::energy(i)
+    histogram_bins::energy(i)
 }
 
 #[no_mangle]

@@ -4,7 +4,7 @@ use Prim.Native.Nat.{ℕ}
 use native.Mathlib.Omega.{arith}
 use lib.Ieee.{Float}
 use Rattle.refusals.specs.Outcome.{went, refused, says, refusal, saidBy, Question}
-use Rattle.gate.specs.declared.Totals.{Totals}
+use Rattle.blocks.specs.declared.Totals.{Totals}
 use Rattle.gate.specs.Relative.{Level}
 use Rattle.codes.specs.Codes.{code, valueOr}
 use Rattle.codes.proofs.Told.{values-told, refusal-told}

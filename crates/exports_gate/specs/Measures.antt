@@ -2,7 +2,7 @@
 use Prim.Native.Nat.{ℕ}
 use lib.Ieee.{Float}
 use Rattle.refusals.specs.Outcome.{went, refused, Question}
-use Rattle.gate.specs.declared.Totals.{Totals}
+use Rattle.blocks.specs.declared.Totals.{Totals}
 use Rattle.gate.specs.Relative.{Level, loudness, energy as levelEnergy}
 
 -- what stands in the two places that receive totals

@@ -3,7 +3,7 @@ use Prim.Native.Nat.{ℕ}
 use mathlib.Core.List.{List}
 use lib.Ieee.{Float}
 use Rattle.refusals.specs.Outcome.{keptBy}
-use Rattle.history.specs.Queue.{Stored, over, enqueued}
+use Rattle.queue.specs.Queue.{Stored, over, enqueued}
 
 abbrev pub queueOver : ℕ → ℕ → ℕ → List Float → Stored
 queueOver maximum head held store = over (record { maximum = maximum; head = head; held = held }) store

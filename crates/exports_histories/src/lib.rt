@@ -2,18 +2,18 @@
 ghost use mathlib.Core.Path.{_≡_};
 ghost use Rattle.refusals.specs.Outcome.{keptBy};
 ghost use Rattle.codes.specs.Codes.{code};
-ghost use Rattle.history.specs.Histogram.{addTo, mergeInto, cleared};
-ghost use Rattle.history.specs.Queue.{enqueued};
+ghost use Rattle.histogram.specs.Histogram.{addTo, mergeInto, cleared};
+ghost use Rattle.queue.specs.Queue.{enqueued};
 ghost use Rattle.exports_histories.specs.Queues.{queueOver, afterAdd};
 use codes::number_of;
-use history::queue::Queue;
+use queue::Queue;
 
 #[no_mangle]
 pub extern "C" fn xel_histogram_add(counters: &mut [u32], energy: f64) -> u8
     ensures { λ r. ⌜ (r ≡ code (addTo (now (counters .entry)) energy))
         × (now (counters .exit) ≡ keptBy (now (counters .entry)) (addTo (now (counters .entry)) energy)) ⌝ }
 {
-    number_of(history::histogram::add(counters, energy))
+    number_of(histogram::add(counters, energy))
 }
 
 #[no_mangle]
@@ -21,7 +21,7 @@ pub extern "C" fn xel_histogram_merge(into: &mut [u32], from: &[u32]) -> u8
     ensures { λ r. ⌜ (r ≡ code (mergeInto (now (into .entry)) (now (from .entry))))
         × (now (into .exit) ≡ keptBy (now (into .entry)) (mergeInto (now (into .entry)) (now (from .entry)))) ⌝ }
 {
-    number_of(history::histogram::merge(into, from))
+    number_of(histogram::merge(into, from))
 }
 
 #[no_mangle]
@@ -29,7 +29,7 @@ pub extern "C" fn xel_histogram_reset(counters: &mut [u32]) -> u8
     ensures { λ r. ⌜ (r ≡ code (cleared (now (counters .entry))))
         × (now (counters .exit) ≡ keptBy (now (counters .entry)) (cleared (now (counters .entry)))) ⌝ }
 {
-    number_of(history::histogram::reset(counters))
+    number_of(histogram::reset(counters))
 }
 
 #[no_mangle]

@@ -2,7 +2,7 @@
 ghost use mathlib.Core.Path.{_≡_};
 ghost use Rattle.refusals.specs.Outcome.{keptBy};
 ghost use Rattle.exports_range.specs.Spans.{rangeAsked, spanCode, lowOr, highOr};
-use range::Range;
+use spans::Range;
 
 // The codes of a range that answers no energies.
 const NOTHING: u8 = 128;

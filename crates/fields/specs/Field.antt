@@ -1,6 +1,6 @@
--- A field is a run of bytes that stands for a number, low byte first.
-use Prim.Native.Nat.{ℕ, zero, suc, _+_, _*_}
-use mathlib.Core.List.{List}
+-- A field is a run of bytes that stands for a number, low byte first: the number in it, and the bytes of a number.
+use Prim.Native.Nat.{ℕ, zero, suc, _+_, _*_, _/_, _%_}
+use mathlib.Core.List.{List, [], _∷_}
 use mathlib.Core.Bool.{cond}
 use lib.Dec.{ltb}
 use lib.ListN.{getD}
@@ -16,3 +16,8 @@ narrowed width = cond (ltb width widest) width widest
 unfoldable pub fieldAt : List ℕ → ℕ → ℕ → ℕ
 fieldAt bytes at zero = 0
 fieldAt bytes at (suc width) = getD bytes at 0 + 256 * fieldAt bytes (suc at) width
+
+-- the bytes of a number in a field of so many bytes
+unfoldable pub lowBytes : ℕ → ℕ → List ℕ
+lowBytes zero number = []
+lowBytes (suc width) number = number % 256 ∷ lowBytes width (number / 256)

@@ -1,7 +1,7 @@
 // Numbers in bytes, low byte first: the fields of records and of lists of energies.
 ghost use mathlib.Core.Path.{_≡_};
-ghost use lib.ListN.{getD};
-ghost use Rattle.fields.specs.Field.{fieldAt, narrowed};
+ghost use lib.ListN.{length, getD};
+ghost use Rattle.fields.specs.Field.{fieldAt, narrowed, lowBytes};
 
 const WIDEST: usize = 8;
 
@@ -35,4 +35,17 @@ fn narrow(width: usize) -> usize
     ensures { λ r. ⌜ r ≡ narrowed width ⌝ }
 {
     if width < WIDEST { width } else { WIDEST }
+}
+
+// The bytes of a number fill the lent field, whatever its width: what the field has no room for is left out, and further bytes are 0.
+pub fn put_number(field: &mut [u8], number: u64)
+    ensures { λ _. ⌜ now (field .exit) ≡ lowBytes (length (now (field .entry))) number ⌝ }
+{
+    let mut left = number;
+    let mut i = 0;
+    while i < field.len() {
+        field[i] = (left % 256) as u8;
+        left = left / 256;
+        i += 1;
+    }
 }

@@ -1,11 +1,12 @@
--- One call of the filter: what it is given.
-use Prim.Native.Nat.{ℕ, _/_}
-use mathlib.Core.Bool.{Bool, not}
+-- One call of the filter: what it is given, and what each part of the filter is given of it.
+use Prim.Native.Nat.{ℕ}
+use mathlib.Core.Bool.{cond}
 use mathlib.Core.List.{List, []}
-use lib.Dec.{leb, eqb}
-use lib.ListN.{length}
 use lib.Ieee.{Float}
-use Rattle.samples.specs.Frames.{channelOf}
+use Rattle.refusals.specs.Outcome.{Outcome, keptBy, NoValues}
+use Rattle.recurrence.specs.declared.State.{State}
+use Rattle.recurrence.specs.Channels as recurrence
+use Rattle.true_peak.specs.TruePeak.{Block}
 use Rattle.filter.specs.declared.Filter.{Filter}
 
 -- `samples` are the floats that the interleaved samples become. A seed call has no destination.
@@ -23,25 +24,26 @@ callOf filter samples map dest start = record { filter = filter; samples = sampl
 abbrev pub seedOf : Filter → List Float → List ℕ → Call
 seedOf filter samples map = callOf filter samples map [] 0
 
--- the channels that states and peaks have places for
-abbrev pub mostChannels : ℕ
-mostChannels = 8
+-- what the weighting is given
+abbrev pub weighing : Call → recurrence.Call
+weighing call = recurrence.callOf (call .filter .coefficients) (call .filter .state) (call .filter .channels) (call .samples) (call .map)
 
--- five places of the flat state a channel
-abbrev pub statePlaces : ℕ
-statePlaces = 40
+-- what the true peak hears
+abbrev pub hearing : Call → Block
+hearing call = record { channels = call .filter .channels; samples = call .samples }
 
--- the bytes that a map admits: 0 for an unused channel, 1 for a used one
-abbrev pub admits : ℕ → Bool
-admits byte = leb byte 1
+-- what a call has in hand, and what it leaves
+pub record Kept : Type 0 where
+  pub filter : Filter
+  pub dest : List Float
 
-abbrev pub used : ℕ → Bool
-used byte = not (eqb byte 0)
+abbrev pub given : Call → Kept
+given call = record { filter = call .filter; dest = call .dest }
 
--- channel k's samples in the call, in order
-abbrev pub heard : Call → ℕ → List Float
-heard call k = channelOf (call .filter .channels) (call .samples) k
+-- what stands after a call: what it leaves, and what it was given where it is refused
+abbrev pub kept : (Call → Outcome Kept NoValues) → Call → Kept
+kept operation call = keptBy (given call) (operation call)
 
--- the places of one channel's equal part of the destination
-abbrev pub part : Call → ℕ
-part call = length (call .dest) / call .filter .channels
+-- the weighting's state after the call: "one that is off alters nothing"
+abbrev pub weighedState : Call → State
+weighedState call = cond (call .filter .switches .loudness) (record { values = recurrence.stateAfter (weighing call) }) (call .filter .state)

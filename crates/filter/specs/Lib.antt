@@ -1,7 +1,2 @@
+pub mod Filter
 pub mod Call
-pub mod Refusing
-pub mod Weighting
-pub mod Peak
-pub mod Process
-pub mod Sizes
-pub mod Source

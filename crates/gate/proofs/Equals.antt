@@ -10,8 +10,8 @@ use lib.Dec.{T, eqb, ltb}
 use lib.Ieee.{Float, nan, inf, fin, up, down, below, level, lt, eq, isNan}
 use lib.Ieee.Positive.{positive}
 use Rattle.refusals.specs.Outcome.{Question}
-use Rattle.histogram_bins.proofs.Rules.{boundary-positive}
-use Rattle.gate.specs.declared.Totals.{Totals}
+use Rattle.tables.proofs.Rules.{boundary-positive}
+use Rattle.blocks.specs.declared.Totals.{Totals}
 use Rattle.gate.specs.Gate.{someLeft, unlessNone, unlessNan}
 use Rattle.gate.specs.Bs1770.{
   strict,

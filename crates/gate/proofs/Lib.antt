@@ -1,6 +1,5 @@
-pub mod Start
-pub mod Running
 pub mod Passes
+pub mod Keeping
 pub mod Questions
 pub mod Meaning
 pub mod Equals

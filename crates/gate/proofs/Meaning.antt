@@ -8,18 +8,15 @@ use native.Mathlib.Omega.{arith}
 use lib.ListN.{length, length-append}
 use lib.Ieee.{Float, binary64, add, lt}
 use Rattle.refusals.specs.Outcome.{Question}
-use Rattle.history.specs.Energy.{dropped}
-use Rattle.history.specs.Queue.{over, started, heldOf, fedTo, taken}
+use Rattle.histogram_bins.specs.Energy.{dropped}
+use Rattle.queue.specs.Queue.{over, started, heldOf, fedTo, taken}
 use Rattle.history.specs.Set.{History, listed}
-use Rattle.history.proofs.Fed.{held-of-new}
-use Rattle.gate.specs.declared.Totals.{Totals}
+use Rattle.queue.proofs.Fed.{held-of-new}
+use Rattle.blocks.specs.declared.Totals.{Totals}
+use Rattle.blocks.specs.Totals.{none, withBlocks, energiesFrom}
+use Rattle.sums.specs.Sums.{allTotals}
 use Rattle.gate.specs.Gate.{
-  none,
-  withBlocks,
-  energiesFrom,
   keptFrom,
-  counts,
-  allTotals,
   allGated,
   thresholdOf,
   someLeft,

@@ -12,10 +12,10 @@ use mathlib.Core.List.{List, [], _∷_, _++_}
 use lib.ListN.{length}
 use lib.Ieee.{Float, binary64, add, lt, eq, isNan, ofBits}
 use Rattle.refusals.specs.Outcome.{Question}
-use Rattle.histogram_bins.specs.Tables.{boundaryAt}
-use Rattle.history.specs.Queue.{longest, over, started, heldOf, fedTo, taken}
+use Rattle.tables.specs.Tables.{boundaryAt}
+use Rattle.queue.specs.Queue.{longest, over, started, heldOf, fedTo, taken}
 use Rattle.history.specs.Set.{History, listed}
-use Rattle.gate.specs.declared.Totals.{Totals}
+use Rattle.blocks.specs.declared.Totals.{Totals}
 use Rattle.gate.specs.Gate.{thresholdOf, someLeft, unlessNone, unlessNan}
 
 -- whether a gate lets a block of an energy through

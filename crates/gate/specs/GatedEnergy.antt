@@ -2,10 +2,11 @@
 use lib.Ieee.{Float}
 use Rattle.refusals.specs.Outcome.{Outcome, went, refused, Question, answers, Said, says, refusal}
 use Rattle.history.specs.Set.{Histories}
-use Rattle.gate.specs.declared.Totals.{Totals}
+use Rattle.blocks.specs.declared.Totals.{Totals}
+use Rattle.blocks.specs.Totals.{meanOf}
 use Rattle.gate.specs.declared.Energy.{Energy}
 use Rattle.gate.specs.declared.Energy.the-variants.{Of, Refused}
-use Rattle.gate.specs.Gate.{meanOf, gateOf}
+use Rattle.gate.specs.Gate.{gateOf}
 
 -- the mean of the blocks answered
 abbrev pub meanAnswer : Question Totals → Question Float

@@ -2,15 +2,17 @@
 -- -70.0 is a loudness, in LUFS; the other answer is an energy.
 use Prim.Native.Nat.{ℕ}
 use mathlib.Core.Bool.{true, cond}
-use mathlib.Core.List.{List, [], _∷_}
+use mathlib.Core.List.{List}
 use lib.Dec.{eqb}
 use lib.Ieee.{Float, binary64, round}
 use Rattle.refusals.specs.Outcome.{Question, answers, Said, says, refusal}
 use Rattle.history.specs.declared.set.Entry.{Entry}
-use Rattle.history.specs.Set.{History, Histories, histories, shows, refusalOf, unlessRefused}
+use Rattle.history.specs.Set.{shows, refusalOf, unlessRefused}
+use Rattle.blocks.specs.declared.Totals.{Totals}
+use Rattle.sums.specs.Sums.{totalsOf, alone}
 use Rattle.gate.specs.declared.Threshold.{Threshold}
 use Rattle.gate.specs.declared.Threshold.the-variants.{Loudness, Energy, Refused}
-use Rattle.gate.specs.Gate.{totalsOf, thresholdOf, unlessNan}
+use Rattle.gate.specs.Gate.{thresholdOf, unlessNan}
 
 pub data Level : Type 0 where
   loudness : Float → Level
@@ -20,16 +22,11 @@ pub data Level : Type 0 where
 unfoldable pub lowest : Float
 lowest = round binary64 true 70 1
 
-abbrev pub levelOf : History → Question Level
-levelOf history =
-    cond (eqb (totalsOf history .count) 0) (answers (loudness lowest)) (unlessNan (totalsOf history) (answers (energy (thresholdOf (totalsOf history)))))
-
--- a set of one history
-abbrev pub alone : Entry → List ℕ → List Float → Histories
-alone entry counters energies = histories (entry ∷ []) 1 counters energies
+unfoldable pub levelOf : Totals → Question Level
+levelOf totals = cond (eqb (totals .count) 0) (answers (loudness lowest)) (unlessNan totals (answers (energy (thresholdOf totals))))
 
 unfoldable pub relativeOf : Entry → List ℕ → List Float → Question Level
-relativeOf entry counters energies = unlessRefused (refusalOf (alone entry counters energies)) (levelOf (shows counters energies entry))
+relativeOf entry counters energies = unlessRefused (refusalOf (alone entry counters energies)) (levelOf (totalsOf (shows counters energies entry)))
 
 -- what each case of `Threshold` says
 abbrev pub said : Threshold → Said Level

@@ -10,9 +10,9 @@ use native.Mathlib.Omega.{arith}
 use lib.Dec.{T}
 use lib.Ieee.{Float, nan, inf, le, lt}
 use Rattle.floats.proofs.Order.{is-true, is-false, float-le-trans, lt→le, lt-not-le, le-nan, le-infinity}
-use Rattle.histogram_bins.specs.Tables.{boundaryAt, energyAt}
+use Rattle.tables.specs.Tables.{boundaryAt, energyAt}
 use Rattle.histogram_bins.specs.Bin.{lastNotAbove, binOf}
-use Rattle.histogram_bins.proofs.Rules.{
+use Rattle.tables.proofs.Rules.{
   boundaries-rise,
   boundaries-strict,
   same-boundary,

@@ -7,9 +7,9 @@ use native.Mathlib.Omega.{arith}
 use lib.Dec.{T}
 use lib.Ieee.{Float, le}
 use Rattle.floats.proofs.Order.{is-false, float-le-trans}
-use Rattle.histogram_bins.specs.Tables.{boundaryAt}
+use Rattle.tables.specs.Tables.{boundaryAt}
 use Rattle.histogram_bins.specs.Bin.{binOf}
-use Rattle.histogram_bins.proofs.Rules.{boundaries-rise}
+use Rattle.tables.proofs.Rules.{boundaries-rise}
 use Rattle.histogram_bins.proofs.Bins.{last-is, later-above, bin-is}
 
 module _ (x : Float) where

@@ -1,9 +1,5 @@
-pub mod Arms
-pub mod Pairs
-pub mod Rules
 pub mod Bins
 pub mod Ends
-pub mod Rows
+pub mod Between
 pub mod Halving
 pub mod Readings
-pub mod Taken

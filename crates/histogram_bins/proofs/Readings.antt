@@ -11,7 +11,7 @@ use mir.Syntax.{w32}
 use mir.Val.{SFits}
 use Rattle.refusals.specs.Refusal.{SCALE}
 use Rattle.refusals.specs.Outcome.{refused, answers}
-use Rattle.histogram_bins.specs.Tables.{boundaryAt}
+use Rattle.tables.specs.Tables.{boundaryAt}
 use Rattle.histogram_bins.specs.Reading.{offScale, readingOf, tenthsOf}
 
 or-true : (a : Bool) → a || true ≡ true

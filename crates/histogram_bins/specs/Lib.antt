@@ -1,5 +1,3 @@
-pub mod Tables
-pub mod Rows
-pub mod Rules
 pub mod Bin
 pub mod Reading
+pub mod Energy

@@ -6,7 +6,7 @@ use Rattle.refusals.specs.Refusal.{SCALE}
 use Rattle.refusals.specs.Outcome.{Question, answers, refused, Said, says, refusal}
 use Rattle.histogram_bins.specs.declared.Level.{Level}
 use Rattle.histogram_bins.specs.declared.Level.the-variants.{Tenths, Refused}
-use Rattle.histogram_bins.specs.Tables.{boundaryAt}
+use Rattle.tables.specs.Tables.{boundaryAt}
 use Rattle.histogram_bins.specs.Bin.{binOf, bins}
 
 -- the reading of bin 0, in tenths: -70.0 LUFS

@@ -1,11 +1,18 @@
-// The histogram's tables, the bin of an energy, and its reading in tenths.
+// The histogram's bins: their boundaries and energies, the bin of an energy, and its reading in tenths.
 ghost use mathlib.Core.Path.{_≡_};
 ghost use Prim.Native.Nat.{_≤_, _<_, _^_};
 ghost use Rattle.refusals.specs.Outcome.{saidBy};
+ghost use Rattle.tables.specs.Tables.{boundaryAt, energyAt};
 ghost use Rattle.histogram_bins.specs.Bin.{binOf};
 ghost use Rattle.histogram_bins.specs.Reading.{readingOf, said};
 
-pub mod tables;
+// How many bins a histogram has.
+pub const BINS: usize = 1000;
+
+// The ends of the scale: boundary 0 and boundary 1000.
+const LOWEST: f64 = 0.000000117246530458229809506033624374;
+
+const HIGHEST: f64 = 1172.465304582295630098087713122367858887;
 
 // The answer of `reading`.
 pub enum Level {
@@ -26,6 +33,47 @@ const FIRST: u64 = 1048550233;
 
 // 30.103, the bins of an octave, times 2^12.
 const BINS_AN_OCTAVE: u64 = 123302;
+
+pub fn lowest_boundary() -> f64
+    ensures { λ r. ⌜ r ≡ boundaryAt 0 ⌝ }
+{
+    LOWEST
+}
+
+pub fn highest_boundary() -> f64
+    ensures { λ r. ⌜ r ≡ boundaryAt 1000 ⌝ }
+{
+    HIGHEST
+}
+
+// Boundary i, which stands at -70 + i/10 LUFS. NaN past the table's end.
+pub fn boundary(i: usize) -> f64
+    ensures { λ r. ⌜ r ≡ boundaryAt i ⌝ }
+{
+    if i < BINS {
+        let row = tables::boundary_row(i / tables::BOUNDARIES_A_ROW);
+        let place = i % tables::BOUNDARIES_A_ROW;
+        return row[place];
+    }
+    if i == BINS {
+        highest_boundary()
+    } else {
+        0.0 / 0.0
+    }
+}
+
+// Energy i, which stands at -69.95 + i/10 LUFS. NaN past the table's end.
+pub fn energy(i: usize) -> f64
+    ensures { λ r. ⌜ r ≡ energyAt i ⌝ }
+{
+    if i < BINS {
+        let row = tables::energy_row(i / tables::ENERGIES_A_ROW);
+        let place = i % tables::ENERGIES_A_ROW;
+        row[place]
+    } else {
+        0.0 / 0.0
+    }
+}
 
 // As much of b as a is of an octave.
 fn share(a: u64, b: u64) -> u64
@@ -61,7 +109,7 @@ fn by_halving(energy: f64) -> usize
     let mut max = 1000;
     loop {
         let mid = (min + max) / 2;
-        if energy >= tables::boundary(mid) {
+        if energy >= boundary(mid) {
             min = mid;
         } else {
             max = mid;
@@ -78,17 +126,17 @@ pub fn find_histogram_index(energy: f64) -> usize
     ensures { λ r. ⌜ r ≡ binOf energy ⌝ }
 {
     let bin = near(energy);
-    let boundaries = tables::row(bin / 8);
-    let place = bin % 8;
+    let boundaries = tables::boundary_row(bin / tables::BOUNDARIES_A_ROW);
+    let place = bin % tables::BOUNDARIES_A_ROW;
     if energy >= boundaries[place] {
         if energy < boundaries[place + 1] {
             return bin;
         }
     }
-    if tables::highest_boundary() <= energy {
+    if highest_boundary() <= energy {
         return 999;
     }
-    if energy >= tables::lowest_boundary() {
+    if energy >= lowest_boundary() {
         return by_halving(energy);
     }
     0
@@ -101,10 +149,10 @@ pub fn reading(energy: f64) -> Level
     if energy != energy {
         return Level::Refused(refusals::SCALE);
     }
-    if energy < tables::lowest_boundary() {
+    if energy < lowest_boundary() {
         return Level::Refused(refusals::SCALE);
     }
-    if energy >= tables::highest_boundary() {
+    if energy >= highest_boundary() {
         return Level::Refused(refusals::SCALE);
     }
     let bin = find_histogram_index(energy);

@@ -13,12 +13,12 @@ use lib.ListN.{length, getD, take, drop, length-take, drop-of-length-le}
 use lib.Seq.{drop-cons, getD-take}
 use lib.Ieee.{Float}
 use Rattle.histogram_bins.specs.Bin.{bins}
-use Rattle.history.specs.declared.queue.Queue.{Queue}
+use Rattle.queue.specs.declared.Queue.{Queue}
 use Rattle.history.specs.declared.set.Entry.{Entry}
 use Rattle.history.specs.declared.set.Shape.{Shape}
 use Rattle.history.specs.declared.set.Shape.the-variants.{Histogram, Queue as Queue-at}
-use Rattle.history.specs.Energy.{dropped}
-use Rattle.history.specs.Queue.{suits, heldOf}
+use Rattle.histogram_bins.specs.Energy.{dropped}
+use Rattle.queue.specs.Queue.{suits, heldOf}
 use Rattle.history.specs.Set.{
   queueAt,
   shows,

@@ -9,11 +9,11 @@ use lib.ListN.{length, take, drop, length-take, length-drop}
 use lib.Seq.{take-take, drop-drop, take-nil}
 use lib.Ieee.{Float}
 use Rattle.histogram_bins.specs.Bin.{bins}
-use Rattle.history.specs.declared.queue.Queue.{Queue}
-use Rattle.history.specs.Queue.{suits, heldOf, firstPart}
+use Rattle.queue.specs.declared.Queue.{Queue}
+use Rattle.queue.specs.Queue.{suits, heldOf, firstPart}
 use Rattle.history.specs.Set.{blockAt, queueAt}
-use Rattle.history.proofs.Ring.{Suited, suited}
-use Rattle.history.proofs.Held.{held-parts}
+use Rattle.queue.proofs.Ring.{Suited, suited}
+use Rattle.queue.proofs.Held.{held-parts}
 
 drop-take : {A : Type 0} (i n : ℕ) (l : List A) → drop i (take n l) ≡ take (n - i) (drop i l)
 drop-take zero n l = ap (λ (k : ℕ). take k l) {x = n} {y = n - 0} (omega arith)

@@ -1,4 +1,1 @@
-pub mod Energy
-pub mod Histogram
-pub mod Queue
 pub mod Set

@@ -7,14 +7,14 @@ use lib.Dec.{ltb}
 use lib.ListN.{length, take, drop}
 use lib.Ieee.{Float}
 use Rattle.refusals.specs.Refusal.{Refusal, STORE, SET, number}
-use Rattle.refusals.specs.Outcome.{Question, refused}
+use Rattle.refusals.specs.Outcome.{Outcome, refused}
 use Rattle.histogram_bins.specs.Bin.{bins}
-use Rattle.history.specs.declared.queue.Queue.{Queue}
+use Rattle.queue.specs.declared.Queue.{Queue}
 use Rattle.history.specs.declared.set.Entry.{Entry}
 use Rattle.history.specs.declared.set.Shape.{Shape}
 use Rattle.history.specs.declared.set.Shape.the-variants.{Histogram, Queue as Queue-at}
-use Rattle.history.specs.Energy.{dropped}
-use Rattle.history.specs.Queue.{Stored, over, suits, heldOf}
+use Rattle.histogram_bins.specs.Energy.{dropped}
+use Rattle.queue.specs.Queue.{Stored, over, suits, heldOf}
 
 -- the most histories of a set
 abbrev pub mostHistories : ℕ
@@ -81,6 +81,10 @@ unfoldable pub anyOutside : ℕ → ℕ → List Entry → Bool
 anyOutside counters energies [] = false
 anyOutside counters energies (entry ∷ rest) = isOutside counters energies entry || anyOutside counters energies rest
 
+-- whether SET refuses a set
+abbrev pub outsideSet : Histories → Bool
+outsideSet h = ltb mostHistories (h .count) || anyOutside (length (h .counters)) (length (h .energies)) (chosen h)
+
 -- every block ends within so many counters, every store within so many energies
 abbrev pub blocksInside : ℕ → List Entry → Type 0
 blocksInside counters [] = Unit
@@ -113,15 +117,14 @@ pub data Verdict : Type 0 where
 
 unfoldable pub refusalOf : Histories → Verdict
 refusalOf h =
-    cond (ltb mostHistories (h .count) || anyOutside (length (h .counters)) (length (h .energies)) (chosen h)) (refusing SET)
-    (cond (allSound (h .energies) (chosen h)) sound (refusing STORE))
+    cond (outsideSet h) (refusing SET) (cond (allSound (h .energies) (chosen h)) sound (refusing STORE))
 
 -- its number, and 0 for none
 abbrev pub numbered : Verdict → ℕ
 numbered sound = 0
 numbered (refusing r) = number r
 
--- a question over a set answers the set's refusal first
-abbrev pub unlessRefused : {Values : Type 0} → Verdict → Question Values → Question Values
-unlessRefused sound question = question
-unlessRefused (refusing r) question = refused r
+-- an operation over a set answers the set's refusal first
+abbrev pub unlessRefused : {Memory Values : Type 0} → Verdict → Outcome Memory Values → Outcome Memory Values
+unlessRefused sound outcome = outcome
+unlessRefused (refusing r) outcome = refused r

@@ -1,10 +1,10 @@
 // A set of histories, as a question takes it: up to 16 entries by value, over one lent slice of counters and one of energies. Entries may overlap or repeat.
-use crate::queue::Queue;
+use queue::Queue;
 ghost use mathlib.Core.Path.{_≡_};
 ghost use mathlib.Core.Bool.{false, _&&_};
 ghost use Prim.Native.Nat.{ℕ, _+_, _≤_};
 ghost use lib.ListN.{length, take};
-ghost use Rattle.history.specs.Queue.{suits, heldOf};
+ghost use Rattle.queue.specs.Queue.{suits, heldOf};
 ghost use Rattle.history.specs.Set.{
   mostHistories,
   histories,
@@ -13,6 +13,7 @@ ghost use Rattle.history.specs.Set.{
   storesInside,
   isOutside,
   anyOutside,
+  outsideSet,
   noneBelow,
   isSound,
   allSound,
@@ -45,7 +46,7 @@ fn outside(entry: Entry, counters: usize, energies: usize) -> bool
             if counters < start {
                 return true;
             }
-            counters - start < crate::BINS
+            counters - start < histogram_bins::BINS
         }
         Shape::Queue(start, queue) => {
             if energies < start {
@@ -76,7 +77,7 @@ fn any_outside(entries: [Entry; MOST], count: usize, counters: usize, energies: 
 pub fn none_below(part: &[f64]) -> bool
     ensures { λ r. ⌜ r ≡ noneBelow (now (part .entry)) ⌝ }
 {
-    let least = histogram_bins::tables::lowest_boundary();
+    let least = histogram_bins::lowest_boundary();
     let mut fine = true;
     let mut i = 0;
     while i < part.len() {
@@ -133,14 +134,21 @@ fn all_sound(entries: [Entry; MOST], count: usize, energies: &[f64]) -> bool
     true
 }
 
+// Whether SET refuses a set: too many entries, or one that reaches outside.
+pub fn outside_set(entries: [Entry; MOST], count: usize, counters: &[u32], energies: &[f64]) -> bool
+    ensures { λ r. ⌜ r ≡ outsideSet (histories entries count (now (counters .entry)) (now (energies .entry))) ⌝ }
+{
+    if count > MOST {
+        return true;
+    }
+    any_outside(entries, count, counters.len(), energies.len())
+}
+
 // The number of the first refusal that a set of histories gets, or 0.
 pub fn checked(entries: [Entry; MOST], count: usize, counters: &[u32], energies: &[f64]) -> u8
     ensures { λ r. ⌜ r ≡ numbered (refusalOf (histories entries count (now (counters .entry)) (now (energies .entry)))) ⌝ }
 {
-    if count > MOST {
-        return refusals::SET;
-    }
-    if any_outside(entries, count, counters.len(), energies.len()) {
+    if outside_set(entries, count, counters, energies) {
         return refusals::SET;
     }
     if all_sound(entries, count, energies) {

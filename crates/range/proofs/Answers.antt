@@ -1,95 +1,38 @@
--- What the range comes to, case by case. Each picks its case by tests, and each law settles those tests. Assumes nothing.
+-- What the range over a set comes to, by how many of its histories are queues. Each law settles the tests of `rangeOver`. Assumes nothing.
 use mathlib.Core.Path.{_≡_, refl, sym, ap, _∙_}
-use mathlib.Core.Bool.{true, false}
-use mathlib.Core.List.{List, [], _∷_, _++_}
-use Prim.Native.Nat.{ℕ, suc, _+_, _-_, _≤_, _<_}
+use mathlib.Core.List.{List, [], _∷_}
+use Prim.Native.Nat.{ℕ, suc, _+_, _≤_, _<_}
 use native.Mathlib.Omega.{arith}
-use borrow.Author.Tests.{eq-eqb, ne-eqb, lt-ltb, le-ltb}
+use borrow.Author.Tests.{eq-eqb, ne-eqb}
 use lib.ListN.{length, getD, take, drop, length-take}
-use lib.Ieee.{Float, nan}
-use Rattle.refusals.specs.Refusal.{MODE, ROOM}
-use Rattle.refusals.specs.Outcome.{went, refused, Said, refusal, saidBy, keptBy}
-use Rattle.histogram_bins.specs.Tables.{energies, energyAt}
-use Rattle.history.specs.Histogram.{empty}
+use lib.Ieee.{Float}
+use Rattle.refusals.specs.Refusal.{MODE}
+use Rattle.refusals.specs.Outcome.{Outcome, went, refused, Question, answers, Said, refusal, saidBy, keptBy}
+use Rattle.histogram.specs.Histogram.{empty}
 use Rattle.history.specs.declared.set.Entry.{Entry}
-use Rattle.history.specs.Set.{History, counted, listed, Histories, historiesOf, shows, allShow, Verdict, sound, refusing, refusalOf, numbered}
-use Rattle.history.proofs.Entries.{past-the-last, shows-next, shows-end}
-use Rattle.gate.specs.declared.Totals.{Totals}
-use Rattle.gate.specs.Gate.{none, binsFrom, startBin}
-use Rattle.ranks.specs.Ranks.{lowRank, highRank}
-use Rattle.ordering.specs.Order.{inOrder}
-use Rattle.range.specs.Range.{
-  Span,
-  found,
-  nothing,
-  notANumber,
-  gateEnergy,
-  addedTo,
-  blocksIn,
-  runningFrom,
-  firstPast,
-  rankedIn,
-  leftIn,
-  gatedBlocks,
-  countedSpan,
-  allHeld,
-  anyNan,
-  listedSpan,
-  listedRange,
-  queuesBy,
-  queuesIn,
-  rangeOver,
-  unlessRefusing,
-  rangeOf,
+use Rattle.history.specs.Set.{
+  History,
+  counted,
+  listed,
+  Histories,
+  historiesOf,
+  shows,
+  allShow,
+  Verdict,
+  sound,
+  refusing,
+  refusalOf,
+  numbered,
+  unlessRefused,
 }
-use Rattle.range.proofs.Counting.{table-at}
+use Rattle.history.proofs.Entries.{past-the-last, shows-next, shows-end}
+use Rattle.spans.specs.Span.{Span}
+use Rattle.histogram_range.specs.Counted.{addedTo, countedSpan, histogramRange}
+use Rattle.queue_range.specs.Listed.{allHeld, listedRange, queueRange}
+use Rattle.queue_range.proofs.Answers.{refused-first}
+use Rattle.range.specs.Range.{queuesBy, queuesIn, rangeOver, rangeOf}
 
--- ---- histograms
-module _ (counters : List ℕ) where
-  pub counted-none : binsFrom none 0 counters .count ≡ 0 → countedSpan counters ≡ nothing
-  unfolding countedSpan
-  counted-none e = rw (eq-eqb (binsFrom none 0 counters .count) 0 e)
-
-  pub counted-some : (totals : Totals) (before : ℕ) → totals ≡ binsFrom none 0 counters → (totals .count ≡ 0 → ⊥)
-      → before ≡ blocksIn (take (startBin (gateEnergy totals)) counters) → countedSpan counters ≡ leftIn counters before (totals .count - before)
-  unfolding countedSpan gatedBlocks
-  counted-some totals before e z b = rw (← e, ne-eqb (totals .count) 0 z, b)
-
-  pub left-none : (before left : ℕ) → left ≡ 0 → leftIn counters before left ≡ nothing
-  unfolding leftIn
-  left-none before left e = rw (eq-eqb left 0 e)
-
-  pub left-found : (before left : ℕ) → (left ≡ 0 → ⊥)
-      → leftIn counters before left ≡ found (rankedIn counters (lowRank (left - 1) + before)) (rankedIn counters (highRank (left - 1) + before))
-  unfolding leftIn
-  left-found before left z = rw (ne-eqb left 0 z)
-
-  -- the energies read off the table at the bins found
-  pub left-read : (table : List Float) (before left low-rank high-rank low high : ℕ) → table ≡ energies → (left ≡ 0 → ⊥) → low-rank ≡ lowRank (left - 1)
-      → high-rank ≡ highRank (left - 1) → low ≡ firstPast (low-rank + before) 0 (runningFrom 0 counters)
-      → high ≡ firstPast (high-rank + before) 0 (runningFrom 0 counters) → found (getD table low nan) (getD table high nan) ≡ leftIn counters before left
-  left-read table before left low-rank high-rank low high t z p q e f =
-      ap (λ (x : Float). found x (getD table high nan)) (table-at table t low ∙ ap energyAt e ∙ ap (λ (k : ℕ). rankedIn counters (k + before)) p)
-      ∙ ap (λ (x : Float). found (rankedIn counters (lowRank (left - 1) + before)) x)
-      (table-at table t high ∙ ap energyAt f ∙ ap (λ (k : ℕ). rankedIn counters (k + before)) q)
-      ∙ sym (left-found before left z)
-
--- ---- queues
-module _ (held work : List Float) where
-  pub listed-room : length work < length held → listedRange held work ≡ refused ROOM
-  unfolding listedRange
-  listed-room h = rw (lt-ltb (length work) (length held) h)
-
-  pub listed-nan : length held ≤ length work → anyNan held ≡ true → listedRange held work ≡ went work notANumber
-  unfolding listedRange
-  listed-nan h n = rw (le-ltb (length work) (length held) h, n)
-
-  pub listed-went : length held ≤ length work → anyNan held ≡ false
-      → listedRange held work ≡ went (inOrder held ++ drop (length held) work) (listedSpan (inOrder held))
-  unfolding listedRange
-  listed-went h n = rw (le-ltb (length work) (length held) h, n)
-
--- ---- the question
+-- ---- how many are queues
 module _ (counters : List ℕ) (energies : List Float) (l : List Entry) (count i : ℕ) where
   pub queues-next : i < count → count ≤ length l
       → queuesIn (allShow counters energies (drop i (take count l)))
@@ -128,15 +71,25 @@ module _ (histories : List History) (work : List Float) where
   unfolding rangeOver
   over-mixed z e = rw (ne-eqb (queuesIn histories) 0 z, ne-eqb (queuesIn histories) (length histories) e)
 
+-- ---- the question
+-- histograms: the work slice stays
+histograms-said : (v : Verdict) (work : List Float) (span : Span)
+    → (saidBy (unlessRefused v (answers span)) ≡ saidBy (unlessRefused v (went work span))) × (work ≡ keptBy work (unlessRefused v (went work span)))
+histograms-said sound work span = (refl, refl)
+histograms-said (refusing r) work span = (refl, refl)
+
 module _ (h : Histories) (work : List Float) where
+  pub range-histograms : queuesIn (historiesOf h) ≡ 0 → (saidBy (histogramRange h) ≡ saidBy (rangeOf h work)) × (work ≡ keptBy work (rangeOf h work))
+  unfolding rangeOf histogramRange
+  range-histograms e = rw (over-histograms (historiesOf h) work e) (histograms-said (refusalOf h) work (countedSpan (addedTo empty (historiesOf h))))
+
+  pub range-queues : (queuesIn (historiesOf h) ≡ 0 → ⊥) → queuesIn (historiesOf h) ≡ length (historiesOf h) → rangeOf h work ≡ queueRange h work
+  unfolding rangeOf queueRange
+  range-queues z e = ap (unlessRefused (refusalOf h)) (over-queues (historiesOf h) work z e)
+
   pub range-refused : (n : ℕ) → n ≡ numbered (refusalOf h) → (n ≡ 0 → ⊥) → (refusal n ≡ saidBy (rangeOf h work)) × (work ≡ keptBy work (rangeOf h work))
   unfolding rangeOf
-  range-refused n e p = go (refusalOf h) e
-    where
-      go : (v : Verdict) → n ≡ numbered v
-          → (_≡_ {A = Said Span} (refusal n) (saidBy (unlessRefusing v (rangeOver (historiesOf h) work)))) × (work ≡ keptBy work (unlessRefusing v (rangeOver (historiesOf h) work)))
-      go sound e = absurd (p e)
-      go (refusing r) e = (ap refusal e, refl)
+  range-refused n e p = refused-first (refusalOf h) (rangeOver (historiesOf h) work) work n e p
 
   pub range-asked : refusalOf h ≡ sound → rangeOf h work ≡ rangeOver (historiesOf h) work
   unfolding rangeOf

@@ -8,8 +8,8 @@ use native.Mathlib.Omega.{arith}
 use lib.ListN.{length, getD, take, drop, length-take, length-append, replicate}
 use lib.Ieee.{Float}
 use Rattle.histogram_bins.specs.Bin.{bins}
-use Rattle.history.specs.Histogram.{largestCount, empty, sums}
-use Rattle.history.specs.Queue.{longest, suits, heldOf}
+use Rattle.histogram.specs.Histogram.{largestCount, empty, sums}
+use Rattle.queue.specs.Queue.{longest, suits, heldOf}
 use Rattle.history.specs.declared.set.Entry.{Entry}
 use Rattle.history.specs.declared.set.Shape.{Shape}
 use Rattle.history.specs.declared.set.Shape.the-variants.{Histogram, Queue as Queue-at}
@@ -29,15 +29,16 @@ use Rattle.history.specs.Set.{
   refusalOf,
   sound,
 }
-use Rattle.history.proofs.Ring.{suited}
-use Rattle.history.proofs.Held.{held-count}
+use Rattle.queue.proofs.Ring.{suited}
+use Rattle.queue.proofs.Held.{held-count}
 use Rattle.history.proofs.Verdicts.{kept}
 use Rattle.ranks.specs.Ranks.{lowRank, highRank, rankInFloats, lowShare, highShare, exactBelow}
 use Rattle.ranks.proofs.InFloats.{low-rank-is-the-rust's, high-rank-is-the-rust's}
-use Rattle.range.specs.Range.{withHistory, addedTo, blocksIn, heldBy, allHeld}
-use Rattle.range.specs.Inner.{AtMost, mostInBin}
-use Rattle.range.proofs.Adding.{sums-length, sums-most, part-most, zeros-length, zeros-most}
-use Rattle.range.proofs.Counting.{blocks-all-most}
+use Rattle.histogram_range.specs.Counted.{withHistory, addedTo, blocksIn}
+use Rattle.queue_range.specs.Listed.{heldBy, allHeld}
+use Rattle.histogram_range.specs.Counted.{AtMost, mostInBin}
+use Rattle.histogram_range.proofs.Adding.{sums-length, sums-most, part-most, zeros-length, zeros-most}
+use Rattle.histogram_range.proofs.Counting.{blocks-all-most}
 
 -- the two ranks of an n, as the Rust works them
 abbrev pub AsTheRust : ℕ → Type 0

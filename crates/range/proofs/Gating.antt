@@ -7,13 +7,13 @@ use lib.Dec.{T}
 use lib.Ieee.{Float, lt, le}
 use lib.Ieee.Positive.{above}
 use Rattle.floats.proofs.Order.{float-le-trans, lt→le, lt-not-le, is-true}
-use Rattle.history.specs.Energy.{dropped}
+use Rattle.histogram_bins.specs.Energy.{dropped}
 use Rattle.history.specs.Set.{noneBelow}
 use Rattle.ordering.specs.Order.{put, inOrder}
 use Rattle.ordering.specs.Inner.{All, Above, Rising}
 use Rattle.ordering.proofs.Energies.{not-below, above-up}
 use Rattle.ordering.proofs.InOrder.{in-order-rises}
-use Rattle.range.specs.Range.{fromGate}
+use Rattle.rising_range.specs.Rising.{fromGate}
 use Rattle.range.specs.Tech3342.{gated, absoluteGate}
 
 -- ---- a gate that takes none

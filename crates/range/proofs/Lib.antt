@@ -1,10 +1,3 @@
-pub mod Adding
-pub mod Counting
-pub mod Searching
-pub mod Standing
-pub mod Looking
-pub mod Copying
-pub mod Skipping
 pub mod Answers
 pub mod Gating
 pub mod Meaning

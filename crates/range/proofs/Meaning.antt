@@ -11,16 +11,20 @@ use lib.Ieee.{Float, nan}
 use Rattle.refusals.specs.Outcome.{went}
 use Rattle.history.specs.Set.{Histories, historiesOf, chosen, refusalOf, sound, noneBelow}
 use Rattle.history.proofs.Verdicts.{kept}
-use Rattle.gate.specs.Gate.{none, energiesFrom}
+use Rattle.blocks.specs.Totals.{none, energiesFrom}
 use Rattle.ranks.specs.Ranks.{lowRank, highRank}
 use Rattle.ordering.specs.Order.{inOrder}
 use Rattle.ordering.proofs.Perms.{perm-length, all-perm}
 use Rattle.ordering.proofs.InOrder.{in-order-perm, in-order-rises}
 use Rattle.ordering.proofs.Runs.{above-all}
-use Rattle.range.specs.Range.{found, nothing, gateEnergy, atRanks, allHeld, anyNan, listedSpan, queuesIn, rangeOf}
+use Rattle.spans.specs.Span.{found, nothing, gateEnergy}
+use Rattle.rising_range.specs.Rising.{atRanks, listedSpan}
+use Rattle.queue_range.specs.Listed.{allHeld, anyNan}
+use Rattle.range.specs.Range.{queuesIn, rangeOf}
 use Rattle.range.specs.Tech3342.{gated, relativeGate, percentileRank, percentiles, loudnessRange}
-use Rattle.range.proofs.Looking.{above-held, none-below-held, held-any}
-use Rattle.range.proofs.Answers.{listed-went, over-queues, range-asked}
+use Rattle.queue_range.proofs.Looking.{above-held, none-below-held, held-any}
+use Rattle.queue_range.proofs.Answers.{listed-went}
+use Rattle.range.proofs.Answers.{over-queues, range-asked}
 use Rattle.range.proofs.Gating.{absolute-all, leading, gated-order}
 
 -- the ranks of the two percentiles

@@ -14,22 +14,26 @@ use lib.Seq.{drop-nil, getD-append-add}
 use lib.Ieee.{Float, nan, lt, le}
 use Rattle.floats.proofs.Order.{lt-not-le, is-false}
 use Rattle.refusals.specs.Outcome.{went}
-use Rattle.histogram_bins.specs.Tables.{energyAt}
+use Rattle.tables.specs.Tables.{energyAt}
 use Rattle.histogram_bins.specs.Bin.{bins}
-use Rattle.history.specs.Histogram.{empty}
+use Rattle.histogram.specs.Histogram.{empty}
 use Rattle.history.specs.Set.{Histories, historiesOf, chosen, refusalOf, sound}
-use Rattle.gate.specs.Gate.{none, binsFrom, startBin}
-use Rattle.gate.proofs.Start.{start-most}
+use Rattle.blocks.specs.Totals.{none, binsFrom}
+use Rattle.blocks.specs.Start.{startBin}
+use Rattle.blocks.proofs.Start.{start-most}
 use Rattle.ranks.specs.Ranks.{lowRank, highRank}
 use Rattle.ordering.specs.Order.{inOrder}
 use Rattle.ordering.specs.Inner.{All, Rising}
 use Rattle.ordering.proofs.Perms.{all-join}
 use Rattle.ordering.proofs.InOrder.{rising-is}
-use Rattle.range.specs.Range.{found, nothing, gateEnergy, blocksIn, runningFrom, firstPast, rankedIn, leftIn, countedSpan, addedTo, queuesIn, rangeOf}
+use Rattle.spans.specs.Span.{found, nothing, gateEnergy}
+use Rattle.histogram_range.specs.Counted.{blocksIn, runningFrom, firstPast, rankedIn, leftIn, countedSpan, addedTo}
+use Rattle.range.specs.Range.{queuesIn, rangeOf}
 use Rattle.range.specs.Tech3342.{gated, absoluteGate, percentileRank, percentile, percentiles, rangeAbove, blocksFrom}
-use Rattle.range.proofs.Counting.{count-is}
-use Rattle.range.proofs.Adding.{zeros-length}
-use Rattle.range.proofs.Answers.{counted-none, counted-some, left-none, over-histograms, range-asked}
+use Rattle.histogram_range.proofs.Counting.{count-is}
+use Rattle.histogram_range.proofs.Adding.{zeros-length}
+use Rattle.histogram_range.proofs.Answers.{counted-none, counted-some, left-none}
+use Rattle.range.proofs.Answers.{over-histograms, range-asked}
 use Rattle.range.proofs.Arising.{added-length}
 use Rattle.range.proofs.Gating.{gated-all}
 use Rattle.range.proofs.Starting.{low-energy, energies-rise, from-start, below-start}

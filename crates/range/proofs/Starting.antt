@@ -11,14 +11,14 @@ use lib.Ieee.{Float, lt, le, isNan}
 use lib.Ieee.Positive.{above, above-of-le}
 use Rattle.floats.proofs.Nan.{only-nan}
 use Rattle.floats.proofs.Order.{float-le-trans, lt→le, lt-not-le}
-use Rattle.histogram_bins.specs.Tables.{boundaryAt, energyAt}
+use Rattle.tables.specs.Tables.{boundaryAt, energyAt}
 use Rattle.histogram_bins.specs.Bin.{bins, binOf}
-use Rattle.histogram_bins.proofs.Rules.{boundary-positive, boundaries-rise, boundary-below-energy, energy-below-next}
+use Rattle.tables.proofs.Rules.{boundary-positive, boundaries-rise, boundary-below-energy, energy-below-next}
 use Rattle.histogram_bins.proofs.Bins.{bin-below, bins-rise, bin-of-energy, bin-of-nan}
-use Rattle.gate.specs.Gate.{startBin}
-use Rattle.gate.proofs.Start.{start-below, start-next, start-here}
+use Rattle.blocks.specs.Start.{startBin}
+use Rattle.blocks.proofs.Start.{start-below, start-next, start-here}
 use Rattle.ordering.proofs.Energies.{not-below, above-up, same-at-most}
-use Rattle.range.proofs.Looking.{above-one}
+use Rattle.queue_range.proofs.Looking.{above-one}
 
 pub low-energy : (b : ℕ) → b < bins → T (le (boundaryAt 0) (energyAt b))
 low-energy b h =

@@ -1,3 +1,2 @@
 pub mod Range
-pub mod Inner
 pub mod Tech3342

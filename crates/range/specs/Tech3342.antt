@@ -9,10 +9,10 @@ use mathlib.Core.List.{List, [], _∷_, _++_}
 use lib.Dec.{eqb}
 use lib.ListN.{length, getD, replicate}
 use lib.Ieee.{Float, nan, lt}
-use Rattle.histogram_bins.specs.Tables.{boundaryAt, energyAt}
-use Rattle.gate.specs.Gate.{none, energiesFrom}
+use Rattle.tables.specs.Tables.{boundaryAt, energyAt}
+use Rattle.blocks.specs.Totals.{none, energiesFrom}
 use Rattle.ordering.specs.Order.{inOrder}
-use Rattle.range.specs.Range.{Span, found, nothing, gateEnergy}
+use Rattle.spans.specs.Span.{Span, found, nothing, gateEnergy}
 
 -- the blocks that a gate leaves: those that are not below it
 unfoldable pub gated : Float → List Float → List Float

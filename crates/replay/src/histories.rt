@@ -1,5 +1,5 @@
 // The cases of histories: adds to a histogram, merges of two, adds to a queue.
-use history::queue::Queue;
+use queue::Queue;
 use refusals::Answer;
 
 // 0, or the refusal's number.
@@ -34,7 +34,7 @@ fn all_added(case: &[u8], counters: &mut [u32]) -> bool {
 
 // Whether the energy is counted, and its bin has this count.
 fn added(counters: &mut [u32], energy: f64, bin: usize, count: u64) -> bool {
-    let answer = history::histogram::add(counters, energy);
+    let answer = histogram::add(counters, energy);
     number_of(answer) == 0 && count_at(counters, bin) == count
 }
 
@@ -87,7 +87,7 @@ fn merged(case: &[u8], into: &mut [u32], from: &[u32]) -> bool {
     if from.len() < length {
         return false;
     }
-    let answer = history::histogram::merge(into, &from[..length]);
+    let answer = histogram::merge(into, &from[..length]);
     number_of(answer) == fields::number_at(case, 0, 2)
 }
 

@@ -111,9 +111,9 @@ fn case_same(operation: u64, case: &[u8]) -> bool {
 fn table_same(case: &[u8]) -> bool {
     let place = fields::number_at(case, 2, 2) as usize;
     let entry = if fields::number_at(case, 0, 2) == 0 {
-        histogram_bins::tables::boundary(place)
+        histogram_bins::boundary(place)
     } else {
-        histogram_bins::tables::energy(place)
+        histogram_bins::energy(place)
     };
     floats::pattern_of(entry) == fields::number_at(case, 4, 8)
 }

@@ -3,10 +3,10 @@
 // u64 patterns of 24 energies. Then the answers: u16 refusal of the gate (0: none), u64 blocks, u64 pattern of their sum; u16 code of the range, u64 patterns
 // of its two energies; u64 patterns of the 24 places to work in, all 0 before. What is not answered is 0.
 use gate::Gated;
-use history::queue::Queue;
 use history::set::Entry;
 use history::set::Shape;
-use range::Range;
+use queue::Queue;
+use spans::Range;
 
 pub(crate) fn answers_same(case: &[u8]) -> bool {
     let mut counters = [0u32; 1000];

@@ -58,6 +58,12 @@ module _ {A : Type 0} (f : A → Float) (l : List A) (channels channel frame : �
 
 -- ---- columns
 
+-- a place within a list does not depend on what stands past its end
+pub within : (l : List Float) (i : ℕ) (d e : Float) → i < length l → getD l i d ≡ getD l i e
+within [] i d e h = absurd (not-suc-le-zero h)
+within (x ∷ l) zero d e h = refl
+within (x ∷ l) (suc i) d e h = within l i d e (le-of-suc-le-suc h)
+
 pub length-column : (l : List Float) (at step count : ℕ) → length (column l at step count) ≡ count
 unfolding column
 length-column l at step zero = refl

@@ -11,7 +11,7 @@ use lib.ListN.{length, getD, set, drop, length-set, drop-of-length-le}
 use lib.Seq.{sets, set-out, drop-cons}
 use lib.Ieee.{Float}
 
-past-end : (vs block : List Float) (i : ℕ) → length block ≤ i → sets block i vs ≡ block
+pub past-end : (vs block : List Float) (i : ℕ) → length block ≤ i → sets block i vs ≡ block
 past-end [] block i h = refl
 past-end (v ∷ vs) block i h = rw (set-out block i v h) (past-end vs block (suc i) (omega arith))
 

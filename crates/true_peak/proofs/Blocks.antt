@@ -10,31 +10,14 @@ use lib.Ieee.{Float, nan}
 use Rattle.interp.specs.declared.Interp.{Interp}
 use Rattle.true_peak.specs.Channel.{Channel, hear, heard, past}
 use Rattle.true_peak.specs.Line.{back, scanned}
-use Rattle.true_peak.specs.TruePeak.{column}
+use Rattle.samples.specs.Frames.{column}
+use Rattle.samples.proofs.Columns.{length-column, column-append}
 use Rattle.true_peak.proofs.Lines.{heard-stored}
 
 pub heard-append : (i : Interp) (ch : Channel) (xs ys : List Float) → heard i ch (xs ++ ys) ≡ heard i (heard i ch xs) ys
 unfolding heard
 heard-append i ch [] ys = refl
 heard-append i ch (x ∷ xs) ys = heard-append i (hear i ch x) xs ys
-
-pub column-length : (l : List Float) (at step n : ℕ) → length (column l at step n) ≡ n
-unfolding column
-column-length l at step zero = refl
-column-length l at step (suc n) = ap suc (column-length l (at + step) step n)
-
-pub column-append : (l : List Float) (at step n m : ℕ) → column l at step (n + m) ≡ column l at step n ++ column l (at + n * step) step m
-unfolding column
-column-append l at step zero m =
-    let e : 0 + m ≡ m = omega arith in
-    let f : at ≡ at + 0 * step = omega (arith, zero-mul step) in
-    ap (column l at step) e ∙ ap (λ (p : ℕ). column l p step m) f
-column-append l at step (suc n) m =
-    let e : suc n + m ≡ suc (n + m) = omega arith in
-    let f : at + step + n * step ≡ at + suc n * step = omega (arith, suc-mul n step) in
-    ap (column l at step) e
-    ∙ ap (λ (r : List Float). getD l at nan ∷ r) (column-append l (at + step) step n m)
-    ∙ ap (λ (p : ℕ). getD l at nan ∷ (column l (at + step) step n ++ column l p step m)) f
 
 -- one block of n samples: the line with it stored, scanned, and carried
 pub block-turn : (i : Interp) (samples old stored new : List Float) (at step left n : ℕ) (peak loud : Float)
@@ -45,7 +28,7 @@ pub block-turn : (i : Interp) (samples old stored new : List Float) (at step lef
 block-turn i samples old stored new at step left n peak loud h r es el en =
     let xs = column samples at step n in
     let rest = column samples (at + n * step) step (left - n) in
-    let k : length xs ≡ n = column-length samples at step n in
+    let k : length xs ≡ n = length-column samples at step n in
     let e : n + (left - n) ≡ left = omega arith in
     ap (λ (q : List Float). heard i (record { history = q; peak = loud }) rest) en
     ∙ ap (λ (v : Float). heard i (record { history = back stored n past; peak = v }) rest) el

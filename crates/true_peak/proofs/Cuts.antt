@@ -12,8 +12,11 @@ use lib.Ieee.{Float, nan}
 use Rattle.interp.specs.Interp.{Kind, upsampled, noTruePeak}
 use Rattle.true_peak.specs.declared.TruePeak.{TruePeak}
 use Rattle.true_peak.specs.Channel.{Channel}
-use Rattle.true_peak.specs.TruePeak.{Block, mostChannels, channelOf, column, channelSamples, measured, heardBy}
-use Rattle.true_peak.proofs.Blocks.{heard-append, column-append}
+use Rattle.samples.specs.Frames.{silence, column}
+use Rattle.samples.proofs.Columns.{column-append}
+use Rattle.calls.specs.Calls.{mostChannels}
+use Rattle.true_peak.specs.TruePeak.{Block, channelOf, channelSamples, measured, heardBy}
+use Rattle.true_peak.proofs.Blocks.{heard-append}
 use Rattle.true_peak.proofs.Independence.{Sized, either, measured-sized, own-channel, other-channel, same-state}
 
 heardBy-append : (k : Kind) (ch : Channel) (xs ys : List Float) → heardBy k ch (xs ++ ys) ≡ heardBy k (heardBy k ch xs) ys
@@ -26,15 +29,15 @@ column-left : (xs ys : List Float) (at step n : ℕ) → at + n * step < length 
 unfolding column
 column-left xs ys at step zero h = refl
 column-left xs ys at step (suc n) h =
-    ap (λ (v : Float). v ∷ column (xs ++ ys) (at + step) step n) (List·getD-append xs ys nan at (omega (arith, suc-mul n step)))
-    ∙ ap (λ (r : List Float). getD xs at nan ∷ r) (column-left xs ys (at + step) step n (omega (arith, suc-mul n step)))
+    ap (λ (v : Float). v ∷ column (xs ++ ys) (at + step) step n) (List·getD-append xs ys silence at (omega (arith, suc-mul n step)))
+    ∙ ap (λ (r : List Float). getD xs at silence ∷ r) (column-left xs ys (at + step) step n (omega (arith, suc-mul n step)))
 
 column-right : (xs ys : List Float) (at step n from : ℕ) → from ≡ length xs + at → column (xs ++ ys) from step n ≡ column ys at step n
 unfolding column
 column-right xs ys at step zero from e = refl
 column-right xs ys at step (suc n) from e =
-    ap (λ (v : Float). v ∷ column (xs ++ ys) (from + step) step n) (ap (λ (p : ℕ). getD (xs ++ ys) p nan) e ∙ getD-append-add xs ys at nan)
-    ∙ ap (λ (r : List Float). getD ys at nan ∷ r) (column-right xs ys (at + step) step n (from + step) (omega arith))
+    ap (λ (v : Float). v ∷ column (xs ++ ys) (from + step) step n) (ap (λ (p : ℕ). getD (xs ++ ys) p silence) e ∙ getD-append-add xs ys at silence)
+    ∙ ap (λ (r : List Float). getD ys at silence ∷ r) (column-right xs ys (at + step) step n (from + step) (omega arith))
 
 module _ (channels : ℕ) (some : 0 < channels) (few : channels ≤ mostChannels) (xs ys : List Float) (whole : length xs % channels ≡ 0) where
   block : List Float → Block

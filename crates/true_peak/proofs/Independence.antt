@@ -13,7 +13,8 @@ use Rattle.interp.specs.declared.Interp.{Interp}
 use Rattle.interp.specs.Interp.{Kind, upsampled, noTruePeak}
 use Rattle.true_peak.specs.declared.TruePeak.{TruePeak}
 use Rattle.true_peak.specs.Channel.{Channel, hear, heard, past}
-use Rattle.true_peak.specs.TruePeak.{Block, mostChannels, historyAt, channelOf, withChannel, channelSamples, channelsFrom, measured, heardBy}
+use Rattle.calls.specs.Calls.{mostChannels}
+use Rattle.true_peak.specs.TruePeak.{Block, historyAt, channelOf, withChannel, channelSamples, channelsFrom, measured, heardBy}
 use Rattle.true_peak.proofs.Lines.{sets-before, sets-at, sets-after}
 
 -- a state as the code has it

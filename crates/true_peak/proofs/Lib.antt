@@ -2,7 +2,6 @@ pub mod Signs
 pub mod Lines
 pub mod Blocks
 pub mod Channels
-pub mod Refusals
 pub mod Independence
 pub mod Cuts
 pub mod Worked

@@ -15,7 +15,9 @@ use Rattle.interp.specs.Interp.{fourfold, twofold}
 use Rattle.interp.specs.Phase.{phase, phases, listed}
 use Rattle.true_peak.specs.Channel.{Channel, hear, heard, past, loudest}
 use Rattle.true_peak.specs.Line.{back, scanned, windowAt}
-use Rattle.true_peak.specs.TruePeak.{column, historyAt}
+use Rattle.samples.specs.Frames.{silence, column}
+use Rattle.samples.proofs.Columns.{within}
+use Rattle.true_peak.specs.TruePeak.{historyAt}
 
 -- ---- runs of a line
 -- two lines that agree at m places have the same run there
@@ -219,13 +221,14 @@ unfolding back
 kept-end memory l p k h = let e : 0 ≡ past - k = omega arith in ap (λ (n : ℕ). sets memory (p + k) (back l 0 n)) e
 
 -- ---- a channel's samples go to the line one by one
-pub gathered-turn : (samples l : List Float) (i step n k : ℕ) → k < n
+pub gathered-turn : (samples l : List Float) (i step n k : ℕ) → k < n → i < length samples
     → sets (set l (past + k) (getD samples i nan)) (past + (k + 1)) (column samples (i + step) step (n - (k + 1))) ≡ sets l (past + k) (column samples i step (n - k))
 unfolding column
-gathered-turn samples l i step n k h =
+gathered-turn samples l i step n k h here =
     let e : n - k ≡ suc (n - (k + 1)) = omega arith in
     let g : past + (k + 1) ≡ suc (past + k) = omega arith in
-    ap (λ (p : ℕ). sets (set l (past + k) (getD samples i nan)) p (column samples (i + step) step (n - (k + 1)))) g
+    ap (λ (x : Float). sets (set l (past + k) x) (past + (k + 1)) (column samples (i + step) step (n - (k + 1)))) (within samples i nan silence here)
+    ∙ ap (λ (p : ℕ). sets (set l (past + k) (getD samples i silence)) p (column samples (i + step) step (n - (k + 1)))) g
     ∙ ap (λ (m : ℕ). sets l (past + k) (column samples i step m)) (sym e)
 
 pub gathered-start : (samples l : List Float) (first step n : ℕ) → first + n * step < length samples + step

@@ -14,7 +14,8 @@ use Rattle.interp.specs.Phase.{phases}
 use Rattle.true_peak.specs.Channel.{louder, loudest}
 use Rattle.true_peak.specs.Line.{block, back, scanned, loudestOf, Louds}
 use Rattle.true_peak.proofs.Independence.{either}
-use Rattle.true_peak.proofs.Loud.{Over, over-self, apart, loudest-over, loudest-join, loudest-none, scanned-louds}
+use Rattle.floats.proofs.Larger.{Over, over-self}
+use Rattle.true_peak.proofs.Loud.{apart, loudest-over, loudest-join, loudest-none, scanned-louds}
 
 module _ (i : Interp) (line : List Float) (peak : Float) where
   -- what frame `at` makes of the peak

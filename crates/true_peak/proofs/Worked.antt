@@ -12,7 +12,8 @@ use Rattle.interp.specs.Taps.{fourfoldAt, twofoldAt}
 use Rattle.interp.specs.Phase.{nought, phase, phases}
 use Rattle.true_peak.specs.declared.TruePeak.{TruePeak}
 use Rattle.true_peak.specs.Channel.{heard, loudest}
-use Rattle.true_peak.specs.TruePeak.{Block, silent, measured, column}
+use Rattle.samples.specs.Frames.{column}
+use Rattle.true_peak.specs.TruePeak.{Block, silent, measured}
 
 -- -1.0 and then n zeros, of one channel
 unfoldable pub fullScale : ℕ → Block

@@ -1,22 +1,18 @@
 -- A call of the true peak over interleaved samples (01, steps 5 and 6): each channel, unused ones too, hears its own samples and no others.
-use mathlib.Core.List.{List, [], _∷_}
-use mathlib.Core.Bool.{_||_, cond}
-use Prim.Native.Nat.{ℕ, zero, suc, _+_, _*_, _/_, _%_}
-use lib.Dec.{ltb, eqb}
+use mathlib.Core.List.{List}
+use Prim.Native.Nat.{ℕ, zero, suc, _+_, _*_, _/_}
 use lib.ListN.{length, getD, take, drop, set, replicate}
 use lib.Seq.{sets}
 use lib.Ieee.{Float, nan}
-use Rattle.refusals.specs.Refusal.{CHANNELS, SAMPLES, number}
-use Rattle.refusals.specs.Outcome.{Outcome, went, refused, NoValues, done}
+use Rattle.refusals.specs.Outcome.{Outcome, went, NoValues, done}
+use Rattle.samples.specs.Frames.{column}
+use Rattle.calls.specs.Check.{unless}
+use Rattle.calls.specs.Calls.{mostChannels, checkFrames}
 use Rattle.interp.specs.declared.Interp.{Interp}
 use Rattle.interp.specs.Interp.{Kind, upsampled, noTruePeak, kindOf}
 use Rattle.interp.specs.Phase.{nought}
 use Rattle.true_peak.specs.declared.TruePeak.{TruePeak}
 use Rattle.true_peak.specs.Channel.{Channel, past, heard}
-
--- how many channels a state has room for
-abbrev pub mostChannels : ℕ
-mostChannels = 8
 
 -- channel c's history stands in the flat memory at `past` places, from c * past on
 abbrev pub historyAt : List Float → ℕ → List Float
@@ -27,11 +23,6 @@ channelOf t c = record { history = historyAt (t .memory) c; peak = getD (t .peak
 
 abbrev pub withChannel : TruePeak → ℕ → Channel → TruePeak
 withChannel t c ch = record { memory = sets (t .memory) (c * past) (ch .history); peaks = set (t .peaks) c (ch .peak) }
-
--- n samples of an interleaved list, from place i on, one in each `step` places
-unfoldable pub column : List Float → ℕ → ℕ → ℕ → List Float
-column l i step zero = []
-column l i step (suc n) = getD l i nan ∷ column l (i + step) step n
 
 -- a call's samples: how many channels they interleave, and themselves
 pub record Block : Type 0 where
@@ -61,17 +52,9 @@ unfoldable pub heardBy : Kind → Channel → List Float → Channel
 heardBy (upsampled i) ch xs = heard i ch xs
 heardBy noTruePeak ch xs = ch
 
--- the number of the refusal that a block's channels and samples call for, in table order, or 0
-unfoldable pub refusalOf : Block → ℕ
-refusalOf b =
-    cond (eqb (b .channels) 0 || ltb mostChannels (b .channels)) (number CHANNELS)
-    (cond (eqb (length (b .samples) % b .channels) 0) 0 (number SAMPLES))
-
 -- what a call comes to that would leave a state
-unfoldable pub unlessRefused : Block → TruePeak → Outcome TruePeak NoValues
-unlessRefused b t =
-    cond (eqb (b .channels) 0 || ltb mostChannels (b .channels)) (refused CHANNELS)
-    (cond (eqb (length (b .samples) % b .channels) 0) (went t done) (refused SAMPLES))
+abbrev pub unlessRefused : Block → TruePeak → Outcome TruePeak NoValues
+unlessRefused b t = unless (checkFrames (b .channels) (length (b .samples))) (went t done)
 
 abbrev pub processed : ℕ → Block → TruePeak → Outcome TruePeak NoValues
 processed rate b t = unlessRefused b (measured (kindOf rate) b t)

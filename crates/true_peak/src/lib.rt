@@ -10,7 +10,9 @@ ghost use Rattle.interp.specs.Interp.{fourfold, twofold, upsampled, kindOf, Kno
 ghost use Rattle.interp.specs.Phase.{four, two, phases};
 ghost use Rattle.true_peak.specs.Channel.{Channel, heard, magnitude, louder, loudest, past};
 ghost use Rattle.true_peak.specs.Line.{back, windowAt, block, room, scanned, loudestOf, Louds};
-ghost use Rattle.true_peak.specs.TruePeak.{Block, mostChannels, silent, historyAt, channelOf, withChannel, column, measured, refusalOf, processed, seeded};
+ghost use Rattle.samples.specs.Frames.{column};
+ghost use Rattle.calls.specs.Calls.{mostChannels};
+ghost use Rattle.true_peak.specs.TruePeak.{Block, silent, historyAt, channelOf, withChannel, measured, processed, seeded};
 use interp::Four;
 use interp::Interp;
 use interp::Scan;
@@ -33,7 +35,6 @@ pub struct Measured {
 }
 
 impl TruePeak {
-    pub const CHANNELS: usize = 8;
     // The samples before a frame's own that 24 taps reach.
     pub const PAST: usize = Interp::TWOFOLD_TAPS - 1;
 
@@ -394,28 +395,12 @@ fn measure(rate: u32, t: TruePeak, channels: usize, samples: &[f32]) -> TruePeak
     }
 }
 
-// The number of CHANNELS or SAMPLES, or 0.
-fn refused(channels: usize, samples: &[f32]) -> u8
-    ensures { λ r. ⌜ r ≡ refusalOf (record { channels = channels; samples = now (samples .entry) }) ⌝ }
-{
-    if channels == 0 {
-        return refusals::CHANNELS;
-    }
-    if TruePeak::CHANNELS < channels {
-        return refusals::CHANNELS;
-    }
-    if samples.len() % channels != 0 {
-        return refusals::SAMPLES;
-    }
-    0
-}
-
 // The true peaks after a block of interleaved samples. Calls may be cut between any two frames.
 pub fn process(rate: u32, t: TruePeak, channels: usize, samples: &[f32]) -> Measured
     ensures { λ r. ⌜ said (r .answer) ≡ saidBy (processed rate (record { channels = channels; samples = now (samples .entry) }) t) ⌝ }
     ensures { λ r. ⌜ r .state ≡ keptBy t (processed rate (record { channels = channels; samples = now (samples .entry) }) t) ⌝ }
 {
-    let number = refused(channels, samples);
+    let number = calls::refused_frames(channels, samples.len());
     if number != 0 {
         return Measured {
             answer: Answer::Refused(number),
@@ -433,7 +418,7 @@ pub fn seed(rate: u32, t: TruePeak, channels: usize, samples: &[f32]) -> Measure
     ensures { λ r. ⌜ said (r .answer) ≡ saidBy (seeded rate (record { channels = channels; samples = now (samples .entry) }) t) ⌝ }
     ensures { λ r. ⌜ r .state ≡ keptBy t (seeded rate (record { channels = channels; samples = now (samples .entry) }) t) ⌝ }
 {
-    let number = refused(channels, samples);
+    let number = calls::refused_frames(channels, samples.len());
     if number != 0 {
         return Measured {
             answer: Answer::Refused(number),

@@ -2,7 +2,7 @@
 use mathlib.Core.Path.{_∙_}
 use borrow.Author.Needs.{needs}
 use denote.Ref.{now}
-use Rattle.history.specs.Histogram.{addTo}
+use Rattle.histogram.specs.Histogram.{addTo}
 use Rattle.codes.proofs.Told.{answer-told}
 use Rattle.exports_histories.proofs.xel_histogram_add.Statement.{statement}
 use Rattle.exports_histories.proofs.xel_histogram_add.Tie as tie

@@ -1,12 +1,24 @@
 -- `new` meets its contract: the literal 0.0 is +0. Assumes nothing.
-use mathlib.Core.Path.{refl}
+use borrow.Author.Needs.{needs}
+use mathlib.Core.Path.{ap}
+use lib.ListN.{replicate}
 use lib.Ieee.{ofBits}
+use Rattle.samples.specs.Frames.{silence}
+use Rattle.calls.specs.Calls.{mostChannels}
+use Rattle.recurrence.specs.Channels.{statePlaces}
+use Rattle.true_peak.specs.declared.TruePeak.{TruePeak}
+use Rattle.filter.specs.declared.Filter.{Filter}
 use Rattle.filter.proofs.new.Statement.{statement}
 use Rattle.filter.proofs.new.Tie as tie
 
+new-requires : tie.Need-new-requires
+new-requires c κs = search needs
+
 returns : tie.Need-returns
 unfolding ofBits
-returns c = refl
+returns c =
+    let a = c .before .args in
+    ap (λ (t : TruePeak). record { channels = a .channels; rate = a .rate; switches = a .switches; coefficients = a .coefficients; state = record { values = replicate statePlaces silence }; peaks = record { values = replicate mostChannels silence }; «true_peak» = t }) (c .new .ensures)
 
 pub new-spec : {M : Type 1} → statement M
-new-spec = tie.close (tie.spec returns)
+new-spec = tie.close (tie.spec new-requires returns)

@@ -8,8 +8,8 @@ use lib.ListN.{length, take, drop}
 use Rattle.history.specs.Set.{Histories, histories, allShow}
 use Rattle.history.proofs.Entries.{inside-at, sound-at}
 use Rattle.history.proofs.Verdicts.{Kept, kept}
-use Rattle.gate.specs.declared.Totals.{Totals}
-use Rattle.gate.specs.Gate.{mostBlocks, none, allGated}
+use Rattle.blocks.specs.Totals.{mostBlocks, none}
+use Rattle.gate.specs.Gate.{allGated}
 use Rattle.gate.proofs.Passes.{gated-turn, gated-end}
 use Rattle.gate.proofs.all_gated.Statement.{statement}
 use Rattle.gate.proofs.all_gated.Tie as tie
@@ -26,26 +26,17 @@ abbrev μ-loop : tie.MeasureT-loop
 start-bin-requires : tie.Need-start-bin-requires Inv-loop μ-loop
 start-bin-requires c κs = search needs
 
-no-totals-requires : tie.Need-no-totals-requires Inv-loop μ-loop
-no-totals-requires c κs = search needs
-
 -- the set, which nothing refuses
 abbrev given : tie.At-loop Inv-loop μ-loop → Histories
 given l =
-    let a = l .before .before .before .before .before .args in
+    let a = l .before .before .before .before .args in
     histories (a .t1) (a .count) (now (a .counters)) (now (a .energies))
 
 well : (l : tie.At-loop Inv-loop μ-loop) → Kept (given l)
-well l = kept (given l) (l .before .before .before .before .before .pre)
+well l = kept (given l) (l .before .before .before .before .pre)
 
 loop-holds : tie.Need-loop-holds Inv-loop μ-loop
-loop-holds c =
-    let a = c .before .before .before .before .args in
-    let none-yet = c .no-totals .ensures in (
-      omega arith,
-      omega (arith, ap (λ (t : Totals). t .count) none-yet),
-      ap (λ (t : Totals). allGated (a .threshold) t (allShow (now (a .counters)) (now (a .energies)) (take (a .count) (a .t1)))) none-yet,
-    )
+loop-holds c = (omega arith, omega arith, refl)
 
 mul-entry : tie.Need-mul-entry Inv-loop μ-loop
 mul-entry c = let k = well (c .before) in omega (arith, k .few)
@@ -61,7 +52,7 @@ history-gated-requires c κs =
       inside-at (length (h .counters)) (length (h .energies)) (h .entries) (h .count) (l .loop .i) (omega arith) (omega (arith, k .few)) (k .inside),
       sound-at (h .energies) (h .entries) (h .count) (l .loop .i) (omega arith) (omega (arith, k .few)) (k .stores),
       omega (arith, k .few),
-      l .before .before .start-bin .ensures,
+      l .before .start-bin .ensures,
     )
 
 add-i : tie.Need-add-i Inv-loop μ-loop
@@ -78,7 +69,7 @@ loop-again c =
     let next = c .history-gated in (
       omega arith,
       omega (arith, next .ensures .1),
-      gated-turn (h .counters) (h .energies) (h .entries) (h .count) (l .loop .i) (l .loop .totals) (l .before .before .before .before .before .args .threshold) (omega arith)
+      gated-turn (h .counters) (h .energies) (h .entries) (h .count) (l .loop .i) (l .loop .totals) (l .before .before .before .before .args .threshold) (omega arith)
           (omega (arith, k .few)) (next .result) (next .ensures .0)
           ∙ l .loop .inv .2,
     )
@@ -87,11 +78,8 @@ returns : tie.Need-returns Inv-loop μ-loop
 returns c =
     let l = c .before in
     let h = given l in
-    let k = well l in (
-      sym (gated-end (h .counters) (h .energies) (h .entries) (h .count) (l .loop .i) (l .loop .totals) (l .before .before .before .before .before .args .threshold) (omega arith))
-          ∙ l .loop .inv .2,
-      omega (arith, k .few),
-    )
+    sym (gated-end (h .counters) (h .energies) (h .entries) (h .count) (l .loop .i) (l .loop .totals) (l .before .before .before .before .args .threshold) (omega arith))
+    ∙ l .loop .inv .2
 
 pub all-gated-spec : {M : Type 1} → statement M
 all-gated-spec =
@@ -100,7 +88,6 @@ all-gated-spec =
     Inv-loop
     μ-loop
     start-bin-requires
-    no-totals-requires
     loop-holds
     mul-entry
     array-copy-out-entry

@@ -6,27 +6,23 @@ use borrow.Author.Needs.{needs}
 use denote.Ref.{now}
 use lib.ListN.{length, drop}
 use Rattle.history.specs.declared.set.Shape.{Shape}
-use Rattle.history.specs.Set.{History, blockEnd, storeEnd, blockAt, shapeShows}
+use Rattle.history.specs.Set.{blockEnd, storeEnd, blockAt, shapeShows}
 use Rattle.history.proofs.Entries.{block-inside, store-inside, sound-queue}
-use Rattle.gate.specs.declared.Totals.{Totals}
-use Rattle.gate.specs.Gate.{binsFrom, gatedOf}
-use Rattle.gate.proofs.Start.{start-most}
+use Rattle.blocks.specs.Totals.{binsFrom}
+use Rattle.blocks.proofs.Running.{there}
+use Rattle.gate.specs.Gate.{gatedOf}
+use Rattle.gate.proofs.Keeping.{bins-on}
 use Rattle.gate.proofs.history_gated.Statement.{statement}
 use Rattle.gate.proofs.history_gated.Tie as tie
 
 enum-known-shape : tie.Need-enum-known-shape
 enum-known-shape c = search needs
 
-block-from-requires : tie.Need-block-from-requires
-block-from-requires c κs =
-    let w = c .before .before .before .before .before in
-    let a = w .args in
-    let sh = c .before .shape in (
-      subst (λ (s : Shape). blockEnd s ≤ length (now (a .counters))) (sh .given .1)
-          (block-inside (length (now (a .counters))) (length (now (a .energies))) (a .entry) (w .pre .0)),
-      subst (λ n. n ≤ 1000) (sym (w .pre .3)) (start-most (a .threshold)),
-      w .pre .2,
-    )
+from-bin-requires : tie.Need-from-bin-requires
+from-bin-requires c κs = search needs
+
+add-t13 : tie.Need-add-t13
+add-t13 c = omega (arith, c .before .before .from-bin .ensures .1)
 
 enum-known-shape-2 : tie.Need-enum-known-shape-2
 enum-known-shape-2 c = search needs
@@ -44,12 +40,19 @@ queue-kept-requires c κs =
 
 returns : tie.Need-returns
 returns c =
-    let w = c .before .before .before .before .before .before in
+    let g = c .before .before in
+    let w = g .before .before .before .before .before .before in
     let a = w .args in
-    let sh = c .before .before .shape in (
-      c .block-from .ensures .0 ∙ ap (λ n. binsFrom (a .totals) n (drop n (blockAt (now (a .counters)) (sh .given .0 .0)))) (w .pre .3)
-          ∙ ap (λ (s : Shape). gatedOf (a .threshold) (a .totals) (shapeShows (now (a .counters)) (now (a .energies)) s)) (sym (sh .given .1)),
-      c .block-from .ensures .1,
+    let counters = now (a .counters) in
+    let start = g .before .before .shape .given .0 .0 in
+    let is = g .before .before .shape .given .1 in
+    let gated = g .from-bin in
+    let within : start + 1000 ≤ length counters =
+    subst (λ (s : Shape). blockEnd s ≤ length counters) is (block-inside (length counters) (length (now (a .energies))) (a .entry) (w .pre .0)) in (
+      bins-on (a .totals) (gated .result) (a .bin) (drop (a .bin) (blockAt counters start)) (gated .ensures .0 ∙ there (a .totals .sum) counters start (a .bin) within)
+          ∙ ap (λ n. binsFrom (a .totals) n (drop n (blockAt counters start))) (w .pre .3)
+          ∙ ap (λ (s : Shape). gatedOf (a .threshold) (a .totals) (shapeShows counters (now (a .energies)) s)) (sym is),
+      omega (arith, gated .ensures .1),
     )
 
 returns-2 : tie.Need-returns-2
@@ -66,7 +69,8 @@ history-gated-spec =
     tie.close
     (tie.spec
     enum-known-shape
-    block-from-requires
+    from-bin-requires
+    add-t13
     enum-known-shape-2
     queue-kept-requires
     returns

@@ -5,15 +5,15 @@ use mathlib.Core.Path.{sym, ap, _∙_}
 use borrow.Author.Needs.{needs}
 use lib.Ieee.{Float, le}
 use Rattle.histogram_bins.proofs.Ends.{bin-above, bin-under}
-use Rattle.histogram_bins.proofs.Rows.{between}
+use Rattle.histogram_bins.proofs.Between.{between}
 use Rattle.histogram_bins.proofs.find_histogram_index.Statement.{statement}
 use Rattle.histogram_bins.proofs.find_histogram_index.Tie as tie
 
 near-requires : tie.Need-near-requires
 near-requires c κs = search needs
 
-row-requires : tie.Need-row-requires
-row-requires c κs = search needs
+boundary-row-requires : tie.Need-boundary-row-requires
+boundary-row-requires c κs = search needs
 
 mul-if1 : tie.Need-mul-if1
 mul-if1 c = search needs
@@ -34,7 +34,7 @@ returns : tie.Need-returns
 returns c =
     let read = c .before .before in
     let near = read .before .near in
-    between (read .before .before .args .energy) (near .result) (read .row .result) (near .ensures) (read .row .ensures) (c .before .if1 .taken) (c .if2 .taken)
+    between (read .before .before .args .energy) (near .result) (read .boundary-row .result) (near .ensures) (read .boundary-row .ensures) (c .before .if1 .taken) (c .if2 .taken)
 
 highest-boundary-requires : tie.Need-highest-boundary-requires
 highest-boundary-requires c κs = search needs
@@ -61,5 +61,5 @@ returns-4 c =
 pub find-histogram-index-spec : {M : Type 1} → statement M
 find-histogram-index-spec =
     tie.close
-    (tie.spec near-requires row-requires mul-if1 array-read-if1 add-if2 mul-if2 array-read-if2 returns highest-boundary-requires returns-2
+    (tie.spec near-requires boundary-row-requires mul-if1 array-read-if1 add-if2 mul-if2 array-read-if2 returns highest-boundary-requires returns-2
     lowest-boundary-requires by-halving-requires returns-3 returns-4)

@@ -1,4 +1,4 @@
--- `range::loudness_range` meets its contract: the set's refusals first, then by how many of its histories are queues. Assumes nothing.
+-- `range::loudness_range` meets its contract: too many entries, then by how many of the histories are queues. Assumes nothing.
 use mathlib.Core.Path.{_≡_, refl, sym, ap, _∙_}
 use mathlib.Core.List.{List}
 use Prim.Native.Nat.{ℕ}
@@ -6,101 +6,89 @@ use native.Mathlib.Omega.{arith}
 use denote.Ref.{now}
 use lib.Ieee.{Float}
 use lib.ListN.{length}
-use Rattle.refusals.specs.Outcome.{says}
-use Rattle.history.specs.Histogram.{empty}
-use Rattle.history.specs.Set.{Histories, histories, historiesOf, chosen, refusalOf, sound}
-use Rattle.history.proofs.Entries.{blocks-inside, stores-inside}
-use Rattle.history.proofs.Verdicts.{Kept, kept, number-none}
-use Rattle.range.specs.Range.{countedSpan, queuesIn, listedRange, rangeOf}
-use Rattle.range.specs.Inner.{heldIn}
-use Rattle.range.proofs.Adding.{added-any}
-use Rattle.range.proofs.Looking.{held-any}
-use Rattle.range.proofs.Answers.{histories-count, over-histograms, over-queues, over-mixed, range-refused, range-asked}
+use Rattle.refusals.specs.Refusal.{SET, number}
+use Rattle.history.specs.Set.{Histories, histories, historiesOf, numbered, refusalOf}
+use Rattle.history.proofs.Verdicts.{number-none, too-many, set-refused}
+use Rattle.range.specs.Range.{queuesIn}
+use Rattle.range.proofs.Answers.{histories-count, range-histograms, range-queues, range-refused, range-asked, over-mixed}
 use borrow.Author.Needs.{needs}
 use Rattle.range.proofs.loudness_range.Statement.{statement}
 use Rattle.range.proofs.loudness_range.Tie as tie
 
 -- the set, as it was given, and the work slice
-abbrev given : tie.After-checked → Histories
-given k =
-    let a = k .before .before .before .before .args in
-    histories (a .entries) (a .count) (now (a .counters)) (now (a .energies))
+abbrev given : tie.Start → Histories
+given s = histories (s .args .entries) (s .args .count) (now (s .args .counters)) (now (s .args .energies))
 
-abbrev work : tie.After-checked → List Float
-work k = now (k .before .before .before .before .args .work)
+abbrev work : tie.Start → List Float
+work s = now (s .args .work)
 
--- nothing refuses the set
-passed : (e : tie.Else1) → refusalOf (given (e .before)) ≡ sound
-passed e = number-none (refusalOf (given (e .before))) (sym (e .before .checked .ensures) ∙ e .if1 .left)
+abbrev start : tie.After-queues-in → tie.Start
+start q = q .before .before .before .before .before
 
-well : (e : tie.Else1) → Kept (given (e .before))
-well e = kept (given (e .before)) (passed e)
+queues-are : (q : tie.After-queues-in) → q .queues-in .result ≡ queuesIn (historiesOf (given (start q)))
+queues-are q = let h = given (start q) in q .queues-in .ensures (h .counters) (h .energies)
 
-queues-are : (q : tie.After-queues-in) → q .queues-in .result ≡ queuesIn (historiesOf (given (q .before .before)))
-queues-are q = let h = given (q .before .before) in q .queues-in .ensures (h .counters) (h .energies)
-
-as-many : (q : tie.After-queues-in) → length (historiesOf (given (q .before .before))) ≡ given (q .before .before) .count
+as-many : (q : tie.After-queues-in) → length (historiesOf (given (start q))) ≡ given (start q) .count
 as-many q =
-    let h = given (q .before .before) in
-    let k = well (q .before) in
-    histories-count (h .counters) (h .energies) (h .entries) (h .count) (omega (arith, k .few))
-
-checked-requires : tie.Need-checked-requires
-checked-requires c κs = search needs
+    let h = given (start q) in
+    histories-count (h .counters) (h .energies) (h .entries) (h .count) (omega (arith, q .before .if1 .left))
 
 returns : tie.Need-returns
-returns c = let k = c .before in range-refused (given k) (work k) (k .checked .result) (k .checked .ensures) (c .if1 .taken)
+returns c =
+    let s = c .before .before .before .before in
+    range-refused (given s) (work s) (number SET) (sym (ap numbered (set-refused (given s) (too-many (given s) (c .if1 .taken))))) (λ e. omega (arith, e))
 
 queues-in-requires : tie.Need-queues-in-requires
-queues-in-requires c κs = well c .few
+queues-in-requires c κs = search needs
 
 of-histograms-requires : tie.Need-of-histograms-requires
-of-histograms-requires c κs =
-    let e = c .before .before in
-    let h = given (e .before) in
-    (well e .few, blocks-inside (length (h .counters)) (length (h .energies)) (chosen h) (well e .inside))
+of-histograms-requires c κs = search needs
 
 returns-2 : tie.Need-returns-2
 returns-2 c =
     let q = c .before .before in
-    let h = given (q .before .before) in
-    let w = work (q .before .before) in
-    rw (range-asked h w (passed (q .before)) ∙ over-histograms (historiesOf h) w (sym (queues-are q) ∙ c .before .if2 .taken))
-    (c .of-histograms .ensures ∙ ap (λ (l : List ℕ). says (countedSpan l)) (added-any (h .counters) (h .energies) (chosen h) empty), refl)
+    let s = start q in
+    let r = range-histograms (given s) (work s) (sym (queues-are q) ∙ c .before .if2 .taken) in
+    (c .of-histograms .ensures ∙ r .0, r .1)
 
 of-queues-requires : tie.Need-of-queues-requires
-of-queues-requires c κs =
-    let e = c .before .before .before .before in
-    let h = given (e .before) in
-    (well e .few, stores-inside (length (h .counters)) (length (h .energies)) (chosen h) (well e .inside), well e .stores)
+of-queues-requires c κs = search needs
 
 same-length : tie.Need-same-length
 same-length c = search needs
 
 returns-3 : tie.Need-returns-3
 returns-3 c =
-    let t = c .before .before .before .before in
+    let o = c .before .before in
+    let t = o .before .before in
     let q = t .before .before in
-    let h = given (q .before .before) in
-    let w = work (q .before .before) in
-    let asked : rangeOf h w ≡ listedRange (heldIn (h .energies) (chosen h)) w =
-    range-asked h w (passed (q .before))
-    ∙ over-queues (historiesOf h) w (λ e. t .before .if2 .left (queues-are q ∙ e)) (sym (queues-are q) ∙ t .if3 .taken ∙ sym (as-many q))
-    ∙ ap (λ (l : List Float). listedRange l w) (sym (held-any (h .counters) (h .energies) (chosen h))) in
-    rw asked (c .before .before .of-queues .ensures .0, c .before .before .of-queues .ensures .1)
+    let s = start q in
+    rw (range-queues (given s) (work s) (λ e. t .before .if2 .left (queues-are q ∙ e)) (sym (queues-are q) ∙ t .if3 .taken ∙ sym (as-many q)))
+    (o .of-queues .ensures .0, o .of-queues .ensures .1)
+
+checked-requires : tie.Need-checked-requires
+checked-requires c κs = search needs
 
 returns-4 : tie.Need-returns-4
 returns-4 c =
-    let q = c .before .before in
-    let h = given (q .before .before) in
-    let w = work (q .before .before) in
-    rw (range-asked h w (passed (q .before)) ∙ over-mixed (historiesOf h) w (λ e. c .before .if2 .left (queues-are q ∙ e)) (λ e. c .if3 .left (queues-are q ∙ e ∙ as-many q))) (refl, refl)
+    let k = c .before in
+    let s = start (k .before .before .before) in
+    range-refused (given s) (work s) (k .checked .result) (k .checked .ensures) (c .if4 .taken)
+
+returns-5 : tie.Need-returns-5
+returns-5 c =
+    let k = c .before in
+    let e = k .before in
+    let q = e .before .before in
+    let s = start q in
+    let h = given s in
+    rw (range-asked h (work s) (number-none (refusalOf h) (sym (k .checked .ensures) ∙ c .if4 .left))
+    ∙ over-mixed (historiesOf h) (work s) (λ p. e .before .if2 .left (queues-are q ∙ p)) (λ p. e .if3 .left (queues-are q ∙ p ∙ as-many q))) (refl, refl)
 
 pub loudness-range-spec : {M : Type 1} → statement M
 loudness-range-spec =
     tie.close
     (tie.spec
-    checked-requires
     returns
     queues-in-requires
     of-histograms-requires
@@ -108,4 +96,6 @@ loudness-range-spec =
     of-queues-requires
     same-length
     returns-3
-    returns-4)
+    checked-requires
+    returns-4
+    returns-5)

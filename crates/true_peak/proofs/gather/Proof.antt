@@ -6,7 +6,7 @@ use native.Mathlib.Omega.{arith}
 use lib.ListN.{length}
 use lib.Seq.{sets}
 use Rattle.true_peak.specs.Channel.{past}
-use Rattle.true_peak.specs.TruePeak.{column}
+use Rattle.samples.specs.Frames.{column}
 use Rattle.true_peak.proofs.Lines.{gathered-start, gathered-turn, gathered-end, times-less}
 use Rattle.true_peak.proofs.gather.Statement.{statement}
 use Rattle.true_peak.proofs.gather.Tie as tie
@@ -61,7 +61,7 @@ loop-again c =
       search needs,
       (
         omega (arith, times-less (a .n) (l .k) (a .step) (c .before .loop-test .taken), l .inv),
-        gathered-turn (a .samples .now) (l .line) (l .i) (a .step) (a .n) (l .k) (c .before .loop-test .taken) ∙ l .inv .1 .1,
+        gathered-turn (a .samples .now) (l .line) (l .i) (a .step) (a .n) (l .k) (c .before .loop-test .taken) (inside (c .before)) ∙ l .inv .1 .1,
       ),
     )
 

@@ -2,7 +2,8 @@
 use borrow.Author.Needs.{needs, length-unmapped}
 use lib.Ieee.{Float}
 use Rattle.true_peak.specs.Channel.{heard}
-use Rattle.true_peak.specs.TruePeak.{channelOf, column}
+use Rattle.samples.specs.Frames.{column}
+use Rattle.true_peak.specs.TruePeak.{channelOf}
 use Rattle.true_peak.proofs.Channels.{put}
 use Rattle.true_peak.proofs.listen.Statement.{statement}
 use Rattle.true_peak.proofs.listen.Tie as tie

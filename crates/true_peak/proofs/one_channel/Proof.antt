@@ -9,7 +9,9 @@ use lib.Ieee.{Float}
 use lib.Seq.{sets}
 use Rattle.true_peak.specs.Channel.{Channel, heard, past}
 use Rattle.true_peak.specs.Line.{room, back}
-use Rattle.true_peak.specs.TruePeak.{mostChannels, column, historyAt}
+use Rattle.samples.specs.Frames.{column}
+use Rattle.calls.specs.Calls.{mostChannels}
+use Rattle.true_peak.specs.TruePeak.{historyAt}
 use Rattle.true_peak.proofs.Blocks.{block-turn, none-left, places, stored-length}
 use Rattle.true_peak.proofs.one_channel.Statement.{statement}
 use Rattle.true_peak.proofs.one_channel.Tie as tie

@@ -4,9 +4,9 @@ use mathlib.Core.Bool.{false}
 use borrow.Author.Needs.{needs}
 use denote.Ref.{now}
 use lib.ListN.{length, take}
-use Rattle.history.specs.Set.{Histories, histories, chosen, anyOutside, numbered}
+use Rattle.history.specs.Set.{Histories, histories, chosen, outsideSet, numbered}
 use Rattle.history.proofs.Entries.{stores-inside}
-use Rattle.history.proofs.Verdicts.{too-many, one-outside, one-unsound, all-well}
+use Rattle.history.proofs.Verdicts.{none-outside, set-refused, one-unsound, all-well}
 use Rattle.history.proofs.set.checked.Statement.{statement}
 use Rattle.history.proofs.set.checked.Tie as tie
 
@@ -14,38 +14,30 @@ use Rattle.history.proofs.set.checked.Tie as tie
 abbrev given : tie.Start → Histories
 given c = histories (c .args .entries) (c .args .count) (now (c .args .counters)) (now (c .args .energies))
 
-none-outside : (c : tie.Else2) →
-    let h = given (c .before .before .before .before .before) in
-    anyOutside (length (h .counters)) (length (h .energies)) (chosen h) ≡ false
-none-outside c = sym (c .before .any-outside .ensures) ∙ c .if2 .left
+inside : (c : tie.Else1) → outsideSet (given (c .before .before .before .before)) ≡ false
+inside c = sym (c .before .outside-set .ensures) ∙ c .if1 .left
+
+outside-set-requires : tie.Need-outside-set-requires
+outside-set-requires c κs = search needs
 
 returns : tie.Need-returns
-returns c = sym (ap numbered (too-many (given (c .before .before .before)) (c .if1 .taken)))
-
-any-outside-requires : tie.Need-any-outside-requires
-any-outside-requires c κs = search needs
-
-returns-2 : tie.Need-returns-2
-returns-2 c =
-    let h = given (c .before .before .before .before .before) in
-    sym (ap numbered (one-outside h (c .before .before .if1 .left) (sym (c .before .any-outside .ensures) ∙ c .if2 .taken)))
+returns c = sym (ap numbered (set-refused (given (c .before .before .before .before)) (sym (c .before .outside-set .ensures) ∙ c .if1 .taken)))
 
 all-sound-requires : tie.Need-all-sound-requires
 all-sound-requires c κs =
-    let h = given (c .before .before .before .before .before) in
-    (c .before .before .if1 .left, stores-inside (length (h .counters)) (length (h .energies)) (chosen h) (none-outside c))
+    let h = given (c .before .before .before .before) in
+    let w = none-outside h (inside c) in
+    (w .0, stores-inside (length (h .counters)) (length (h .energies)) (chosen h) (w .1))
+
+returns-2 : tie.Need-returns-2
+returns-2 c =
+    let e = c .before .before in
+    sym (ap numbered (all-well (given (e .before .before .before .before)) (inside e) (sym (c .before .all-sound .ensures) ∙ c .if2 .taken)))
 
 returns-3 : tie.Need-returns-3
 returns-3 c =
     let e = c .before .before in
-    let h = given (e .before .before .before .before .before) in
-    sym (ap numbered (all-well h (e .before .before .if1 .left) (none-outside e) (sym (c .before .all-sound .ensures) ∙ c .if3 .taken)))
-
-returns-4 : tie.Need-returns-4
-returns-4 c =
-    let e = c .before .before in
-    let h = given (e .before .before .before .before .before) in
-    sym (ap numbered (one-unsound h (e .before .before .if1 .left) (none-outside e) (sym (c .before .all-sound .ensures) ∙ c .if3 .left)))
+    sym (ap numbered (one-unsound (given (e .before .before .before .before)) (inside e) (sym (c .before .all-sound .ensures) ∙ c .if2 .left)))
 
 pub checked-spec : {M : Type 1} → statement M
-checked-spec = tie.close (tie.spec returns any-outside-requires returns-2 all-sound-requires returns-3 returns-4)
+checked-spec = tie.close (tie.spec outside-set-requires returns all-sound-requires returns-2 returns-3)

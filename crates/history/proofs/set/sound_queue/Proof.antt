@@ -6,8 +6,8 @@ use mathlib.Core.Path.{_≡_, sym, _∙_}
 use mathlib.Core.Bool.{true, false}
 use borrow.Author.Needs.{needs}
 use denote.Ref.{now}
-use Rattle.history.specs.Queue.{suits}
-use Rattle.history.proofs.Ring.{Suited, suited}
+use Rattle.queue.specs.Queue.{suits}
+use Rattle.queue.proofs.Ring.{Suited, suited}
 use Rattle.history.proofs.Slices.{slice, held-slices}
 use Rattle.history.proofs.Entries.{none-below-append}
 use Rattle.history.proofs.set.sound_queue.Statement.{statement}

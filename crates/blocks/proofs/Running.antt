@@ -1,0 +1,79 @@
+-- Running totals over counters and over energies, a turn at a time: the first of what is left is added, and the rest goes on from there.
+-- The definitions go by recursion on the list, so each law is one step of it. Assumes nothing.
+use mathlib.Core.Path.{_≡_, refl, sym, ap, _∙_}
+use mathlib.Core.List.{List, [], _∷_, _++_}
+use Prim.Native.Nat.{ℕ, suc, _+_, _*_, _/_, _%_, _≤_, _<_}
+use native.Mathlib.Numerals.{add-one}
+use native.Mathlib.Omega.{arith}
+use borrow.Author.Tests.{lt-ltb, le-ltb}
+use lib.IntN.{pos}
+use lib.ListN.{length, getD, drop, drop-of-length-le}
+use lib.Seq.{drop-cons}
+use lib.Ieee.{Float, binary64, mul, ofInt}
+use Rattle.tables.specs.Tables.{energyAt}
+use Rattle.histogram_bins.specs.Bin.{bins}
+use Rattle.tables.specs.Rows.{energiesARow}
+use Rattle.history.specs.Set.{blockAt}
+use Rattle.blocks.specs.declared.Totals.{Totals}
+use Rattle.blocks.specs.Totals.{onTopOf, withBlocks, binsFrom, placesFrom, rowsFrom, energiesFrom, fromBin}
+
+module _ (counters : List ℕ) (totals : Totals) (bin : ℕ) where
+  pub bins-turn : bin < length counters
+      → binsFrom (withBlocks totals (getD counters bin 0) (mul binary64 (ofInt binary64 (pos (getD counters bin 0))) (energyAt bin))) (bin + 1) (drop (bin + 1) counters)
+      ≡ binsFrom totals bin (drop bin counters)
+  unfolding binsFrom
+  bins-turn h = rw (add-one bin, drop-cons counters bin 0 h)
+
+  pub bins-end : length counters ≤ bin → binsFrom totals bin (drop bin counters) ≡ totals
+  unfolding binsFrom
+  bins-end h = rw (drop-of-length-le counters h)
+
+-- ---- rows of bins
+module _ (counters : List ℕ) (totals : Totals) (row place : ℕ) where
+  pub places-turn : (energy : Float) → energiesARow * row + place < length counters → energy ≡ energyAt (energiesARow * row + place)
+      → placesFrom (withBlocks totals (getD counters (energiesARow * row + place) 0) (mul binary64 (ofInt binary64 (pos (getD counters (energiesARow * row + place) 0))) energy)) row (place + 1) counters
+      ≡ placesFrom totals row place counters
+  places-turn energy h e =
+      let bin = energiesARow * row + place in
+      let blocks = getD counters bin 0 in
+      ap (λ (x : Float). placesFrom (withBlocks totals blocks (mul binary64 (ofInt binary64 (pos blocks)) x)) row (place + 1) counters) e
+      ∙ ap (λ (n : ℕ). binsFrom (withBlocks totals blocks (mul binary64 (ofInt binary64 (pos blocks)) (energyAt bin))) n (drop n counters)) {x = energiesARow * row + (place + 1)} {y = bin + 1} (omega arith)
+      ∙ bins-turn counters totals bin h
+
+  -- past its last place a row's next one starts
+  pub row-end : place ≡ energiesARow → placesFrom totals row place counters ≡ rowsFrom totals (row + 1) counters
+  row-end e =
+      ap (λ (n : ℕ). binsFrom totals n (drop n counters)) {x = energiesARow * row + place} {y = energiesARow * (row + 1) + 0} (omega (arith, e))
+
+-- from the row and the place of a bin
+pub at-bin : (counters : List ℕ) (totals : Totals) (bin : ℕ)
+    → placesFrom totals (bin / energiesARow) (bin % energiesARow) counters ≡ binsFrom totals bin (drop bin counters)
+at-bin counters totals bin =
+    ap (λ (n : ℕ). binsFrom totals n (drop n counters)) {x = energiesARow * (bin / energiesARow) + bin % energiesARow} {y = bin} (omega arith)
+
+-- ---- energies
+module _ (energies : List Float) (totals : Totals) (i : ℕ) where
+  pub energies-turn : (d : Float) → i < length energies
+      → energiesFrom (withBlocks totals 1 (getD energies i d)) (drop (i + 1) energies) ≡ energiesFrom totals (drop i energies)
+  unfolding energiesFrom
+  energies-turn d h = rw (add-one i, drop-cons energies i d h)
+
+  pub energies-end : length energies ≤ i → energiesFrom totals (drop i energies) ≡ totals
+  unfolding energiesFrom
+  energies-end h = rw (drop-of-length-le energies h)
+
+-- first one list, then another
+pub energies-append : (totals : Totals) (a b : List Float) → energiesFrom totals (a ++ b) ≡ energiesFrom (energiesFrom totals a) b
+unfolding energiesFrom
+energies-append totals [] b = refl
+energies-append totals (x ∷ a) b = energies-append (withBlocks totals 1 x) a b
+
+-- ---- a histogram among the counters: it is not there, or it is
+module _ (sum : Float) (counters : List ℕ) (start bin : ℕ) where
+  pub not-there : length counters < start + bins → fromBin sum counters start bin ≡ onTopOf sum
+  unfolding fromBin
+  not-there h = rw (lt-ltb (length counters) (start + bins) h)
+
+  pub there : start + bins ≤ length counters → fromBin sum counters start bin ≡ binsFrom (onTopOf sum) bin (drop bin (blockAt counters start))
+  unfolding fromBin
+  there h = rw (le-ltb (length counters) (start + bins) h)

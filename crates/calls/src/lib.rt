@@ -1,0 +1,103 @@
+// The checks of a call over samples, in the order of the table. Each answers the number of the first refusal, and 0 where there is none.
+ghost use mathlib.Core.Path.{_≡_};
+ghost use Prim.Native.Nat.{_<_};
+ghost use Rattle.calls.specs.Check.{numberOf};
+ghost use Rattle.calls.specs.Calls.{allAdmitted, checkFrames, checkMap, checkDest, checkSeed, checkProcess};
+
+// The channels that states and peaks have places for.
+const MOST_CHANNELS: usize = 8;
+
+fn all_admitted(map: &[u8]) -> bool
+    ensures { λ r. ⌜ r ≡ allAdmitted (now (map .entry)) ⌝ }
+{
+    let mut i = 0;
+    while i < map.len() {
+        if 1 < map[i] {
+            return false;
+        }
+        i += 1;
+    }
+    true
+}
+
+// CHANNELS and SAMPLES, for every call. `samples` is their number.
+pub fn refused_frames(channels: usize, samples: usize) -> u8
+    ensures { λ r. ⌜ r ≡ numberOf (checkFrames channels samples) ⌝ }
+{
+    if channels == 0 {
+        return refusals::CHANNELS;
+    }
+    if MOST_CHANNELS < channels {
+        return refusals::CHANNELS;
+    }
+    if samples % channels != 0 {
+        return refusals::SAMPLES;
+    }
+    0
+}
+
+fn refused_map(channels: usize, map: &[u8]) -> u8
+    ensures { λ r. ⌜ r ≡ numberOf (checkMap channels (now (map .entry))) ⌝ }
+{
+    if map.len() != channels {
+        return refusals::MAP;
+    }
+    if !all_admitted(map) {
+        return refusals::MAP;
+    }
+    0
+}
+
+// No sum is formed that could wrap.
+fn refused_dest(loudness: bool, channels: usize, samples: usize, room: usize, start: usize) -> u8
+    requires { ⌜ 0 < channels ⌝ }
+    ensures { λ r. ⌜ r ≡ numberOf (checkDest loudness channels samples room start) ⌝ }
+{
+    if !loudness {
+        return 0;
+    }
+    if room == 0 {
+        return refusals::DEST;
+    }
+    if room % channels != 0 {
+        return refusals::DEST;
+    }
+    let frames = samples / channels;
+    let part = room / channels;
+    if part < frames {
+        return refusals::DEST;
+    }
+    if part - frames < start {
+        return refusals::DEST;
+    }
+    0
+}
+
+// CHANNELS, SAMPLES and MAP, for a call without a destination.
+pub fn refused_seed(channels: usize, samples: usize, map: &[u8]) -> u8
+    ensures { λ r. ⌜ r ≡ numberOf (checkSeed channels samples (now (map .entry))) ⌝ }
+{
+    let number = refused_frames(channels, samples);
+    if number != 0 {
+        return number;
+    }
+    refused_map(channels, map)
+}
+
+// CHANNELS, SAMPLES, MAP and, with loudness on, DEST. `room` is the length of the destination.
+pub fn refused_process(
+    loudness: bool,
+    channels: usize,
+    samples: usize,
+    map: &[u8],
+    room: usize,
+    start: usize,
+) -> u8
+    ensures { λ r. ⌜ r ≡ numberOf (checkProcess loudness channels samples (now (map .entry)) room start) ⌝ }
+{
+    let number = refused_seed(channels, samples, map);
+    if number != 0 {
+        return number;
+    }
+    refused_dest(loudness, channels, samples, room, start)
+}

@@ -1,0 +1,52 @@
+-- A call of the filter as the C interface tells it: the code of what it says, and each array of what it keeps. Assumes nothing.
+use mathlib.Core.Path.{_≡_, ap, _∙_}
+use mathlib.Core.List.{List}
+use Prim.Native.Nat.{ℕ}
+use lib.Ieee.{Float}
+use Rattle.refusals.specs.Answer.{said}
+use Rattle.refusals.specs.Outcome.{saidBy}
+use Rattle.refusals.specs.declared.Answer.{Answer}
+use Rattle.codes.specs.Codes.{code, numberSaid}
+use Rattle.codes.proofs.Told.{answer-told}
+use Rattle.filter.specs.declared.Switches.{Switches}
+use Rattle.filter.specs.declared.Filter.{Filter}
+use Rattle.filter.specs.Call.{Call, kept}
+use Rattle.filter_process.specs.Process.{processed}
+use Rattle.filter_seed.specs.Seed.{seeded}
+use Rattle.exports_filter.specs.Filters.{switchesOf, filterOf, Processed, Seeded}
+
+-- a filter with the switches of a number is the filter of that number
+pub switched : (channels rate on : ℕ) (a b state peaks memory truePeaks : List Float) (s : Switches) → s ≡ switchesOf on
+    → record {
+      channels = channels;
+      rate = rate;
+      switches = s;
+      coefficients = record { a = a; b = b };
+      state = record { values = state };
+      peaks = record { values = peaks };
+      «true_peak» = record { memory = memory; peaks = truePeaks };
+    } ≡ filterOf channels rate on a b state peaks memory truePeaks
+switched channels rate on a b state peaks memory truePeaks s h = rw h
+
+pub processed-told : (call call′ : Call) (answer : Answer) (filter : Filter) (dest : List Float) (n : ℕ) → call ≡ call′
+    → said answer ≡ saidBy (processed call) → filter ≡ kept processed call .filter → dest ≡ kept processed call .dest → n ≡ numberSaid answer
+    → Processed call′ n (filter .state .values) (filter .peaks .values) (filter .«true_peak» .memory) (filter .«true_peak» .peaks) dest
+processed-told call call′ answer filter dest n e says-so keeps writes number =
+    record {
+      told = number ∙ answer-told (processed call) answer says-so ∙ ap (λ (c : Call). code (processed c)) e;
+      state-kept = ap (λ (f : Filter). f .state .values) keeps ∙ ap (λ (c : Call). kept processed c .filter .state .values) e;
+      peaks-kept = ap (λ (f : Filter). f .peaks .values) keeps ∙ ap (λ (c : Call). kept processed c .filter .peaks .values) e;
+      memory-kept = ap (λ (f : Filter). f .«true_peak» .memory) keeps ∙ ap (λ (c : Call). kept processed c .filter .«true_peak» .memory) e;
+      true-peaks-kept = ap (λ (f : Filter). f .«true_peak» .peaks) keeps ∙ ap (λ (c : Call). kept processed c .filter .«true_peak» .peaks) e;
+      dest-kept = writes ∙ ap (λ (c : Call). kept processed c .dest) e;
+    }
+
+pub seeded-told : (call call′ : Call) (answer : Answer) (filter : Filter) (n : ℕ) → call ≡ call′
+    → said answer ≡ saidBy (seeded call) → filter ≡ kept seeded call .filter → n ≡ numberSaid answer
+    → Seeded call′ n (filter .state .values) (filter .«true_peak» .memory)
+seeded-told call call′ answer filter n e says-so keeps number =
+    record {
+      told = number ∙ answer-told (seeded call) answer says-so ∙ ap (λ (c : Call). code (seeded c)) e;
+      state-kept = ap (λ (f : Filter). f .state .values) keeps ∙ ap (λ (c : Call). kept seeded c .filter .state .values) e;
+      memory-kept = ap (λ (f : Filter). f .«true_peak» .memory) keeps ∙ ap (λ (c : Call). kept seeded c .filter .«true_peak» .memory) e;
+    }

@@ -1,0 +1,39 @@
+-- `exports_filter::xel_seed_i16` meets its contract: the filter is that of the numbers and arrays, with peaks of 0, and what the call comes to is told. Assumes nothing.
+use mathlib.Core.Path.{ap}
+use denote.Ref.{now}
+use borrow.Author.Needs.{needs}
+use lib.ListN.{replicate}
+use lib.Ieee.{ofBits}
+use Rattle.samples.specs.Sample.{samplesOf16}
+use Rattle.samples.specs.Frames.{silence}
+use Rattle.calls.specs.Calls.{mostChannels}
+use Rattle.filter.specs.declared.Filter.{Filter}
+use Rattle.filter.specs.Call.{seedOf}
+use Rattle.exports_filter.proofs.Told.{switched, seeded-told}
+use Rattle.exports_filter.proofs.xel_seed_i16.Statement.{statement}
+use Rattle.exports_filter.proofs.xel_seed_i16.Tie as tie
+
+switches-of-requires : tie.Need-switches-of-requires
+switches-of-requires c κs = search needs
+
+seed-i16-requires : tie.Need-seed-i16-requires
+seed-i16-requires c κs = search needs
+
+number-of-requires : tie.Need-number-of-requires
+number-of-requires c κs = search needs
+
+returns : tie.Need-returns
+unfolding ofBits
+returns c =
+    let given = c .before .before .before .before .before .before .before .before .before .before .before .before .before .args in
+    let call = c .before .before .before .before .before .before .seed-i16 in
+    let none = replicate mostChannels silence in
+    let filter =
+    switched (given .channels) (given .rate) (given .on) (now (given .a)) (now (given .a)) (now (given .state)) none (now (given .memory)) none
+    (c .before .before .before .before .before .before .before .before .before .before .before .switches-of .result) (c .before .before .before .before .before .before .before .before .before .before .before .switches-of .ensures) in
+    seeded-told _ _ (call .result .answer) (call .result .filter) _
+    (ap (λ (f : Filter). seedOf f (samplesOf16 (now (given .«data»))) (now (given .map))) filter)
+    (call .ensures .0) (call .ensures .1) (c .number-of .ensures)
+
+pub xel-seed-i16-spec : {M : Type 1} → statement M
+xel-seed-i16-spec = tie.close (tie.spec switches-of-requires seed-i16-requires number-of-requires returns)

@@ -1,0 +1,194 @@
+// The C interface of the filter. include/xelamphoun.h declares it.
+ghost use mathlib.Core.Path.{_≡_};
+ghost use lib.ListN.{replicate};
+ghost use Rattle.samples.specs.Sample.{samplesOf16, samplesOfF32};
+ghost use Rattle.codes.specs.Codes.{code};
+ghost use Rattle.filter.specs.Call.{callOf, seedOf};
+ghost use Rattle.exports_filter.specs.Filters.{switchesOf, filterOf, seedFilterOf, Processed, Seeded};
+use codes::number_of;
+use filter::Filter;
+use filter::Switches;
+use recurrence::Coefficients;
+use recurrence::State;
+use sample_peak::Peaks;
+use true_peak::TruePeak;
+
+fn switches_of(on: u8) -> Switches
+    ensures { λ r. ⌜ r ≡ switchesOf on ⌝ }
+{
+    Switches {
+        loudness: on % 2 == 1,
+        peak: on / 2 % 2 == 1,
+        true_peak: on / 4 % 2 == 1,
+    }
+}
+
+#[no_mangle]
+pub extern "C" fn xel_process_i16(
+    channels: usize,
+    rate: u32,
+    on: u8,
+    a: &[f64; 5],
+    b: &[f64; 5],
+    state: &mut [f64; 40],
+    peaks: &mut [f64; 8],
+    memory: &mut [f32; 184],
+    true_peaks: &mut [f32; 8],
+    data: &[i16],
+    map: &[u8],
+    dest: &mut [f64],
+    start: usize,
+) -> u8
+    ensures { λ r. ⌜ Processed (callOf (filterOf channels rate on (now (a .entry)) (now (b .entry)) (now (state .entry)) (now (peaks .entry)) (now (memory .entry)) (now («true_peaks» .entry))) (samplesOf16 (now («data» .entry))) (now (map .entry)) (now (dest .entry)) start)
+        r (now (state .exit)) (now (peaks .exit)) (now (memory .exit)) (now («true_peaks» .exit)) (now (dest .exit)) ⌝ }
+{
+    let given = Filter {
+        channels: channels,
+        rate: rate,
+        switches: switches_of(on),
+        coefficients: Coefficients { a: *a, b: *b },
+        state: State { values: *state },
+        peaks: Peaks { values: *peaks },
+        true_peak: TruePeak {
+            memory: *memory,
+            peaks: *true_peaks,
+        },
+    };
+    let filtered = filter_process::process_i16(given, data, map, dest, start);
+    let after = filtered.filter;
+    let s = after.state;
+    let s_values = s.values;
+    *state = s_values;
+    let p = after.peaks;
+    let p_values = p.values;
+    *peaks = p_values;
+    let t = after.true_peak;
+    let t_memory = t.memory;
+    *memory = t_memory;
+    let t_peaks = t.peaks;
+    *true_peaks = t_peaks;
+    let answer = filtered.answer;
+    number_of(answer)
+}
+
+#[no_mangle]
+pub extern "C" fn xel_process_f32(
+    channels: usize,
+    rate: u32,
+    on: u8,
+    a: &[f64; 5],
+    b: &[f64; 5],
+    state: &mut [f64; 40],
+    peaks: &mut [f64; 8],
+    memory: &mut [f32; 184],
+    true_peaks: &mut [f32; 8],
+    data: &[f32],
+    map: &[u8],
+    dest: &mut [f64],
+    start: usize,
+) -> u8
+    ensures { λ r. ⌜ Processed (callOf (filterOf channels rate on (now (a .entry)) (now (b .entry)) (now (state .entry)) (now (peaks .entry)) (now (memory .entry)) (now («true_peaks» .entry))) (samplesOfF32 (now («data» .entry))) (now (map .entry)) (now (dest .entry)) start)
+        r (now (state .exit)) (now (peaks .exit)) (now (memory .exit)) (now («true_peaks» .exit)) (now (dest .exit)) ⌝ }
+{
+    let given = Filter {
+        channels: channels,
+        rate: rate,
+        switches: switches_of(on),
+        coefficients: Coefficients { a: *a, b: *b },
+        state: State { values: *state },
+        peaks: Peaks { values: *peaks },
+        true_peak: TruePeak {
+            memory: *memory,
+            peaks: *true_peaks,
+        },
+    };
+    let filtered = filter_process::process_f32(given, data, map, dest, start);
+    let after = filtered.filter;
+    let s = after.state;
+    let s_values = s.values;
+    *state = s_values;
+    let p = after.peaks;
+    let p_values = p.values;
+    *peaks = p_values;
+    let t = after.true_peak;
+    let t_memory = t.memory;
+    *memory = t_memory;
+    let t_peaks = t.peaks;
+    *true_peaks = t_peaks;
+    let answer = filtered.answer;
+    number_of(answer)
+}
+
+#[no_mangle]
+pub extern "C" fn xel_seed_i16(
+    channels: usize,
+    rate: u32,
+    on: u8,
+    a: &[f64; 5],
+    state: &mut [f64; 40],
+    memory: &mut [f32; 184],
+    data: &[i16],
+    map: &[u8],
+) -> u8
+    ensures { λ r. ⌜ Seeded (seedOf (seedFilterOf channels rate on (now (a .entry)) (now (state .entry)) (now (memory .entry))) (samplesOf16 (now («data» .entry))) (now (map .entry))) r (now (state .exit)) (now (memory .exit)) ⌝ }
+{
+    let given = Filter {
+        channels: channels,
+        rate: rate,
+        switches: switches_of(on),
+        coefficients: Coefficients { a: *a, b: *a },
+        state: State { values: *state },
+        peaks: Peaks { values: [0.0; 8] },
+        true_peak: TruePeak {
+            memory: *memory,
+            peaks: [0.0; 8],
+        },
+    };
+    let filtered = filter_seed::seed_i16(given, data, map);
+    let after = filtered.filter;
+    let s = after.state;
+    let s_values = s.values;
+    *state = s_values;
+    let t = after.true_peak;
+    let t_memory = t.memory;
+    *memory = t_memory;
+    let answer = filtered.answer;
+    number_of(answer)
+}
+
+#[no_mangle]
+pub extern "C" fn xel_seed_f32(
+    channels: usize,
+    rate: u32,
+    on: u8,
+    a: &[f64; 5],
+    state: &mut [f64; 40],
+    memory: &mut [f32; 184],
+    data: &[f32],
+    map: &[u8],
+) -> u8
+    ensures { λ r. ⌜ Seeded (seedOf (seedFilterOf channels rate on (now (a .entry)) (now (state .entry)) (now (memory .entry))) (samplesOfF32 (now («data» .entry))) (now (map .entry))) r (now (state .exit)) (now (memory .exit)) ⌝ }
+{
+    let given = Filter {
+        channels: channels,
+        rate: rate,
+        switches: switches_of(on),
+        coefficients: Coefficients { a: *a, b: *a },
+        state: State { values: *state },
+        peaks: Peaks { values: [0.0; 8] },
+        true_peak: TruePeak {
+            memory: *memory,
+            peaks: [0.0; 8],
+        },
+    };
+    let filtered = filter_seed::seed_f32(given, data, map);
+    let after = filtered.filter;
+    let s = after.state;
+    let s_values = s.values;
+    *state = s_values;
+    let t = after.true_peak;
+    let t_memory = t.memory;
+    *memory = t_memory;
+    let answer = filtered.answer;
+    number_of(answer)
+}

@@ -1,0 +1,58 @@
+-- What each part of the filter leaves of a call that passes: what its definition says. Assumes nothing.
+use Prim.Native.Nat.{ℕ}
+use mathlib.Core.Path.{_≡_, refl, ap}
+use mathlib.Core.Bool.{Bool, true, false, cond}
+use mathlib.Core.List.{List}
+use lib.ListN.{length}
+use lib.Ieee.{Float}
+use Rattle.refusals.specs.Outcome.{keptBy, went, done}
+use Rattle.calls.specs.Check.{Check, passes, unless}
+use Rattle.calls.specs.Calls.{checkFrames, checkProcess}
+use Rattle.calls.proofs.Checking.{seeds, processes}
+use Rattle.recurrence.specs.Channels as recurrence
+use Rattle.weighting.specs.Weighting as weighting
+use Rattle.sample_peak.specs.declared.Peaks.{Peaks}
+use Rattle.sample_peak.specs.Peak.{peaksAfter, raised}
+use Rattle.interp.specs.Interp.{kindOf}
+use Rattle.true_peak.specs.declared.TruePeak.{TruePeak}
+use Rattle.true_peak.specs.TruePeak as trues
+use Rattle.filter.specs.Call.{Call}
+use Rattle.filter_process.specs.Process.{processCheck}
+
+pub process-frames : (call : Call) → processCheck call ≡ passes → checkFrames (call .filter .channels) (length (call .samples)) ≡ passes
+process-frames call e =
+    seeds (call .filter .channels) (length (call .samples)) (call .map)
+    (processes (call .filter .switches .loudness) (call .filter .channels) (length (call .samples)) (call .map) (length (call .dest)) (call .start) e .seed)
+    .frames
+
+-- ---- the peaks
+
+pub peaks-are : (on : Bool) (channels : ℕ) (samples : List Float) (stored : Peaks) → checkFrames channels (length samples) ≡ passes
+    → cond on (keptBy stored (raised channels samples stored)) stored ≡ cond on (record { values = peaksAfter channels samples (stored .values) }) stored
+unfolding raised
+peaks-are on channels samples stored e = ap (λ (k : Check). cond on (keptBy stored (unless k (went (record { values = peaksAfter channels samples (stored .values) }) done))) stored) e
+
+module _ (on : Bool) (rate : ℕ) (b : trues.Block) (t : TruePeak) (e : checkFrames (b .channels) (length (b .samples)) ≡ passes) where
+  pub trues-are : cond on (keptBy t (trues.processed rate b t)) t ≡ cond on (trues.measured (kindOf rate) b t) t
+  trues-are = ap (λ (k : Check). cond on (keptBy t (unless k (went (trues.measured (kindOf rate) b t) done))) t) e
+
+-- ---- the weighting
+
+abbrev leaves : recurrence.Call → List Float → ℕ → weighting.Kept
+leaves call dest start = record { state = record { values = recurrence.stateAfter call }; dest = weighting.destAfter call dest start }
+
+went-on : (call : recurrence.Call) (dest : List Float) (start : ℕ) → checkProcess true (call .channels) (length (call .samples)) (call .map) (length dest) start ≡ passes
+    → weighting.kept call dest start ≡ leaves call dest start
+unfolding weighting.weighed
+went-on call dest start e = ap (λ (k : Check). keptBy (record { state = call .state; dest = dest }) (unless k (went (leaves call dest start) done))) e
+
+-- DEST is checked where loudness is on
+pub weighed-state : (on : Bool) (call : recurrence.Call) (dest : List Float) (start : ℕ) → checkProcess on (call .channels) (length (call .samples)) (call .map) (length dest) start ≡ passes
+    → cond on (weighting.kept call dest start .state) (call .state) ≡ cond on (record { values = recurrence.stateAfter call }) (call .state)
+weighed-state true call dest start e = ap (λ (k : weighting.Kept). k .state) (went-on call dest start e)
+weighed-state false call dest start e = refl
+
+pub weighed-dest : (on : Bool) (call : recurrence.Call) (dest : List Float) (start : ℕ) → checkProcess on (call .channels) (length (call .samples)) (call .map) (length dest) start ≡ passes
+    → cond on (weighting.kept call dest start .dest) dest ≡ cond on (weighting.destAfter call dest start) dest
+weighed-dest true call dest start e = ap (λ (k : weighting.Kept). k .dest) (went-on call dest start e)
+weighed-dest false call dest start e = refl

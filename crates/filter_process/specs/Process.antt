@@ -1,0 +1,38 @@
+-- The call `process`: what it comes to.
+-- "Steps 3, 4 and 6 are switched on separately; one that is off alters nothing."
+use mathlib.Core.Bool.{cond}
+use mathlib.Core.List.{List}
+use lib.ListN.{length}
+use lib.Ieee.{Float}
+use Rattle.refusals.specs.Outcome.{Outcome, went, NoValues, done}
+use Rattle.calls.specs.Check.{Check, unless}
+use Rattle.calls.specs.Calls.{checkProcess}
+use Rattle.weighting.specs.Weighting.{destAfter}
+use Rattle.sample_peak.specs.declared.Peaks.{Peaks}
+use Rattle.sample_peak.specs.Peak.{peaksAfter}
+use Rattle.interp.specs.Interp.{kindOf}
+use Rattle.true_peak.specs.declared.TruePeak.{TruePeak}
+use Rattle.true_peak.specs.TruePeak.{measured}
+use Rattle.filter.specs.Filter.{moved}
+use Rattle.filter.specs.Call.{Call, Kept, weighing, hearing, weighedState}
+
+-- each step alters its own things, where it is on
+abbrev pub weighedDest : Call → List Float
+weighedDest call = cond (call .filter .switches .loudness) (destAfter (weighing call) (call .dest) (call .start)) (call .dest)
+
+abbrev pub measuredPeaks : Call → Peaks
+measuredPeaks call =
+    cond (call .filter .switches .peak) (record { values = peaksAfter (call .filter .channels) (call .samples) (call .filter .peaks .values) }) (call .filter .peaks)
+
+abbrev pub measuredTruePeaks : Call → TruePeak
+measuredTruePeaks call = cond (call .filter .switches .«true_peak») (measured (kindOf (call .filter .rate)) (hearing call) (call .filter .«true_peak»)) (call .filter .«true_peak»)
+
+-- what is checked
+abbrev pub processCheck : Call → Check
+processCheck call =
+    checkProcess (call .filter .switches .loudness) (call .filter .channels) (length (call .samples)) (call .map) (length (call .dest)) (call .start)
+
+unfoldable pub processed : Call → Outcome Kept NoValues
+processed call =
+    unless (processCheck call)
+    (went (record { filter = moved (call .filter) (weighedState call) (measuredPeaks call) (measuredTruePeaks call); dest = weighedDest call }) done)

@@ -1,0 +1,27 @@
+-- The call `seed`: what it comes to.
+-- "`seed` moves filter and interpolator state and writes no peak and no destination."
+use mathlib.Core.Bool.{cond}
+use lib.ListN.{length}
+use Rattle.refusals.specs.Outcome.{Outcome, went, NoValues, done}
+use Rattle.calls.specs.Check.{Check, unless}
+use Rattle.calls.specs.Calls.{checkSeed}
+use Rattle.interp.specs.Interp.{kindOf}
+use Rattle.true_peak.specs.declared.TruePeak.{TruePeak}
+use Rattle.true_peak.specs.TruePeak.{measured}
+use Rattle.filter.specs.Filter.{moved}
+use Rattle.filter.specs.Call.{Call, Kept, weighing, hearing, weighedState}
+
+-- the interpolator's memory moves, where the true peak is on, and its peaks stay
+abbrev pub rememberedTruePeaks : Call → TruePeak
+rememberedTruePeaks call =
+    cond (call .filter .switches .«true_peak»)
+    (record { memory = measured (kindOf (call .filter .rate)) (hearing call) (call .filter .«true_peak») .memory; peaks = call .filter .«true_peak» .peaks })
+    (call .filter .«true_peak»)
+
+-- what is checked
+abbrev pub seedCheck : Call → Check
+seedCheck call = checkSeed (call .filter .channels) (length (call .samples)) (call .map)
+
+unfoldable pub seeded : Call → Outcome Kept NoValues
+seeded call =
+    unless (seedCheck call) (went (record { filter = moved (call .filter) (weighedState call) (call .filter .peaks) (rememberedTruePeaks call); dest = call .dest }) done)

@@ -1,0 +1,69 @@
+-- What `addTo`, `mergeInto` and `cleared` come to, case by case. Each picks its case by tests on numbers, and each law settles those tests.
+-- Assumes nothing.
+use mathlib.Core.Path.{_≡_, ap, _∙_}
+use mathlib.Core.Bool.{true, false, _&&_, cond}
+use mathlib.Core.List.{List, _++_, append-nil}
+use Prim.Native.Nat.{ℕ, _+_, _≤_, _<_}
+use borrow.Author.Tests.{eq-eqb, ne-eqb, le-leb, lt-leb}
+use lib.ListN.{length, getD, drop, replicate}
+use lib.Seq.{drop-length}
+use lib.Ieee.{Float}
+use Rattle.refusals.specs.Refusal.{STORE, FULL}
+use Rattle.refusals.specs.Outcome.{went, refused, done}
+use Rattle.histogram_bins.specs.Bin.{bins, binOf}
+use Rattle.histogram_bins.specs.Energy.{dropped}
+use Rattle.histogram.specs.Histogram.{largestCount, empty, oneMore, addTo, sums, room, mergeInto, cleared}
+
+module _ (counters : List ℕ) (energy : Float) where
+  pub add-store : (length counters ≡ bins → ⊥) → addTo counters energy ≡ refused STORE
+  unfolding addTo
+  add-store h = rw (ne-eqb (length counters) bins h)
+
+  pub add-dropped : length counters ≡ bins → dropped energy ≡ true → addTo counters energy ≡ went counters done
+  unfolding addTo
+  add-dropped h d = rw (eq-eqb (length counters) bins h, d)
+
+  pub add-full : length counters ≡ bins → dropped energy ≡ false → largestCount < getD counters (binOf energy) 0 + 1
+      → addTo counters energy ≡ refused FULL
+  unfolding addTo
+  add-full h d f = rw (eq-eqb (length counters) bins h, d, lt-leb (getD counters (binOf energy) 0 + 1) largestCount f)
+
+  pub add-went : length counters ≡ bins → dropped energy ≡ false → getD counters (binOf energy) 0 + 1 ≤ largestCount
+      → addTo counters energy ≡ went (oneMore counters energy) done
+  unfolding addTo
+  add-went h d f = rw (eq-eqb (length counters) bins h, d, le-leb (getD counters (binOf energy) 0 + 1) largestCount f)
+
+module _ (counters : List ℕ) where
+  pub clear-store : (length counters ≡ bins → ⊥) → cleared counters ≡ refused STORE
+  unfolding cleared
+  clear-store h = rw (ne-eqb (length counters) bins h)
+
+  pub clear-went : length counters ≡ bins → cleared counters ≡ went empty done
+  unfolding cleared
+  clear-went h = rw (eq-eqb (length counters) bins h)
+
+-- counters that are all 0 are those of an empty histogram
+pub all-zero : (counters : List ℕ) (n : ℕ) → length counters ≡ bins → n ≡ length counters → replicate n 0 ++ drop n counters ≡ empty
+unfolding empty
+all-zero counters n h e =
+    ap (λ (k : ℕ). replicate k 0 ++ drop k counters) e
+    ∙ ap {B = List ℕ} (λ (l : List ℕ). replicate (length counters) 0 ++ l) (drop-length counters)
+    ∙ append-nil (replicate (length counters) 0)
+    ∙ ap (λ (k : ℕ). replicate k 0) h
+
+module _ (into from : List ℕ) where
+  pub merge-store : (length into ≡ bins → ⊥) → mergeInto into from ≡ refused STORE
+  unfolding mergeInto
+  merge-store h = rw (ne-eqb (length into) bins h)
+
+  pub merge-store-from : length into ≡ bins → (length from ≡ bins → ⊥) → mergeInto into from ≡ refused STORE
+  unfolding mergeInto
+  merge-store-from h g = rw (eq-eqb (length into) bins h, ne-eqb (length from) bins g)
+
+  pub merge-full : length into ≡ bins → length from ≡ bins → room into from ≡ false → mergeInto into from ≡ refused FULL
+  unfolding mergeInto
+  merge-full h g f = rw (eq-eqb (length into) bins h, eq-eqb (length from) bins g, f)
+
+  pub merge-went : length into ≡ bins → length from ≡ bins → room into from ≡ true → mergeInto into from ≡ went (sums into from) done
+  unfolding mergeInto
+  merge-went h g f = rw (eq-eqb (length into) bins h, eq-eqb (length from) bins g, f)

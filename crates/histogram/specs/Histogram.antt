@@ -1,0 +1,56 @@
+-- The histogram, 1,000 counters (01, step 7 and 'Merge'): what adding an energy comes to, merging one histogram into another, and clearing one.
+use Prim.Native.Nat.{ℕ, _+_}
+use mathlib.Core.Bool.{Bool, true, false, _&&_, cond}
+use mathlib.Core.List.{List, [], _∷_}
+use lib.Dec.{eqb, leb}
+use lib.ListN.{length, getD, set, replicate}
+use lib.Ieee.{Float}
+use Rattle.refusals.specs.Refusal.{STORE, FULL}
+use Rattle.refusals.specs.Outcome.{Outcome, went, refused, NoValues, done}
+use Rattle.histogram_bins.specs.Bin.{bins, binOf}
+use Rattle.histogram_bins.specs.Energy.{received}
+
+-- the largest count of a bin
+abbrev pub largestCount : ℕ
+largestCount = 4294967295
+
+-- STORE: "not 1,000 counters"
+abbrev pub isHistogram : List ℕ → Bool
+isHistogram counters = eqb (length counters) bins
+
+-- a histogram with no block. It is shut, so that no proof writes its thousand counters out
+unfoldable pub empty : List ℕ
+empty = replicate bins 0
+
+-- one block more in the bin of the energy
+abbrev pub oneMore : List ℕ → Float → List ℕ
+oneMore counters energy = set counters (binOf energy) (getD counters (binOf energy) 0 + 1)
+
+-- whether the bin of the energy takes one block more
+abbrev pub takesOne : List ℕ → Float → Bool
+takesOne counters energy = leb (getD counters (binOf energy) 0 + 1) largestCount
+
+unfoldable pub addTo : List ℕ → Float → Outcome (List ℕ) NoValues
+addTo counters energy =
+    cond (isHistogram counters)
+    (received counters energy (cond (takesOne counters energy) (went (oneMore counters energy) done) (refused FULL)))
+    (refused STORE)
+
+-- counters added bin by bin
+abbrev pub sums : List ℕ → List ℕ → List ℕ
+sums [] from = []
+sums (x ∷ into) [] = x ∷ into
+sums (x ∷ into) (y ∷ from) = (x + y) ∷ sums into from
+
+-- no sum passes the largest count
+abbrev pub room : List ℕ → List ℕ → Bool
+room [] from = true
+room (x ∷ into) [] = true
+room (x ∷ into) (y ∷ from) = leb (x + y) largestCount && room into from
+
+unfoldable pub mergeInto : List ℕ → List ℕ → Outcome (List ℕ) NoValues
+mergeInto into from =
+    cond (isHistogram into && isHistogram from) (cond (room into from) (went (sums into from) done) (refused FULL)) (refused STORE)
+
+unfoldable pub cleared : List ℕ → Outcome (List ℕ) NoValues
+cleared counters = cond (isHistogram counters) (went empty done) (refused STORE)

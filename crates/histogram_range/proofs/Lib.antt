@@ -1,0 +1,4 @@
+pub mod Adding
+pub mod Counting
+pub mod Searching
+pub mod Answers

@@ -1,0 +1,93 @@
+-- `histogram_range::add_history` meets its contract, shape by shape: the slice that is handed on is the histogram's block. Assumes nothing.
+use mathlib.Core.Path.{sym, ap, subst, _∙_}
+use mathlib.Core.List.{List, []}
+use Prim.Native.Nat.{ℕ, _+_, _-_, _≤_}
+use native.Mathlib.Omega.{arith}
+use denote.Ref.{now}
+use lib.ListN.{length}
+use Rattle.histogram_bins.specs.Bin.{bins}
+use Rattle.histogram.specs.Histogram.{largestCount, sums}
+use Rattle.history.specs.declared.set.Shape.{Shape}
+use Rattle.history.specs.Set.{blockEnd, shapeShows}
+use Rattle.history.proofs.Slices.{slice, slice-length, block-slice}
+use Rattle.histogram_range.specs.Counted.{withHistory}
+use Rattle.histogram_range.specs.Counted.{AtMost}
+use Rattle.histogram_range.proofs.Adding.{sums-most, part-most}
+use borrow.Author.Needs.{needs}
+use Rattle.histogram_range.proofs.add_history.Statement.{statement}
+use Rattle.histogram_range.proofs.add_history.Tie as tie
+
+-- the block ends inside the counters
+inside : (c : tie.After-shape) → c .shape .given .0 .0 + bins ≤ length (now (c .before .before .before .before .args .counters))
+inside c =
+    let w = c .before .before .before .before in
+    subst (λ (s : Shape). blockEnd s ≤ length (now (w .args .counters))) (c .shape .given .1) (w .pre .0)
+
+enum-known-shape : tie.Need-enum-known-shape
+enum-known-shape c = search needs
+
+add-end : tie.Need-add-end
+add-end c = omega (arith, inside (c .before))
+
+mul-add-block : tie.Need-mul-add-block
+mul-add-block c = omega (arith, inside (c .before .before))
+
+sub-add-block : tie.Need-sub-add-block
+sub-add-block c = omega (arith, inside (c .before .before))
+
+part-add-block-start : tie.Need-part-add-block-start
+part-add-block-start c = omega (arith, inside (c .before .before))
+
+part-add-block-end : tie.Need-part-add-block-end
+part-add-block-end c = omega (arith, inside (c .before .before))
+
+add-block-requires : tie.Need-add-block-requires
+add-block-requires c κs =
+    let h = c .before .before .before in
+    let w = h .before .before .before .before in
+    let start = h .shape .given .0 .0 in
+    (w .pre .1, omega (arith, slice-length start (start + bins) (now (w .args .counters)) (inside h)), w .pre .2)
+
+enum-told : tie.Need-enum-told
+enum-told c = search needs
+
+same-length : tie.Need-same-length
+same-length c = search needs
+
+returns : tie.Need-returns
+returns c =
+    let h = c .before .before .before .before .before .before in
+    let known = h .before .before in
+    let a = known .before .before .args in
+    let start = h .shape .given .0 .0 in
+    let done = c .before .before .add-block in
+    let block = slice start (start + bins) (now (a .counters)) in (
+      done .ensures
+          ∙ ap (sums (now (a .added))) (sym (block-slice (now (a .counters)) start))
+          ∙ ap (λ (s : Shape). withHistory (now (a .added)) (shapeShows (now (a .counters)) [] s)) (sym (h .shape .given .1)),
+      λ (most : ℕ) (b : AtMost most (now (a .added))). subst (λ (l : List ℕ). AtMost (most + largestCount) l) (sym (done .ensures))
+          (sums-most most (now (a .added)) block b (part-most (now (a .counters)) start (start + bins - start) (λ (k : ℕ). omega (arith, known .shared-slice-known .given k)))),
+    )
+
+returns-2 : tie.Need-returns-2
+returns-2 c =
+    let a = c .before .before .before .before .args in (
+      sym (ap (λ (s : Shape). withHistory (now (a .added)) (shapeShows (now (a .counters)) [] s)) (c .enum-told .given .1)),
+      λ (most : ℕ) (b : AtMost most (now (a .added))) (bin : ℕ). omega (arith, b bin),
+    )
+
+pub add-history-spec : {M : Type 1} → statement M
+add-history-spec =
+    tie.close
+    (tie.spec
+    enum-known-shape
+    add-end
+    mul-add-block
+    sub-add-block
+    part-add-block-start
+    part-add-block-end
+    add-block-requires
+    enum-told
+    same-length
+    returns
+    returns-2)

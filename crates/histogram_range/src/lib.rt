@@ -1,0 +1,197 @@
+// The loudness range over the histograms of a set: their counters added bin by bin, and the bins of the two ranks among the blocks that the gate leaves.
+use blocks::Totals;
+use history::set::Entry;
+use history::set::MOST;
+use history::set::Shape;
+use spans::Range;
+ghost use mathlib.Core.Path.{_≡_};
+ghost use mathlib.Core.List.{List, []};
+ghost use Prim.Native.Nat.{ℕ, _+_, _-_, _*_, _≤_, _<_};
+ghost use lib.ListN.{length, getD, take};
+ghost use Rattle.refusals.specs.Outcome.{says, saidBy};
+ghost use Rattle.histogram_bins.specs.Bin.{bins};
+ghost use Rattle.tables.specs.Rows.{energiesARow, energyRows};
+ghost use Rattle.histogram.specs.Histogram.{largestCount, empty, sums};
+ghost use Rattle.history.specs.Set.{mostHistories, histories, blockEnd, blocksInside, shows, allShow};
+ghost use Rattle.blocks.specs.Totals.{none, binsFrom, rowsFrom};
+ghost use Rattle.spans.specs.Span.{said};
+ghost use Rattle.histogram_range.specs.Counted.{
+  mostInBin,
+  AtMost,
+  withHistory,
+  addedTo,
+  blocksIn,
+  runningFrom,
+  firstPast,
+  leftIn,
+  countedSpan,
+  histogramRange,
+};
+
+fn wide(x: u32) -> u64
+    ensures { λ r. ⌜ r ≡ x ⌝ }
+{
+    x as u64
+}
+
+fn add_block(added: &mut [u64], block: &[u32])
+    requires { ⌜ (length (now added) ≡ bins) × (length (now block) ≡ bins) × AtMost (15 * largestCount) (now added) ⌝ }
+    ensures { λ _. ⌜ now (added .exit) ≡ sums (now (added .entry)) (now (block .entry)) ⌝ }
+{
+    let mut bin = 0;
+    while bin < histogram_bins::BINS {
+        added[bin] = added[bin] + wide(block[bin]);
+        bin += 1;
+    }
+}
+
+// The counters of a history are added, where it is a histogram.
+fn add_history(added: &mut [u64], entry: Entry, counters: &[u32])
+    requires { ⌜ (blockEnd (entry .shape) ≤ length (now counters)) × (length (now added) ≡ bins) × AtMost (15 * largestCount) (now added) ⌝ }
+    ensures { λ _. ⌜ (now (added .exit) ≡ withHistory (now (added .entry)) (shows (now (counters .entry)) [] entry))
+        × ((most : ℕ) → AtMost most (now (added .entry)) → AtMost (most + largestCount) (now (added .exit))) ⌝ }
+{
+    let shape = entry.shape;
+    match shape {
+        Shape::Histogram(start) => {
+            let end = start + histogram_bins::BINS;
+            add_block(added, &counters[start..end]);
+        }
+        Shape::Queue(_, _) => {}
+    }
+}
+
+fn add_histories(added: &mut [u64], entries: [Entry; MOST], count: usize, counters: &[u32])
+    requires { ⌜ (count ≤ mostHistories) × (blocksInside (length (now counters)) (take count entries)) × (length (now added) ≡ bins) × AtMost 0 (now added) ⌝ }
+    ensures { λ _. ⌜ (now (added .exit) ≡ addedTo (now (added .entry)) (allShow (now (counters .entry)) [] (take count entries))) × AtMost mostInBin (now (added .exit)) ⌝ }
+{
+    let mut i = 0;
+    while i < count {
+        let entry = entries[i];
+        add_history(added, entry, counters);
+        i += 1;
+    }
+}
+
+// A row of bins on top of running totals.
+fn sum_row(totals: Totals, counters: &[u64], row: usize) -> Totals
+    requires { ⌜ (length (now counters) ≡ bins) × (row < energyRows) × AtMost mostInBin (now counters) × (totals .count ≤ energiesARow * row * mostInBin) ⌝ }
+    ensures { λ r. ⌜ (rowsFrom r (row + 1) (now (counters .entry)) ≡ rowsFrom totals row (now (counters .entry)))
+        × (r .count ≤ energiesARow * (row + 1) * mostInBin) ⌝ }
+{
+    let energies = tables::energy_row(row);
+    let first = tables::ENERGIES_A_ROW * row;
+    let mut count = totals.count;
+    let mut sum = totals.sum;
+    let mut i = 0;
+    while i < tables::ENERGIES_A_ROW {
+        let blocks = counters[first + i];
+        sum = sum + std::num::nearest_u64_to_f64(blocks) * energies[i];
+        count = count + blocks;
+        i += 1;
+    }
+    Totals { count, sum }
+}
+
+// The blocks of all bins and the sum of their energies, bins upward.
+fn sum_up(counters: &[u64]) -> Totals
+    requires { ⌜ (length (now counters) ≡ bins) × AtMost mostInBin (now counters) ⌝ }
+    ensures { λ r. ⌜ r ≡ binsFrom none 0 (now (counters .entry)) ⌝ }
+{
+    let mut totals = Totals { count: 0, sum: 0.0 };
+    let mut row = 0;
+    while row < tables::ENERGY_ROWS {
+        totals = sum_row(totals, counters, row);
+        row += 1;
+    }
+    totals
+}
+
+// Each counter becomes the running count, so that the bin of a rank is found by halving.
+fn run_up(counters: &mut [u64])
+    requires { ⌜ (length (now counters) ≡ bins) × AtMost mostInBin (now counters) ⌝ }
+    ensures { λ _. ⌜ now (counters .exit) ≡ runningFrom 0 (now (counters .entry)) ⌝ }
+{
+    let mut count: u64 = 0;
+    let mut bin = 0;
+    while bin < histogram_bins::BINS {
+        count = count + counters[bin];
+        counters[bin] = count;
+        bin += 1;
+    }
+}
+
+// How many blocks stand below a bin.
+fn below(running: &[u64], bin: usize) -> u64
+    requires { ⌜ bin ≤ length (now running) ⌝ }
+    ensures { λ r. ⌜ ((counters : List ℕ) → now (running .entry) ≡ runningFrom 0 counters → r ≡ blocksIn (take bin counters))
+        × ((most : ℕ) → AtMost most (now (running .entry)) → r ≤ most) ⌝ }
+{
+    if bin == 0 { 0 } else { running[bin - 1] }
+}
+
+// The first bin whose running count passes the rank.
+fn first_past(running: &[u64], rank: u64) -> usize
+    ensures { λ r. ⌜ ((counters : List ℕ) → now (running .entry) ≡ runningFrom 0 counters → r ≡ firstPast rank 0 (runningFrom 0 counters)) ⌝ }
+{
+    let mut low = 0;
+    let mut high = running.len();
+    while low < high {
+        let middle = low + (high - low) / 2;
+        if rank < running[middle] {
+            high = middle;
+        } else {
+            low = middle + 1;
+        }
+    }
+    low
+}
+
+// The energies at the two ranks among the blocks from a bin on.
+fn ranked(running: &[u64], count: u64, start: usize) -> Range
+    requires { ⌜ (start ≤ length (now running)) × AtMost count (now running) × (count ≤ bins * mostInBin) ⌝ }
+    ensures { λ r. ⌜ ((counters : List ℕ) → now (running .entry) ≡ runningFrom 0 counters
+        → said r ≡ says (leftIn counters (blocksIn (take start counters)) (count - blocksIn (take start counters)))) ⌝ }
+{
+    let before = below(running, start);
+    let left = count - before;
+    if left == 0 {
+        return Range::Nothing;
+    }
+    let low = first_past(running, ranks::low_rank(left - 1) + before);
+    let high = first_past(running, ranks::high_rank(left - 1) + before);
+    Range::Found(histogram_bins::energy(low), histogram_bins::energy(high))
+}
+
+// The range of added counters. They are running counts afterwards.
+fn span_of(counters: &mut [u64]) -> Range
+    requires { ⌜ (length (now counters) ≡ bins) × AtMost mostInBin (now counters) ⌝ }
+    ensures { λ r. ⌜ said r ≡ says (countedSpan (now (counters .entry))) ⌝ }
+{
+    let totals = sum_up(counters);
+    let count = totals.count;
+    if count == 0 {
+        return Range::Nothing;
+    }
+    let start = blocks::start_bin(spans::gate_energy(totals));
+    run_up(counters);
+    ranked(counters, count, start)
+}
+
+// The range over the histograms of a set. Its queues play no part.
+pub fn of_histograms(
+    entries: [Entry; MOST],
+    count: usize,
+    counters: &[u32],
+    energies: &[f64],
+) -> Range
+    ensures { λ r. ⌜ said r ≡ saidBy (histogramRange (histories entries count (now (counters .entry)) (now (energies .entry)))) ⌝ }
+{
+    let refusal = history::set::checked(entries, count, counters, energies);
+    if refusal != 0 {
+        return Range::Refused(refusal);
+    }
+    let mut added = [0u64; histogram_bins::BINS];
+    add_histories(&mut added, entries, count, counters);
+    span_of(&mut added)
+}

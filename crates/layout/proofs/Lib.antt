@@ -1,0 +1,5 @@
+pub mod Frames
+pub mod Heads
+pub mod Runs
+pub mod Turns
+pub mod Again

@@ -1,0 +1,56 @@
+-- Fields of one width, one after the other: how many bytes they are; that numbers written so are read again, and numbers read so are written again.
+-- Each is an induction on how many there are. Assumes nothing.
+use mathlib.Core.Path.{_≡_, refl, sym, ap, _∙_}
+use mathlib.Core.List.{List, [], _∷_, _++_, append-assoc}
+use Prim.Native.Nat.{ℕ, zero, suc, _+_, _-_, _*_, _^_, _≤_, _<_}
+use native.Mathlib.Omega.{arith}
+use lib.ListN.{length, getD, take, drop, length-append, length-drop}
+use lib.Seq.{drop-at, take-add, getD-drop, getD-take}
+use Rattle.fields.specs.Field.{fieldAt, lowBytes}
+use Rattle.fields.proofs.Written.{low-length, read-low, low-field}
+use Rattle.layout.specs.Layout.{Order, lowFirst, numberIn, bytesOf, numbersIn, allBytes}
+
+-- ---- one field
+pub bytes-length : (order : Order) (width number : ℕ) → length (bytesOf order width number) ≡ width
+bytes-length lowFirst width number = low-length width number
+
+pub read-again : (order : Order) (width number : ℕ) (rest : List ℕ) → number < 2 ^ (8 * width) → numberIn order width (bytesOf order width number ++ rest) ≡ number
+read-again lowFirst width number rest h = read-low width number rest h
+
+pub write-again : (order : Order) (width : ℕ) (bytes : List ℕ) → ((i : ℕ) → getD bytes i 0 < 256) → width ≤ length bytes
+    → bytesOf order width (numberIn order width bytes) ≡ take width bytes
+write-again lowFirst width bytes b h = low-field bytes b 0 width (omega arith)
+
+-- ---- many
+pub numbers-length : (order : Order) (width count : ℕ) (bytes : List ℕ) → length (numbersIn order width count bytes) ≡ count
+unfolding numbersIn
+numbers-length order width zero bytes = refl
+numbers-length order width (suc count) bytes = ap suc (numbers-length order width count (drop width bytes))
+
+pub all-length : (order : Order) (width : ℕ) (numbers : List ℕ) → length (allBytes order width numbers) ≡ width * length numbers
+unfolding allBytes
+all-length order width [] = omega arith
+all-length order width (number ∷ rest) =
+    simp length-append (omega (arith, bytes-length order width number, all-length order width rest))
+
+-- numbers that fit their fields are read again
+pub all-read : (order : Order) (width : ℕ) (numbers rest : List ℕ) → ((i : ℕ) → getD numbers i 0 < 2 ^ (8 * width))
+    → numbersIn order width (length numbers) (allBytes order width numbers ++ rest) ≡ numbers
+unfolding numbersIn allBytes
+all-read order width [] rest h = refl
+all-read order width (number ∷ numbers) rest h =
+    let first = bytesOf order width number in
+    let others = allBytes order width numbers in
+    rw (append-assoc first others rest, read-again order width number (others ++ rest) (h 0), drop-at first (others ++ rest) width (bytes-length order width number))
+    (ap {B = List ℕ} (λ l. number ∷ l) (all-read order width numbers rest (λ i. h (suc i))))
+
+-- numbers that were read are written again
+pub all-written : (order : Order) (width count : ℕ) (bytes : List ℕ) → ((i : ℕ) → getD bytes i 0 < 256) → width * count ≤ length bytes
+    → allBytes order width (numbersIn order width count bytes) ≡ take (width * count) bytes
+unfolding numbersIn allBytes
+all-written order width zero bytes b h = ap (λ (n : ℕ). take n bytes) {x = 0} {y = width * 0} (omega arith)
+all-written order width (suc count) bytes b h =
+    let more : width * suc count ≡ width + width * count = omega arith in
+    rw (more, take-add width (width * count) bytes, write-again order width bytes b (omega arith))
+    (ap {B = List ℕ} (λ l. take width bytes ++ l)
+    (all-written order width count (drop width bytes) (λ i. rw (getD-drop width bytes i 0) (b (width + i))) (omega (arith, length-drop width bytes))))

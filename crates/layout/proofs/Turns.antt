@@ -1,0 +1,47 @@
+-- One turn of a loop that reads or writes fields of one width: what is left gives what all of it gives. Assumes nothing.
+use mathlib.Core.Path.{_≡_, refl, sym, ap, _∙_}
+use mathlib.Core.List.{List, [], _∷_, _++_, append-assoc, append-nil}
+use Prim.Native.Nat.{ℕ, zero, suc, _+_, _-_, _*_, _≤_, _<_}
+use native.Mathlib.Numerals.{add-one}
+use native.Mathlib.Omega.{arith}
+use lib.ListN.{length, getD, take, drop, set}
+use lib.Seq.{sets, drop-cons, drop-drop, take-suc-set, take-all, drop-length}
+use lib.ListN.{drop-of-length-le}
+use Rattle.layout.specs.Layout.{Order, numberIn, bytesOf, numbersIn, allBytes}
+use Rattle.layout.proofs.Runs.{bytes-length}
+
+-- ---- reading into a list of numbers
+pub read-turn : (order : Order) (width : ℕ) (bytes numbers : List ℕ) (at next i n value : ℕ) → i < length numbers → n ≡ suc (length numbers - (i + 1))
+    → value ≡ numberIn order width (drop at bytes) → next ≡ at + width
+    → take (i + 1) (set numbers i value) ++ numbersIn order width (length numbers - (i + 1)) (drop next bytes)
+    ≡ take i numbers ++ numbersIn order width n (drop at bytes)
+unfolding numbersIn
+read-turn order width bytes numbers at next i n value h w v e =
+    rw (w, add-one i, take-suc-set numbers i value h, e, ← drop-drop width at bytes, v)
+    (append-assoc (take i numbers) (numberIn order width (drop at bytes) ∷ []) (numbersIn order width (length numbers - suc i) (drop width (drop at bytes))))
+
+pub read-end : (order : Order) (width : ℕ) (bytes numbers : List ℕ) (i : ℕ) → length numbers ≤ i
+    → take i numbers ++ numbersIn order width (length numbers - i) bytes ≡ numbers
+unfolding numbersIn
+read-end order width bytes numbers i h =
+    let z : length numbers - i ≡ 0 = omega arith in
+    rw (z, take-all i numbers h) (append-nil numbers)
+
+-- ---- writing from a list of numbers
+pub sets-append : (out first rest : List ℕ) (at next : ℕ) → next ≡ at + length first → sets out at (first ++ rest) ≡ sets (sets out at first) next rest
+sets-append out [] rest at next e = ap (λ (p : ℕ). sets out p rest) {x = at} {y = next} (omega arith)
+sets-append out (b ∷ first) rest at next e = sets-append (set out at b) first rest (suc at) next (omega arith)
+
+pub write-turn : (order : Order) (width : ℕ) (out numbers : List ℕ) (at next i : ℕ) → i < length numbers → next ≡ at + width
+    → sets (sets out at (bytesOf order width (getD numbers i 0))) next (allBytes order width (drop (i + 1) numbers))
+    ≡ sets out at (allBytes order width (drop i numbers))
+unfolding allBytes
+write-turn order width out numbers at next i h e =
+    let here = bytesOf order width (getD numbers i 0) in
+    rw (add-one i, drop-cons numbers i 0 h)
+    (sym (sets-append out here (allBytes order width (drop (suc i) numbers)) at next (omega (arith, bytes-length order width (getD numbers i 0)))))
+
+pub write-end : (order : Order) (width : ℕ) (out numbers : List ℕ) (at i : ℕ) → length numbers ≤ i
+    → sets out at (allBytes order width (drop i numbers)) ≡ out
+unfolding allBytes
+write-end order width out numbers at i h = rw (drop-of-length-le numbers {i = i} h)

@@ -1,0 +1,4 @@
+pub mod Standing
+pub mod Looking
+pub mod Copying
+pub mod Answers

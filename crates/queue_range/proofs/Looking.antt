@@ -1,0 +1,217 @@
+-- The energies that the entries hold, an entry at a time: how many, whether one is NaN, and that all are above zero where none is NaN.
+-- An entry's energies stand before those of the rest; none is below boundary 0, which is above zero. Assumes nothing.
+use mathlib.Core.Path.{_≡_, refl, sym, ap, _∙_}
+use mathlib.Core.Bool.{Bool, true, false, not, _&&_, _||_, true≢false}
+use mathlib.Core.List.{List, [], _∷_, _++_, append-assoc}
+use Prim.Native.Nat.{ℕ, zero, suc, _+_, _-_, _*_, _≤_, _<_}
+use native.Mathlib.Nat.{le-of-suc-le-suc, not-suc-le-zero, mul-pos}
+use native.Mathlib.Numerals.{add-one}
+use native.Mathlib.Omega.{arith}
+use borrow.Author.Tests.{lt-ltb}
+use lib.Dec.{T, ltb→lt, lt→ltb}
+use lib.ListN.{length, getD, take, drop, set, length-take, length-append, drop-of-length-le}
+use lib.Seq.{drop-cons, getD-take, sets}
+use lib.Ieee.{Float, nan, inf, fin, up, down, lt, ne, isNan}
+use lib.Ieee.Fits.{up-pos, down-pos}
+use lib.Ieee.Positive.{positive, above}
+use Rattle.floats.proofs.Nan.{differs}
+use Rattle.floats.proofs.Order.{is-true}
+use Rattle.tables.specs.Tables.{boundaryAt}
+use Rattle.tables.proofs.Rules.{boundary-positive}
+use Rattle.histogram_bins.specs.Energy.{dropped}
+use Rattle.history.specs.declared.set.Entry.{Entry}
+use Rattle.history.specs.declared.set.Shape.{Shape}
+use Rattle.history.specs.declared.set.Shape.the-variants.{Histogram, Queue as Queue-at}
+use Rattle.queue.specs.Queue.{suits, heldOf}
+use Rattle.history.specs.Set.{queueAt, storeEnd, storesInside, noneBelow, shapeSound, isSound, allSound, shows, shapeShows, allShow}
+use Rattle.history.proofs.Entries.{past-the-last, shows-next, shows-end, none-below-append}
+use Rattle.history.proofs.Slices.{slice-length}
+use Rattle.ordering.specs.Order.{allAbove}
+use Rattle.queue_range.specs.declared.Parts.{Parts}
+use Rattle.queue_range.specs.Listed.{heldBy, allHeld, anyNan}
+use Rattle.queue_range.specs.Inner.{heldIn, heldAt, suitsAt, part, StandIn}
+use Rattle.queue_range.proofs.Copying.{sets-append}
+
+-- ---- NaN in a part
+or-assoc : (a b c : Bool) → (a || b) || c ≡ a || (b || c)
+or-assoc true b c = refl
+or-assoc false b c = refl
+
+or-false : (a : Bool) → a || false ≡ a
+or-false true = refl
+or-false false = refl
+
+pub part-next : (l : List Float) (i until : ℕ) (d : Float) → i < until → until ≤ length l → part i until l ≡ getD l i d ∷ part (i + 1) until l
+part-next l i until d h g =
+    ap (λ (n : ℕ). take n (drop i l)) {x = until - i} {y = suc (until - (i + 1))} (omega arith)
+    ∙ ap (take (suc (until - (i + 1)))) (drop-cons l i d (omega arith))
+    ∙ ap {B = List Float} (λ (n : ℕ). getD l i d ∷ take (until - (i + 1)) (drop n l)) (sym (add-one i))
+
+pub part-end : (l : List Float) (i until : ℕ) → until ≤ i → part i until l ≡ []
+part-end l i until h = ap (λ (n : ℕ). take n (drop i l)) {x = until - i} {y = 0} (omega arith)
+
+module _ (l : List Float) (i until : ℕ) where
+  pub nan-turn : (found : Bool) (d : Float) → i < until → until ≤ length l
+      → (found || ne (getD l i d) (getD l i d)) || anyNan (part (i + 1) until l) ≡ found || anyNan (part i until l)
+  unfolding anyNan
+  nan-turn found d h g = rw (or-assoc, part-next l i until d h g, differs (getD l i d))
+
+  pub nan-end : (found : Bool) → until ≤ i → found || anyNan (part i until l) ≡ found
+  unfolding anyNan
+  nan-end found h = rw (part-end l i until h) (or-false found)
+
+-- ---- a part that is copied
+module _ (work l : List Float) (place i until : ℕ) where
+  pub copy-turn : (d : Float) → i < until → until ≤ length l → sets (set work place (getD l i d)) (place + 1) (part (i + 1) until l) ≡ sets work place (part i until l)
+  copy-turn d h g =
+      ap (λ (n : ℕ). sets (set work place (getD l i d)) n (part (i + 1) until l)) (add-one place) ∙ sym (ap (sets work place) (part-next l i until d h g))
+
+  pub copy-end : until ≤ i → sets work place (part i until l) ≡ work
+  copy-end h = ap (sets work place) (part-end l i until h)
+
+nan-append : (a b : List Float) → anyNan (a ++ b) ≡ anyNan a || anyNan b
+unfolding anyNan
+nan-append [] b = refl
+nan-append (x ∷ a) b = rw (nan-append a b, or-assoc)
+
+-- ---- an entry that is inside and sound
+stores-in : (energies : ℕ) (l : List Entry) (i : ℕ) → i < length l → storesInside energies l → storeEnd (getD l i past-the-last .shape) ≤ energies
+stores-in energies [] i h s = absurd (not-suc-le-zero h)
+stores-in energies (entry ∷ l) zero h s = s .0
+stores-in energies (entry ∷ l) (suc i) h s = stores-in energies l i (le-of-suc-le-suc h) (s .1)
+
+pub store-at : (energies : ℕ) (l : List Entry) (count i : ℕ) → i < count → count ≤ length l → storesInside energies (take count l)
+    → storeEnd (getD l i past-the-last .shape) ≤ energies
+store-at energies l count i h g s =
+    let within : i < length (take count l) = omega (arith, length-take count l) in
+    rw (getD-take count l i past-the-last h) at (stores-in energies (take count l) i within s)
+
+both : (a b : Bool) → a && b ≡ true → (a ≡ true) × (b ≡ true)
+both true b h = (refl, h)
+both false b h = absurd (true≢false (sym h))
+
+pub suits-sound : (energies : List Float) (s : Shape) → shapeSound energies s ≡ true → suitsAt s ≡ true
+suits-sound energies (Histogram start) h = refl
+suits-sound energies (Queue-at start queue) h = both (suits queue (queue .maximum)) (noneBelow (heldOf (queueAt energies start queue))) h .0
+
+-- ---- entry by entry
+module _ (energies : List Float) (l : List Entry) (count i : ℕ) where
+  pub held-end : count ≤ i → heldIn energies (drop i (take count l)) ≡ []
+  unfolding allHeld
+  held-end h = ap allHeld (shows-end [] energies l count i h)
+
+  pub held-next : i < count → count ≤ length l
+      → heldIn energies (drop i (take count l)) ≡ heldBy (shows [] energies (getD l i past-the-last)) ++ heldIn energies (drop (i + 1) (take count l))
+  unfolding allHeld
+  held-next h g = ap allHeld (shows-next [] energies l count i h g)
+
+  pub held-count : i < count → count ≤ length l
+      → length (heldIn energies (drop i (take count l))) ≡ length (heldAt energies (getD l i past-the-last)) + length (heldIn energies (drop (i + 1) (take count l)))
+  held-count h g =
+      ap length (held-next h g) ∙ length-append (heldAt energies (getD l i past-the-last)) (heldIn energies (drop (i + 1) (take count l)))
+
+  pub held-nan : i < count → count ≤ length l → (found here : Bool) → here ≡ anyNan (heldAt energies (getD l i past-the-last))
+      → (found || here) || anyNan (heldIn energies (drop (i + 1) (take count l))) ≡ found || anyNan (heldIn energies (drop i (take count l)))
+  held-nan h g found here e =
+      or-assoc found here (anyNan (heldIn energies (drop (i + 1) (take count l))))
+      ∙ ap (λ (b : Bool). found || (b || anyNan (heldIn energies (drop (i + 1) (take count l))))) e
+      ∙ sym (ap (λ (b : Bool). found || b) (ap anyNan (held-next h g) ∙ nan-append (heldAt energies (getD l i past-the-last)) (heldIn energies (drop (i + 1) (take count l)))))
+
+  -- this entry's energies are stored, and then those of the others
+  pub held-set : i < count → count ≤ length l → (work next : List Float) (at after : ℕ) → next ≡ sets work at (heldAt energies (getD l i past-the-last))
+      → after ≡ at + length (heldAt energies (getD l i past-the-last))
+      → sets next after (heldIn energies (drop (i + 1) (take count l))) ≡ sets work at (heldIn energies (drop i (take count l)))
+  held-set h g work next at after e f =
+      let here = heldAt energies (getD l i past-the-last) in
+      let rest = heldIn energies (drop (i + 1) (take count l)) in
+      ap (λ (w : List Float). sets w after rest) e
+      ∙ ap (λ (n : ℕ). sets (sets work at here) n rest) f
+      ∙ sym (sets-append work here rest at)
+      ∙ ap (sets work at) (sym (held-next h g))
+
+-- ---- the two parts of an entry
+module _ (energies : List Float) (entry : Entry) (p : Parts) (s : StandIn (entry .shape) p) (k : storeEnd (entry .shape) ≤ length energies) where
+  abbrev older : List Float
+  older = part (p .from) (p .until) energies
+
+  abbrev newer : List Float
+  newer = part (p .start) (p .end) energies
+
+  pub parts-count : length (heldAt energies entry) ≡ p .until - p .from + (p .end - p .start)
+  parts-count =
+      ap length (s .held energies k)
+      ∙ length-append older newer
+      ∙ omega (arith, slice-length (p .from) (p .until) energies (omega (arith, s .inside)), slice-length (p .start) (p .end) energies (omega (arith, s .within)))
+
+  pub parts-nan : (a b : Bool) → a ≡ anyNan older → b ≡ anyNan newer → a || b ≡ anyNan (heldAt energies entry)
+  parts-nan a b e f =
+      ap (λ (x : Bool). x || b) e ∙ ap (λ (x : Bool). anyNan older || x) f ∙ sym (ap anyNan (s .held energies k) ∙ nan-append older newer)
+
+  pub parts-set : (work : List Float) (at middle : ℕ) → middle ≡ at + (p .until - p .from) → sets (sets work at older) middle newer ≡ sets work at (heldAt energies entry)
+  parts-set work at middle e =
+      ap (λ (n : ℕ). sets (sets work at older) n newer) {x = middle} {y = at + length older} (omega (arith, e, slice-length (p .from) (p .until) energies (omega (arith, s .inside))))
+      ∙ sym (sets-append work older newer at)
+      ∙ ap (sets work at) (sym (s .held energies k))
+
+-- counters play no part
+pub held-any : (counters : List ℕ) (energies : List Float) (l : List Entry) → heldIn energies l ≡ allHeld (allShow counters energies l)
+unfolding allHeld allShow
+held-any counters energies [] = refl
+held-any counters energies (entry ∷ l) = one (entry .shape) (held-any counters energies l)
+  where
+    one : (s : Shape) → heldIn energies l ≡ allHeld (allShow counters energies l)
+        → heldBy (shapeShows [] energies s) ++ heldIn energies l ≡ heldBy (shapeShows counters energies s) ++ allHeld (allShow counters energies l)
+    one (Histogram start) e = e
+    one (Queue-at start queue) e = ap (λ (r : List Float). heldOf (queueAt energies start queue) ++ r) e
+
+-- ---- above zero
+-- below no boundary 0 and no NaN: above zero
+pub above-one : (lo x : Float) → T (positive lo) → lt x lo ≡ false → isNan x ≡ false → T (above x)
+unfolding lt isNan
+above-one nan x p h n = absurd p
+above-one (inf s) x p h n = absurd p
+above-one (fin true m e) x p h n = absurd p
+above-one (fin false m e) nan p h n = absurd (true≢false n)
+above-one (fin false m e) (inf true) p h n = absurd (true≢false h)
+above-one (fin false m e) (inf false) p h n = tt
+above-one (fin false m e) (fin true q d) p h n =
+    absurd (true≢false (sym (lt-ltb 0 (q * up d * down e + m * up e * down d) (omega (arith, mul-pos (mul-pos (ltb→lt 0 m p) (up-pos e)) (down-pos d)))) ∙ h))
+above-one (fin false m e) (fin false zero d) p h n =
+    absurd (true≢false (sym (lt-ltb (0 * up d * down e) (m * up e * down d) (omega (arith, mul-pos (mul-pos (ltb→lt 0 m p) (up-pos e)) (down-pos d)))) ∙ h))
+above-one (fin false m e) (fin false (suc q) d) p h n = lt→ltb 0 (suc q) (omega arith)
+
+neither : (a b : Bool) → a || b ≡ false → (a ≡ false) × (b ≡ false)
+neither true b h = absurd (true≢false h)
+neither false b h = (refl, h)
+
+not-true : (a : Bool) → not a ≡ true → a ≡ false
+not-true true h = absurd (true≢false (sym h))
+not-true false h = refl
+
+pub above-held : (l : List Float) → noneBelow l ≡ true → anyNan l ≡ false → allAbove l ≡ true
+unfolding noneBelow anyNan allAbove
+above-held [] b n = refl
+above-held (x ∷ l) b n =
+    let p = both (not (dropped x)) (noneBelow l) b in
+    let q = neither (isNan x) (anyNan l) n in
+    rw (
+      is-true (above x) (above-one (boundaryAt 0) x (boundary-positive 0 (omega arith)) (not-true (dropped x) (p .0)) (q .0)),
+      above-held l (p .1) (q .1),
+    )
+
+pub none-below-held : (energies : List Float) (l : List Entry) → allSound energies l ≡ true → noneBelow (heldIn energies l) ≡ true
+unfolding allSound allHeld allShow noneBelow
+none-below-held energies [] s = refl
+none-below-held energies (entry ∷ l) s =
+    let p = both (isSound energies entry) (allSound energies l) s in
+    one (entry .shape) (p .0) (none-below-held energies l (p .1))
+  where
+    one : (s : Shape) → shapeSound energies s ≡ true → noneBelow (heldIn energies l) ≡ true → noneBelow (heldBy (shapeShows [] energies s) ++ heldIn energies l) ≡ true
+    one (Histogram start) h r = r
+    one (Queue-at start queue) h r =
+        let q = both (suits queue (queue .maximum)) (noneBelow (heldOf (queueAt energies start queue))) h in
+        rw (none-below-append (heldOf (queueAt energies start queue)) (heldIn energies l), q .1, r)
+
+pub nan-done : (found : Bool) (l : List Float) → l ≡ [] → found || anyNan l ≡ found
+unfolding anyNan
+nan-done found l e = ap (λ (r : List Float). found || anyNan r) e ∙ or-false found

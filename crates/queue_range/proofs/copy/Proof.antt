@@ -1,0 +1,84 @@
+-- `queue_range::copy` meets its contract. The invariant: the energies from `i` on, stored from `place` on, give what all of them give. Assumes nothing.
+use mathlib.Core.Path.{_≡_, refl, sym, _∙_}
+use Prim.Native.Nat.{_+_, _-_, _≤_}
+use native.Mathlib.Omega.{arith}
+use denote.Ref.{now}
+use lib.Ieee.{nan}
+use lib.ListN.{length, length-set}
+use lib.Seq.{sets}
+use Rattle.queue_range.specs.Inner.{part}
+use Rattle.queue_range.proofs.Looking.{copy-turn, copy-end}
+use borrow.Author.Needs.{needs}
+use Rattle.queue_range.proofs.copy.Statement.{statement}
+use Rattle.queue_range.proofs.copy.Tie as tie
+
+abbrev Inv-loop : tie.InvT-loop
+Inv-loop work₀ at energies from until place₀ i₀ work place i =
+    (i ≤ until)
+    × (place + (until - i) ≡ at + (until - from))
+    × (length work ≡ length work₀)
+    × (sets work place (part i until energies) ≡ sets work₀ at (part from until energies))
+
+abbrev μ-loop : tie.MeasureT-loop
+μ-loop work₀ at energies from until place₀ i₀ work place i = until - i
+
+loop-holds : tie.Need-loop-holds Inv-loop μ-loop
+loop-holds c = (omega arith, omega arith, refl, refl)
+
+mul-work : tie.Need-mul-work Inv-loop μ-loop
+mul-work c = search needs
+
+shared-slice-read-work : tie.Need-shared-slice-read-work Inv-loop μ-loop
+shared-slice-read-work c = search needs
+
+mul-work-2 : tie.Need-mul-work-2 Inv-loop μ-loop
+mul-work-2 c = search needs
+
+slice-write-work : tie.Need-slice-write-work Inv-loop μ-loop
+slice-write-work c = search needs
+
+add-place : tie.Need-add-place Inv-loop μ-loop
+add-place c = search needs
+
+add-i : tie.Need-add-i Inv-loop μ-loop
+add-i c = search needs
+
+loop-less : tie.Need-loop-less Inv-loop μ-loop
+loop-less c = search needs
+
+loop-again : tie.Need-loop-again Inv-loop μ-loop
+loop-again c =
+    let l = c .before .before in
+    let a = l .before .args in (
+      omega arith,
+      omega arith,
+      simp length-set (l .loop .inv .2),
+      copy-turn (l .loop .work) (now (a .energies)) (l .loop .place) (l .loop .i) (a .until) nan (omega arith) (omega arith) ∙ l .loop .inv .3,
+    )
+
+same-length : tie.Need-same-length Inv-loop μ-loop
+same-length c = search needs
+
+returns : tie.Need-returns Inv-loop μ-loop
+returns c =
+    let l = c .before in
+    let a = l .before .args in
+    sym (copy-end (l .loop .work) (now (a .energies)) (l .loop .place) (l .loop .i) (a .until) (omega arith)) ∙ l .loop .inv .3
+
+pub copy-spec : {M : Type 1} → statement M
+copy-spec =
+    tie.close
+    (tie.spec
+    Inv-loop
+    μ-loop
+    loop-holds
+    mul-work
+    shared-slice-read-work
+    mul-work-2
+    slice-write-work
+    add-place
+    add-i
+    loop-less
+    loop-again
+    same-length
+    returns)

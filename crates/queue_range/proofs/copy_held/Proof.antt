@@ -1,0 +1,89 @@
+-- `queue_range::copy_held` meets its contract: what an entry holds stands in two parts, which are copied one after the other. Assumes nothing.
+use mathlib.Core.Path.{_≡_, refl, sym, ap, _∙_}
+use mathlib.Core.List.{List}
+use Prim.Native.Nat.{_+_, _-_, _≤_}
+use native.Mathlib.Omega.{arith}
+use denote.Ref.{now}
+use lib.Ieee.{Float}
+use lib.ListN.{length}
+use lib.Seq.{sets, length-sets}
+use Rattle.queue_range.specs.Inner.{part, StandIn}
+use Rattle.queue_range.proofs.Looking.{parts-count, parts-set}
+use borrow.Author.Needs.{needs}
+use Rattle.queue_range.proofs.copy_held.Statement.{statement}
+use Rattle.queue_range.proofs.copy_held.Tie as tie
+
+stand : (p : tie.After-parts-of) → StandIn (p .before .before .before .args .entry .shape) (p .parts-of .result)
+stand p = p .parts-of .ensures
+
+-- how many it holds
+count : (p : tie.After-parts-of) →
+    let s = p .before .before .before in
+    let parts = p .parts-of .result in
+    s .args .at + (parts .until - parts .from) + (parts .end - parts .start) ≤ length (now (s .args .work))
+count p =
+    let s = p .before .before .before in
+    omega (arith, s .pre .2, parts-count (now (s .args .energies)) (s .args .entry) (p .parts-of .result) (stand p) (s .pre .0))
+
+parts-of-requires : tie.Need-parts-of-requires
+parts-of-requires c κs = search needs
+
+sub-middle : tie.Need-sub-middle
+sub-middle c = let f = stand (c .before) in omega arith
+
+add-middle : tie.Need-add-middle
+add-middle c = let f = stand (c .before) in omega (arith, count (c .before))
+
+copy-requires : tie.Need-copy-requires
+copy-requires c κs =
+    let p = c .before .before in
+    let f = stand p in
+    (omega arith, omega (arith, p .before .before .before .pre .0), omega (arith, count p))
+
+copy-requires-2 : tie.Need-copy-requires-2
+copy-requires-2 c κs =
+    let first = c .before .before .before in
+    let p = first .before .before .before in
+    let f = stand p in
+    (omega arith, omega (arith, p .before .before .before .pre .0), omega (arith, count p, first .copy .kept))
+
+sub-result : tie.Need-sub-result
+sub-result c = let f = stand (c .before .before .before .before .before .before .before .before .before .before) in omega arith
+
+add-result : tie.Need-add-result
+add-result c =
+    let p = c .before .before .before .before .before .before .before .before .before .before in
+    let f = stand p in
+    omega (arith, count p)
+
+same-length : tie.Need-same-length
+same-length c = search needs
+
+returns : tie.Need-returns
+returns c =
+    let second = c .before .before .before in
+    let first = second .before .before .before .before in
+    let p = first .before .before .before in
+    let s = p .before .before .before in
+    let energies = now (s .args .energies) in
+    let parts = p .parts-of .result in
+    let middle = s .args .at + (parts .until - parts .from) in (
+      second .copy2 .ensures
+          ∙ ap (λ (w : List Float). sets w middle (part (parts .start) (parts .end) energies)) (first .copy .ensures)
+          ∙ parts-set energies (s .args .entry) parts (stand p) (s .pre .0) (now (s .args .work)) (s .args .at) middle refl,
+      omega (arith, parts-count energies (s .args .entry) parts (stand p) (s .pre .0)),
+    )
+
+pub copy-held-spec : {M : Type 1} → statement M
+copy-held-spec =
+    tie.close
+    (tie.spec
+    parts-of-requires
+    sub-middle
+    add-middle
+    copy-requires
+    copy-requires-2
+    sub-result
+    add-result
+    same-length
+    returns)

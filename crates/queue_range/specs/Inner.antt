@@ -1,0 +1,45 @@
+-- What the steps of the range over queues are stated by: where the energies of an entry stand, and how many there can be.
+use mathlib.Core.Path.{_≡_}
+use mathlib.Core.Bool.{Bool, true}
+use mathlib.Core.List.{List, [], _++_}
+use Prim.Native.Nat.{ℕ, _+_, _-_, _*_, _≤_}
+use lib.ListN.{length, take, drop}
+use lib.Ieee.{Float}
+use Rattle.queue.specs.Queue.{longest, suits}
+use Rattle.history.specs.declared.set.Entry.{Entry}
+use Rattle.history.specs.declared.set.Shape.{Shape}
+use Rattle.history.specs.declared.set.Shape.the-variants.{Histogram, Queue as Queue-at}
+use Rattle.history.specs.Set.{mostHistories, storeEnd, shapeShows, allShow}
+use Rattle.queue_range.specs.declared.Parts.{Parts}
+use Rattle.queue_range.specs.Listed.{heldBy, allHeld}
+
+-- the most energies that 16 queues hold
+abbrev pub mostHeld : ℕ
+mostHeld = mostHistories * longest
+
+-- the energies that the entries hold. Counters play no part in it
+abbrev pub heldIn : List Float → List Entry → List Float
+heldIn energies l = allHeld (allShow [] energies l)
+
+-- those of one entry
+abbrev pub heldAt : List Float → Entry → List Float
+heldAt energies entry = heldBy (shapeShows [] energies (entry .shape))
+
+-- a queue that suits its store
+abbrev pub suitsAt : Shape → Bool
+suitsAt (Histogram start) = true
+suitsAt (Queue-at start queue) = suits queue (queue .maximum)
+
+-- from a place up to another
+abbrev pub part : ℕ → ℕ → List Float → List Float
+part from until l = take (until - from) (drop from l)
+
+-- the energies of an entry stand in two parts of the lent energies, one after the other
+pub record StandIn (shape : Shape) (parts : Parts) : Type 0 where
+  pub older : parts .from ≤ parts .until
+  pub inside : parts .until ≤ storeEnd shape
+  pub newer : parts .start ≤ parts .end
+  pub within : parts .end ≤ storeEnd shape
+  pub few : parts .until - parts .from + (parts .end - parts .start) ≤ longest
+  pub held : (energies : List Float) → storeEnd shape ≤ length energies
+      → heldBy (shapeShows [] energies shape) ≡ part (parts .from) (parts .until) energies ++ part (parts .start) (parts .end) energies

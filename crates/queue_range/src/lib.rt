@@ -1,0 +1,183 @@
+// The loudness range over the queues of a set: their energies are put in rising order in a lent work slice.
+use history::set::Entry;
+use history::set::MOST;
+use history::set::Shape;
+use spans::Range;
+ghost use mathlib.Core.Path.{_≡_};
+ghost use mathlib.Core.Bool.{true, _||_};
+ghost use mathlib.Core.List.{List};
+ghost use Prim.Native.Nat.{ℕ, _+_, _-_, _^_, _≤_, _<_};
+ghost use lib.Seq.{sets};
+ghost use lib.ListN.{length, take, drop};
+ghost use Rattle.refusals.specs.Outcome.{saidBy, keptBy};
+ghost use Rattle.queue.specs.Queue.{longest};
+ghost use Rattle.history.specs.Set.{mostHistories, histories, storeEnd, storesInside, allSound};
+ghost use Rattle.spans.specs.Span.{said};
+ghost use Rattle.queue_range.specs.Listed.{anyNan, listedRange, queueRange};
+ghost use Rattle.queue_range.specs.Inner.{mostHeld, heldIn, heldAt, suitsAt, part, StandIn};
+
+// Where the energies of an entry stand in the lent energies: those of a queue between its head and the end of its store, and those from its store's start.
+struct Parts {
+    from: usize,
+    until: usize,
+    start: usize,
+    end: usize,
+}
+
+fn parts_of(entry: Entry) -> Parts
+    requires { ⌜ (storeEnd (entry .shape) < 2 ^ 64) × (suitsAt (entry .shape) ≡ true) ⌝ }
+    ensures { λ r. ⌜ StandIn (entry .shape) r ⌝ }
+{
+    let shape = entry.shape;
+    match shape {
+        Shape::Histogram(_) => Parts {
+            from: 0,
+            until: 0,
+            start: 0,
+            end: 0,
+        },
+        Shape::Queue(start, queue) => {
+            let head = queue.head;
+            let held = queue.held;
+            let first = queue.first_part();
+            let from = start + head;
+            Parts {
+                from,
+                until: from + first,
+                start,
+                end: start + (held - first),
+            }
+        }
+    }
+}
+
+// Whether one of the energies from a place up to another is NaN. No turn branches, so that several are looked at in one step.
+fn has_nan(energies: &[f64], from: usize, until: usize) -> bool
+    requires { ⌜ (from ≤ until) × (until ≤ length (now energies)) ⌝ }
+    ensures { λ r. ⌜ r ≡ anyNan (part from until (now (energies .entry))) ⌝ }
+{
+    let mut found = false;
+    let mut i = from;
+    while i < until {
+        let energy = energies[i];
+        found = found | (energy != energy);
+        i += 1;
+    }
+    found
+}
+
+// How many energies are held, and whether one is NaN.
+struct Seen {
+    blocks: usize,
+    nan: bool,
+}
+
+fn look_at(entry: Entry, energies: &[f64]) -> Seen
+    requires { ⌜ (storeEnd (entry .shape) ≤ length (now energies)) × (suitsAt (entry .shape) ≡ true) ⌝ }
+    ensures { λ r. ⌜ (r .blocks ≡ length (heldAt (now (energies .entry)) entry)) × (r .nan ≡ anyNan (heldAt (now (energies .entry)) entry)) × (r .blocks ≤ longest) ⌝ }
+{
+    let parts = parts_of(entry);
+    let older = has_nan(energies, parts.from, parts.until);
+    let newer = has_nan(energies, parts.start, parts.end);
+    Seen {
+        blocks: (parts.until - parts.from) + (parts.end - parts.start),
+        nan: older | newer,
+    }
+}
+
+fn look(entries: [Entry; MOST], count: usize, energies: &[f64]) -> Seen
+    requires { ⌜ (count ≤ mostHistories) × (storesInside (length (now energies)) (take count entries)) × (allSound (now energies) (take count entries) ≡ true) ⌝ }
+    ensures { λ r. ⌜ (r .blocks ≡ length (heldIn (now (energies .entry)) (take count entries)))
+        × (r .nan ≡ anyNan (heldIn (now (energies .entry)) (take count entries))) × (r .blocks ≤ mostHeld) ⌝ }
+{
+    let mut blocks = 0;
+    let mut nan = false;
+    let mut i = 0;
+    while i < count {
+        let entry = entries[i];
+        let seen = look_at(entry, energies);
+        nan = nan | seen.nan;
+        blocks = blocks + seen.blocks;
+        i += 1;
+    }
+    Seen { blocks, nan }
+}
+
+// The energies from a place up to another, from a place of the work slice on.
+fn copy(work: &mut [f64], at: usize, energies: &[f64], from: usize, until: usize)
+    requires { ⌜ (from ≤ until) × (until ≤ length (now energies)) × (at + (until - from) ≤ length (now work)) ⌝ }
+    ensures { λ _. ⌜ now (work .exit) ≡ sets (now (work .entry)) at (part from until (now (energies .entry))) ⌝ }
+{
+    let mut place = at;
+    let mut i = from;
+    while i < until {
+        work[place] = energies[i];
+        place += 1;
+        i += 1;
+    }
+}
+
+// Those that an entry holds, oldest first. Answers the place after them.
+fn copy_held(work: &mut [f64], at: usize, entry: Entry, energies: &[f64]) -> usize
+    requires { ⌜ (storeEnd (entry .shape) ≤ length (now energies)) × (suitsAt (entry .shape) ≡ true)
+        × (at + length (heldAt (now energies) entry) ≤ length (now work)) ⌝ }
+    ensures { λ r. ⌜ (now (work .exit) ≡ sets (now (work .entry)) at (heldAt (now (energies .entry)) entry)) × (r ≡ at + length (heldAt (now (energies .entry)) entry)) ⌝ }
+{
+    let parts = parts_of(entry);
+    let middle = at + (parts.until - parts.from);
+    copy(work, at, energies, parts.from, parts.until);
+    copy(work, middle, energies, parts.start, parts.end);
+    middle + (parts.end - parts.start)
+}
+
+// All held energies, entry by entry, from the first place of the work slice on.
+fn copy_all(entries: [Entry; MOST], count: usize, energies: &[f64], work: &mut [f64])
+    requires { ⌜ (count ≤ mostHistories) × (storesInside (length (now energies)) (take count entries)) × (allSound (now energies) (take count entries) ≡ true)
+        × (length (heldIn (now energies) (take count entries)) ≤ length (now work)) ⌝ }
+    ensures { λ _. ⌜ now (work .exit) ≡ sets (now (work .entry)) 0 (heldIn (now (energies .entry)) (take count entries)) ⌝ }
+{
+    let mut at = 0;
+    let mut i = 0;
+    while i < count {
+        let entry = entries[i];
+        at = copy_held(work, at, entry, energies);
+        i += 1;
+    }
+}
+
+// The range of the queues of a set that nothing refuses.
+fn in_order(entries: [Entry; MOST], count: usize, energies: &[f64], work: &mut [f64]) -> Range
+    requires { ⌜ (count ≤ mostHistories) × (storesInside (length (now energies)) (take count entries)) × (allSound (now energies) (take count entries) ≡ true) ⌝ }
+    ensures { λ r. ⌜ (said r ≡ saidBy (listedRange (heldIn (now (energies .entry)) (take count entries)) (now (work .entry))))
+        × (now (work .exit) ≡ keptBy (now (work .entry)) (listedRange (heldIn (now (energies .entry)) (take count entries)) (now (work .entry)))) ⌝ }
+{
+    let seen = look(entries, count, energies);
+    let blocks = seen.blocks;
+    if work.len() < blocks {
+        return Range::Refused(refusals::ROOM);
+    }
+    if seen.nan {
+        return Range::NotANumber;
+    }
+    copy_all(entries, count, energies, work);
+    ordering::order(&mut work[..blocks]);
+    rising_range::span_in_order(&work[..blocks])
+}
+
+// The range over the queues of a set. Its histograms play no part.
+pub fn of_queues(
+    entries: [Entry; MOST],
+    count: usize,
+    counters: &[u32],
+    energies: &[f64],
+    work: &mut [f64],
+) -> Range
+    ensures { λ r. ⌜ (said r ≡ saidBy (queueRange (histories entries count (now (counters .entry)) (now (energies .entry))) (now (work .entry))))
+        × (now (work .exit) ≡ keptBy (now (work .entry)) (queueRange (histories entries count (now (counters .entry)) (now (energies .entry))) (now (work .entry)))) ⌝ }
+{
+    let refusal = history::set::checked(entries, count, counters, energies);
+    if refusal != 0 {
+        return Range::Refused(refusal);
+    }
+    in_order(entries, count, energies, work)
+}

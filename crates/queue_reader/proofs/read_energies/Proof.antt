@@ -1,0 +1,94 @@
+-- `queue_reader::read_energies` meets its contract. The invariant: what is left to store gives what all of it gives. Assumes nothing.
+use mathlib.Core.Path.{_≡_, refl, sym, ap, _∙_}
+use Prim.Native.Nat.{ℕ, _+_, _-_, _*_, _≤_}
+use native.Mathlib.Omega.{arith}
+use borrow.Author.Needs.{needs}
+use denote.Ref.{now}
+use lib.ListN.{length, length-set, drop}
+use lib.Seq.{sets}
+use Rattle.fields.proofs.Written.{field-from}
+use Rattle.layout.specs.Layout.{lowFirst, numbersIn}
+use Rattle.queue_reader.specs.QueueRecord.{energiesOf}
+use Rattle.queue_reader.proofs.Patterns.{store-turn, store-end}
+use Rattle.queue_reader.proofs.read_energies.Statement.{statement}
+use Rattle.queue_reader.proofs.read_energies.Tie as tie
+
+abbrev Inv-loop : tie.InvT-loop
+Inv-loop bytes at count store₀ i₀ store i = (i ≤ count) × (length store ≡ length store₀) × (sets store i (energiesOf (numbersIn lowFirst 8 (count - i) (drop (at + 8 * i) bytes))) ≡ sets store₀ 0 (energiesOf (numbersIn lowFirst 8 count (drop at bytes))))
+
+abbrev μ-loop : tie.MeasureT-loop
+μ-loop bytes at count store₀ i₀ store i = count - i
+
+loop-holds : tie.Need-loop-holds Inv-loop μ-loop
+loop-holds c =
+    let a = c .before .before .args in (
+      omega arith,
+      refl,
+      ap (λ (n : ℕ). sets (now (a .store)) 0 (energiesOf (numbersIn lowFirst 8 n (drop (a .at + 0) (now (a .bytes)))))) {x = a .count - 0} {y = a .count} (omega arith)
+          ∙ ap (λ (n : ℕ). sets (now (a .store)) 0 (energiesOf (numbersIn lowFirst 8 (a .count) (drop n (now (a .bytes)))))) {x = a .at + 0} {y = a .at} (omega arith),
+    )
+
+mul-number-at : tie.Need-mul-number-at Inv-loop μ-loop
+mul-number-at c = search needs
+
+add-number-at : tie.Need-add-number-at Inv-loop μ-loop
+add-number-at c = search needs
+
+number-at-requires : tie.Need-number-at-requires Inv-loop μ-loop
+number-at-requires c κs = search needs
+
+float-of-requires : tie.Need-float-of-requires Inv-loop μ-loop
+float-of-requires c κs = search needs
+
+mul-store : tie.Need-mul-store Inv-loop μ-loop
+mul-store c = search needs
+
+slice-write-store : tie.Need-slice-write-store Inv-loop μ-loop
+slice-write-store c = search needs
+
+add-i : tie.Need-add-i Inv-loop μ-loop
+add-i c = search needs
+
+loop-less : tie.Need-loop-less Inv-loop μ-loop
+loop-less c = search needs
+
+loop-again : tie.Need-loop-again Inv-loop μ-loop
+loop-again c =
+    let l = c .before .before .before in
+    let a = l .before .before .before .args in
+    let i = l .loop .i in
+    let at = a .at + 8 * i in (
+      omega arith,
+      simp length-set (l .loop .inv .1),
+      store-turn lowFirst 8 (now (a .bytes)) at (a .at + 8 * (i + 1)) (a .count - i) (a .count - (i + 1)) (c .before .number-at .result) (omega arith) (omega arith)
+          (c .before .number-at .ensures ∙ field-from (now (a .bytes)) at at 0 8 (omega arith)) (l .loop .store) i (c .float-of .result) (c .float-of .ensures)
+          ∙ l .loop .inv .2,
+    )
+
+same-length : tie.Need-same-length Inv-loop μ-loop
+same-length c = search needs
+
+returns : tie.Need-returns Inv-loop μ-loop
+returns c =
+    let l = c .before in
+    let a = l .before .before .before .args in
+    sym (store-end lowFirst 8 (a .count - l .loop .i) (l .loop .i) (drop (a .at + 8 * l .loop .i) (now (a .bytes))) (l .loop .store) (omega arith)) ∙ l .loop .inv .2
+
+pub read-energies-spec : {M : Type 1} → statement M
+read-energies-spec =
+    tie.close
+    (tie.spec
+    Inv-loop
+    μ-loop
+    loop-holds
+    mul-number-at
+    add-number-at
+    number-at-requires
+    float-of-requires
+    mul-store
+    slice-write-store
+    add-i
+    loop-less
+    loop-again
+    same-length
+    returns)

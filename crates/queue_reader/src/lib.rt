@@ -1,0 +1,135 @@
+// Records of kind 2: the energies of a queue, oldest first, read.
+use layout::Kind;
+use queue::Queue;
+use refusals::Answer;
+ghost use mathlib.Core.Path.{_≡_};
+ghost use Prim.Native.Nat.{_+_, _-_, _*_, _≤_};
+ghost use lib.ListN.{length, drop};
+ghost use lib.Seq.{sets};
+ghost use Rattle.refusals.specs.Outcome.{saidBy, keptBy};
+ghost use Rattle.layout.specs.Layout.{lowFirst, numbersIn, lengthIn};
+ghost use Rattle.queue_reader.specs.QueueRecord.{
+  energyWidth,
+  leastLength,
+  numbersFit,
+  patternFits,
+  allFit,
+  energiesOf,
+  bodyRead,
+  readQueue,
+  said,
+};
+
+// Where the fields of the body start: the maximum, the number of energies held, and the energies.
+const MAXIMUM_AT: usize = 6;
+
+const HELD_AT: usize = 10;
+
+const ENERGIES_AT: usize = 14;
+
+const NUMBER: usize = 4;
+
+const ENERGY: usize = 8;
+
+// The longest queue.
+const LONGEST: usize = 36000;
+
+// The one pattern of NaN.
+const NAN_PATTERN: u64 = 0x7FF8_0000_0000_0000;
+
+// What a reader answers.
+pub enum Received {
+    Held(Queue),
+    Refused(u8),
+}
+
+fn numbers_fit(maximum: usize, held: usize) -> bool
+    ensures { λ r. ⌜ r ≡ numbersFit maximum held ⌝ }
+{
+    if maximum < 1 {
+        return false;
+    }
+    if maximum > LONGEST {
+        return false;
+    }
+    held <= maximum
+}
+
+// Whether a pattern may stand in a record: that of an energy from boundary 0 on, or NaN's.
+fn pattern_fits(pattern: u64) -> bool
+    ensures { λ r. ⌜ r ≡ patternFits pattern ⌝ }
+{
+    let energy = floats::float_of(pattern);
+    if energy < histogram_bins::lowest_boundary() {
+        return false;
+    }
+    if floats::is_nan(energy) {
+        return pattern == NAN_PATTERN;
+    }
+    true
+}
+
+fn all_fit(bytes: &[u8], at: usize, count: usize) -> bool
+    requires { ⌜ at + energyWidth * count ≤ length (now bytes) ⌝ }
+    ensures { λ r. ⌜ r ≡ allFit (numbersIn lowFirst energyWidth count (drop at (now (bytes .entry)))) ⌝ }
+{
+    let mut i = 0;
+    while i < count {
+        if pattern_fits(fields::number_at(bytes, at + ENERGY * i, ENERGY)) {
+            i += 1;
+        } else {
+            return false;
+        }
+    }
+    true
+}
+
+fn read_energies(bytes: &[u8], at: usize, count: usize, store: &mut [f64])
+    requires { ⌜ (at + energyWidth * count ≤ length (now bytes)) × (count ≤ length (now store)) ⌝ }
+    ensures { λ _. ⌜ now (store .exit) ≡ sets (now (store .entry)) 0 (energiesOf (numbersIn lowFirst energyWidth count (drop at (now (bytes .entry))))) ⌝ }
+{
+    let mut i = 0;
+    while i < count {
+        store[i] = floats::float_of(fields::number_at(bytes, at + ENERGY * i, ENERGY));
+        i += 1;
+    }
+}
+
+// What comes after the length and the kind. Every check is made before an energy is written.
+fn read_body(bytes: &[u8], store: &mut [f64]) -> Received
+    requires { ⌜ (leastLength ≤ length (now bytes)) × (lengthIn (now bytes) ≡ length (now bytes) - 4) ⌝ }
+    ensures { λ r. ⌜ (said r ≡ saidBy (bodyRead (now (bytes .entry)) (now (store .entry))))
+        × (now (store .exit) ≡ keptBy (now (store .entry)) (bodyRead (now (bytes .entry)) (now (store .entry)))) ⌝ }
+{
+    let maximum = fields::number_at(bytes, MAXIMUM_AT, NUMBER) as usize;
+    let held = fields::number_at(bytes, HELD_AT, NUMBER) as usize;
+    if !numbers_fit(maximum, held) {
+        return Received::Refused(refusals::CONTENT);
+    }
+    if bytes.len() != ENERGIES_AT + ENERGY * held {
+        return Received::Refused(refusals::LENGTH);
+    }
+    if !all_fit(bytes, ENERGIES_AT, held) {
+        return Received::Refused(refusals::CONTENT);
+    }
+    if store.len() != maximum {
+        return Received::Refused(refusals::STORE);
+    }
+    read_energies(bytes, ENERGIES_AT, held, store);
+    Received::Held(Queue {
+        maximum,
+        head: 0,
+        held,
+    })
+}
+
+// The queue of a record, its energies from the store's first place on, or the refusal that comes first.
+pub fn read_queue(bytes: &[u8], store: &mut [f64]) -> Received
+    ensures { λ r. ⌜ (said r ≡ saidBy (readQueue (now (bytes .entry)) (now (store .entry))))
+        × (now (store .exit) ≡ keptBy (now (store .entry)) (readQueue (now (bytes .entry)) (now (store .entry)))) ⌝ }
+{
+    match layout::frame(Kind::Queue, bytes) {
+        Answer::Done => read_body(bytes, store),
+        Answer::Refused(number) => Received::Refused(number),
+    }
+}

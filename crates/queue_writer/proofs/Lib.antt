@@ -1,0 +1,4 @@
+pub mod Places
+pub mod Cases
+pub mod Patterns
+pub mod Again

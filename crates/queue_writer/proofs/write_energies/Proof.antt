@@ -1,0 +1,98 @@
+-- `queue_writer::write_energies` meets its contract. The invariant: what is left to write gives what all of it gives. Assumes nothing.
+use mathlib.Core.Path.{_≡_, refl, sym, ap, _∙_}
+use mathlib.Core.List.{List}
+use Prim.Native.Nat.{ℕ, _+_, _-_, _*_, _≤_}
+use native.Mathlib.Omega.{arith}
+use borrow.Author.Needs.{needs}
+use denote.Ref.{now}
+use lib.ListN.{length, drop}
+use lib.Seq.{sets, length-sets}
+use Rattle.fields.specs.Field.{lowBytes}
+use Rattle.layout.specs.Layout.{lowFirst, allBytes}
+use Rattle.layout.proofs.Turns.{write-turn, write-end}
+use Rattle.queue_reader.specs.QueueRecord.{patternsOf}
+use Rattle.queue_writer.proofs.Places.{patterns-length, pattern-at}
+use Rattle.queue_writer.proofs.write_energies.Statement.{statement}
+use Rattle.queue_writer.proofs.write_energies.Tie as tie
+
+abbrev Inv-loop : tie.InvT-loop
+Inv-loop energies out₀ at i₀ out i = (i ≤ length energies) × (length out ≡ length out₀) × (sets out (at + 8 * i) (allBytes lowFirst 8 (drop i (patternsOf energies))) ≡ sets out₀ at (allBytes lowFirst 8 (patternsOf energies)))
+
+abbrev μ-loop : tie.MeasureT-loop
+μ-loop energies out₀ at i₀ out i = length energies - i
+
+loop-holds : tie.Need-loop-holds Inv-loop μ-loop
+loop-holds c =
+    let a = c .before .before .args in
+    (omega arith, refl, ap (λ (n : ℕ). sets (now (a .out)) n (allBytes lowFirst 8 (patternsOf (now (a .energies))))) {x = a .at + 0} {y = a .at} (omega arith))
+
+mul-put-field : tie.Need-mul-put-field Inv-loop μ-loop
+mul-put-field c = search needs
+
+add-put-field : tie.Need-add-put-field Inv-loop μ-loop
+add-put-field c = search needs
+
+mul-pattern-of : tie.Need-mul-pattern-of Inv-loop μ-loop
+mul-pattern-of c = search needs
+
+shared-slice-read-pattern-of : tie.Need-shared-slice-read-pattern-of Inv-loop μ-loop
+shared-slice-read-pattern-of c = search needs
+
+pattern-of-requires : tie.Need-pattern-of-requires Inv-loop μ-loop
+pattern-of-requires c κs = search needs
+
+put-field-requires : tie.Need-put-field-requires Inv-loop μ-loop
+put-field-requires c κs = search needs
+
+add-i : tie.Need-add-i Inv-loop μ-loop
+add-i c = search needs
+
+loop-less : tie.Need-loop-less Inv-loop μ-loop
+loop-less c = search needs
+
+loop-again : tie.Need-loop-again Inv-loop μ-loop
+loop-again c =
+    let l = c .before .before .before .before .before .before .before in
+    let a = l .before .before .before .args in
+    let i = l .loop .i in
+    let at = a .at + 8 * i in
+    let energies = now (a .energies) in
+    let put = c .before .before .put-field .ensures in
+    let pattern = c .before .before .before .pattern-of .ensures ∙ sym (pattern-at energies i (omega arith)) in (
+      omega arith,
+      ap length put ∙ length-sets (l .loop .out) at (lowBytes 8 (c .before .before .before .pattern-of .result)) ∙ l .loop .inv .1,
+      ap (λ (o : List ℕ). sets o (a .at + 8 * (i + 1)) (allBytes lowFirst 8 (drop (i + 1) (patternsOf energies)))) put
+          ∙ ap (λ (n : ℕ). sets (sets (l .loop .out) at (lowBytes 8 n)) (a .at + 8 * (i + 1)) (allBytes lowFirst 8 (drop (i + 1) (patternsOf energies)))) pattern
+          ∙ write-turn lowFirst 8 (l .loop .out) (patternsOf energies) at (a .at + 8 * (i + 1)) i (omega (arith, patterns-length energies)) (omega arith)
+          ∙ l .loop .inv .2,
+    )
+
+same-length : tie.Need-same-length Inv-loop μ-loop
+same-length c = search needs
+
+returns : tie.Need-returns Inv-loop μ-loop
+returns c =
+    let l = c .before in
+    let a = l .before .before .before .args in
+    let energies = now (a .energies) in
+    sym (write-end lowFirst 8 (l .loop .out) (patternsOf energies) (a .at + 8 * l .loop .i) (l .loop .i) (omega (arith, patterns-length energies)))
+    ∙ l .loop .inv .2
+
+pub write-energies-spec : {M : Type 1} → statement M
+write-energies-spec =
+    tie.close
+    (tie.spec
+    Inv-loop
+    μ-loop
+    loop-holds
+    mul-put-field
+    add-put-field
+    mul-pattern-of
+    shared-slice-read-pattern-of
+    pattern-of-requires
+    put-field-requires
+    add-i
+    loop-less
+    loop-again
+    same-length
+    returns)

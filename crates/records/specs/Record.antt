@@ -1,0 +1,31 @@
+-- The record of a histogram (01, 'Records'): "Kind 1: 1,000 u32 counters (length 4,002)."
+use Prim.Native.Nat.{ℕ}
+use mathlib.Core.Bool.{cond}
+use mathlib.Core.List.{List}
+use Rattle.refusals.specs.Refusal.{STORE}
+use Rattle.refusals.specs.Outcome.{Outcome, went, refused, NoValues, done}
+use Rattle.histogram_bins.specs.Bin.{bins}
+use Rattle.histogram.specs.Histogram.{isHistogram}
+use Rattle.layout.specs.declared.Kind.the-variants.{Histogram}
+use Rattle.layout.specs.Layout.{orderOf, bodyIn, numbersIn, allBytes, frameOf, andThen, recordOf, writtenTo}
+
+-- the bytes of a counter
+abbrev pub countWidth : ℕ
+countWidth = 4
+
+-- the counters in a record
+unfoldable pub countersIn : List ℕ → List ℕ
+countersIn bytes = numbersIn (orderOf Histogram) countWidth bins (bodyIn bytes)
+
+-- the record of counters
+unfoldable pub histogramRecord : List ℕ → List ℕ
+histogramRecord counters = recordOf Histogram (allBytes (orderOf Histogram) countWidth counters)
+
+-- STORE comes last: "not 1,000 counters"
+unfoldable pub readHistogram : List ℕ → List ℕ → Outcome (List ℕ) NoValues
+readHistogram bytes counters =
+    andThen (frameOf Histogram bytes) (cond (isHistogram counters) (went (countersIn bytes) done) (refused STORE))
+
+-- STORE, then ROOM
+unfoldable pub writeHistogram : List ℕ → List ℕ → Outcome (List ℕ) ℕ
+writeHistogram counters out = cond (isHistogram counters) (writtenTo out (histogramRecord counters)) (refused STORE)

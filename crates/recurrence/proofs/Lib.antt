@@ -1,0 +1,4 @@
+pub mod Moving
+pub mod Memories
+pub mod Cutting
+pub mod Alone

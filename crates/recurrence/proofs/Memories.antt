@@ -1,0 +1,219 @@
+-- The flat state, channel by channel: a change of each used channel's memory, and what it leaves of each channel.
+-- A channel's five places are no other channel's, so changes of different channels change places, and two changes of all channels are one change of each. Assumes nothing.
+use Prim.Native.Nat.{ℕ, zero, suc, _+_, _*_, _≤_, _<_}
+use native.Mathlib.Nat.{not-suc-le-zero, le-of-suc-le-suc, eq-or-lt-of-le}
+use native.Mathlib.Numerals.{add-one}
+use native.Mathlib.Omega.{arith}
+use mathlib.Core.Path.{_≡_, refl, ap, sym, subst, _∙_}
+use mathlib.Core.List.{List, [], _∷_}
+use mathlib.Core.Logic.{_⊎_, inl, inr, ⊎-elim}
+use mathlib.Core.Bool.{Bool, true, false, cond}
+use lib.ListN.{length, getD, drop, drop-of-length-le, List·getD-eq-default}
+use lib.Seq.{sets, length-sets, set-getD, drop-cons}
+use lib.Ieee.{Float, nan}
+use Rattle.samples.proofs.Fill.{past-end}
+use Rattle.calls.specs.Calls.{mostChannels, used}
+use Rattle.sources.proofs.Stores.{sets-comm, sets-again, at-before, at-after, at-within}
+use Rattle.recurrence.specs.declared.Memory.{Memory}
+use Rattle.recurrence.specs.Recurrence.{at}
+use Rattle.recurrence.specs.Channels.{statePlaces, memoryOf, withMemory, overUsed}
+
+abbrev five : Memory → List Float
+five m = m .s0 ∷ m .s1 ∷ m .s2 ∷ m .s3 ∷ m .s4 ∷ []
+
+-- ---- one channel's memory
+
+same-five : {x0 x1 x2 x3 x4 y0 y1 y2 y3 y4 : Float} → x0 ≡ y0 → x1 ≡ y1 → x2 ≡ y2 → x3 ≡ y3 → x4 ≡ y4
+    → _≡_ {A = Memory} (record { s0 = x0; s1 = x1; s2 = x2; s3 = x3; s4 = x4 }) (record { s0 = y0; s1 = y1; s2 = y2; s3 = y3; s4 = y4 })
+same-five e0 e1 e2 e3 e4 = cc
+
+pub length-with : (v : List Float) (k : ℕ) (m : Memory) → length (withMemory v k m) ≡ length v
+unfolding withMemory
+length-with v k m = length-sets v (k * 5) (five m)
+
+-- memories of channels j < k
+module _ (v : List Float) (j k : ℕ) (m : Memory) (h : j < k) where
+  pub memory-below : memoryOf (withMemory v k m) j ≡ memoryOf v j
+  unfolding withMemory
+  memory-below =
+      same-five
+      (at-before (five m) v (k * 5) (j * 5) nan (omega arith))
+      (at-before (five m) v (k * 5) (j * 5 + 1) nan (omega arith))
+      (at-before (five m) v (k * 5) (j * 5 + 2) nan (omega arith))
+      (at-before (five m) v (k * 5) (j * 5 + 3) nan (omega arith))
+      (at-before (five m) v (k * 5) (j * 5 + 4) nan (omega arith))
+
+  pub memory-above : memoryOf (withMemory v j m) k ≡ memoryOf v k
+  unfolding withMemory
+  memory-above =
+      same-five
+      (at-after (five m) v (j * 5) (k * 5) nan (omega arith))
+      (at-after (five m) v (j * 5) (k * 5 + 1) nan (omega arith))
+      (at-after (five m) v (j * 5) (k * 5 + 2) nan (omega arith))
+      (at-after (five m) v (j * 5) (k * 5 + 3) nan (omega arith))
+      (at-after (five m) v (j * 5) (k * 5 + 4) nan (omega arith))
+
+  pub with-comm : (m′ : Memory) → withMemory (withMemory v j m) k m′ ≡ withMemory (withMemory v k m′) j m
+  unfolding withMemory
+  with-comm m′ = sets-comm (five m) (five m′) v (j * 5) (k * 5) (omega arith)
+
+pub with-again : (v : List Float) (k : ℕ) (m m′ : Memory) → withMemory (withMemory v k m) k m′ ≡ withMemory v k m′
+unfolding withMemory
+with-again v k m m′ = sets-again (five m) (five m′) v (k * 5) refl
+
+pub memory-same : (v : List Float) (k : ℕ) (m : Memory) → k < mostChannels → length v ≡ statePlaces → memoryOf (withMemory v k m) k ≡ m
+unfolding withMemory
+memory-same v k m h l =
+    let e : k * 5 ≡ k * 5 + 0 = omega arith in
+    same-five
+    (ap (at (withMemory v k m)) e ∙ at-within (five m) v (k * 5) 0 nan (omega arith) (omega arith))
+    (at-within (five m) v (k * 5) 1 nan (omega arith) (omega arith))
+    (at-within (five m) v (k * 5) 2 nan (omega arith) (omega arith))
+    (at-within (five m) v (k * 5) 3 nan (omega arith) (omega arith))
+    (at-within (five m) v (k * 5) 4 nan (omega arith) (omega arith))
+
+own-five : (v : List Float) (p : ℕ) → sets v p (at v p ∷ at v (p + 1) ∷ at v (p + 2) ∷ at v (p + 3) ∷ at v (p + 4) ∷ []) ≡ v
+own-five v p =
+    let e1 : p + 1 ≡ suc p = omega arith in
+    let e2 : p + 2 ≡ suc (suc p) = omega arith in
+    let e3 : p + 3 ≡ suc (suc (suc p)) = omega arith in
+    let e4 : p + 4 ≡ suc (suc (suc (suc p))) = omega arith in
+    rw (e1, e2, e3, e4) (simp set-getD)
+
+pub with-own : (v : List Float) (k : ℕ) → withMemory v k (memoryOf v k) ≡ v
+unfolding withMemory
+with-own v k = own-five v (k * 5)
+
+-- a channel past the eighth has no places
+module _ (v : List Float) (k : ℕ) (h : mostChannels ≤ k) (l : length v ≡ statePlaces) where
+  pub memory-nowhere : memoryOf v k ≡ record { s0 = nan; s1 = nan; s2 = nan; s3 = nan; s4 = nan }
+  memory-nowhere =
+      same-five
+      (List·getD-eq-default v nan (omega arith))
+      (List·getD-eq-default v nan (omega arith))
+      (List·getD-eq-default v nan (omega arith))
+      (List·getD-eq-default v nan (omega arith))
+      (List·getD-eq-default v nan (omega arith))
+
+  pub with-nowhere : (m : Memory) → withMemory v k m ≡ v
+  unfolding withMemory
+  with-nowhere m = past-end (five m) v (k * 5) (omega arith)
+
+-- ---- a change of one channel's memory where its byte says so
+
+abbrev pub changed : (ℕ → Memory → Memory) → Bool → ℕ → List Float → List Float
+changed f b k v = cond b (withMemory v k (f k (memoryOf v k))) v
+
+changed-length : (f : ℕ → Memory → Memory) (b : Bool) (k : ℕ) (v : List Float) → length (changed f b k v) ≡ length v
+changed-length f true k v = length-with v k (f k (memoryOf v k))
+changed-length f false k v = refl
+
+changed-comm : (f : ℕ → Memory → Memory) (b : Bool) (j k : ℕ) (v : List Float) (m : Memory) → j < k → changed f b k (withMemory v j m) ≡ withMemory (changed f b k v) j m
+changed-comm f true j k v m h =
+    ap (λ (t : Memory). withMemory (withMemory v j m) k (f k t)) (memory-above v j k m h) ∙ with-comm v j k m h (f k (memoryOf v k))
+changed-comm f false j k v m h = refl
+
+changed-below : (f : ℕ → Memory → Memory) (b : Bool) (j k : ℕ) (v : List Float) → j < k → memoryOf (changed f b k v) j ≡ memoryOf v j
+changed-below f true j k v h = memory-below v j k (f k (memoryOf v k)) h
+changed-below f false j k v h = refl
+
+pub changed-above : (f : ℕ → Memory → Memory) (b : Bool) (j k : ℕ) (v : List Float) → j < k → memoryOf (changed f b j v) k ≡ memoryOf v k
+changed-above f true j k v h = memory-above v j k (f j (memoryOf v j)) h
+changed-above f false j k v h = refl
+
+-- ---- the channels
+
+pub over-length : (f : ℕ → Memory → Memory) (bytes : List ℕ) (k : ℕ) (v : List Float) → length (overUsed f bytes k v) ≡ length v
+unfolding overUsed
+over-length f [] k v = refl
+over-length f (b ∷ bytes) k v = over-length f bytes (suc k) (changed f (used b) k v) ∙ changed-length f (used b) k v
+
+-- a change that is none
+pub over-none : (f : ℕ → Memory → Memory) → ((k : ℕ) (m : Memory) → f k m ≡ m) → (bytes : List ℕ) (k : ℕ) (v : List Float) → overUsed f bytes k v ≡ v
+unfolding overUsed
+over-none f h [] k v = refl
+over-none f h (b ∷ bytes) k v = over-none f h bytes (suc k) (changed f (used b) k v) ∙ go (used b)
+  where
+    go : (t : Bool) → changed f t k v ≡ v
+    go true = ap (withMemory v k) (h k (memoryOf v k)) ∙ with-own v k
+    go false = refl
+
+-- two changes that agree on the channels in question
+pub over-same : (f g : ℕ → Memory → Memory) (bytes : List ℕ) (k : ℕ) (v : List Float) → ((j : ℕ) (m : Memory) → j < k + length bytes → f j m ≡ g j m) → overUsed f bytes k v ≡ overUsed g bytes k v
+unfolding overUsed
+over-same f g [] k v h = refl
+over-same f g (b ∷ bytes) k v h =
+    ap (λ (m : Memory). overUsed f bytes (suc k) (cond (used b) (withMemory v k m) v)) (h k (memoryOf v k) (omega arith))
+    ∙ over-same f g bytes (suc k) (changed g (used b) k v) (λ j m q. h j m (omega arith))
+
+over-comm : (f : ℕ → Memory → Memory) (bytes : List ℕ) (j k : ℕ) (v : List Float) (m : Memory) → j < k → overUsed f bytes k (withMemory v j m) ≡ withMemory (overUsed f bytes k v) j m
+unfolding overUsed
+over-comm f [] j k v m h = refl
+over-comm f (b ∷ bytes) j k v m h =
+    ap (overUsed f bytes (suc k)) (changed-comm f (used b) j k v m h) ∙ over-comm f bytes j (suc k) (changed f (used b) k v) m (omega arith)
+
+-- one channel, where the channels after it are known
+over-step : (f g : ℕ → Memory → Memory) (t : Bool) (bytes : List ℕ) (k : ℕ) (v : List Float) → k < mostChannels → length v ≡ statePlaces
+    → overUsed g bytes (suc k) (overUsed f bytes (suc k) v) ≡ overUsed (λ j m. g j (f j m)) bytes (suc k) v
+    → overUsed g bytes (suc k) (changed g t k (overUsed f bytes (suc k) (changed f t k v))) ≡ overUsed (λ j m. g j (f j m)) bytes (suc k) (changed (λ j m. g j (f j m)) t k v)
+over-step f g true bytes k v few l rest =
+    let m = f k (memoryOf v k) in
+    let u = overUsed f bytes (suc k) v in
+    ap (λ (w : List Float). overUsed g bytes (suc k) (changed g true k w)) (over-comm f bytes k (suc k) v m (omega arith))
+    ∙ ap (λ (t : Memory). overUsed g bytes (suc k) (withMemory (withMemory u k m) k (g k t))) (memory-same u k m few (over-length f bytes (suc k) v ∙ l))
+    ∙ ap (overUsed g bytes (suc k)) (with-again u k m (g k m))
+    ∙ over-comm g bytes k (suc k) u (g k m) (omega arith)
+    ∙ ap (λ (w : List Float). withMemory w k (g k m)) rest
+    ∙ sym (over-comm (λ j m. g j (f j m)) bytes k (suc k) v (g k m) (omega arith))
+over-step f g false bytes k v few l rest = rest
+
+-- one change after another is one change of each channel
+pub over-over : (f g : ℕ → Memory → Memory) (bytes : List ℕ) (k : ℕ) (v : List Float) → k + length bytes ≤ mostChannels → length v ≡ statePlaces
+    → overUsed g bytes k (overUsed f bytes k v) ≡ overUsed (λ j m. g j (f j m)) bytes k v
+unfolding overUsed
+over-over f g [] k v few l = refl
+over-over f g (b ∷ bytes) k v few l = over-step f g (used b) bytes k v (omega arith) l (over-over f g bytes (suc k) v (omega arith) l)
+
+-- a channel before k keeps its memory
+pub over-before : (f : ℕ → Memory → Memory) (bytes : List ℕ) (j k : ℕ) (v : List Float) → j < k → memoryOf (overUsed f bytes k v) j ≡ memoryOf v j
+unfolding overUsed
+over-before f [] j k v h = refl
+over-before f (b ∷ bytes) j k v h = over-before f bytes j (suc k) (changed f (used b) k v) (omega arith) ∙ changed-below f (used b) j k v h
+
+-- one channel more
+pub over-again : (f : ℕ → Memory → Memory) (bytes : List ℕ) (k : ℕ) (v v′ : List Float) → k < length bytes → v′ ≡ changed f (used (getD bytes k 0)) k v
+    → overUsed f (drop (k + 1) bytes) (k + 1) v′ ≡ overUsed f (drop k bytes) k v
+unfolding overUsed
+over-again f bytes k v v′ h e =
+    ap (overUsed f (drop (k + 1) bytes) (k + 1)) e
+    ∙ sym (ap (λ (t : List ℕ). overUsed f t k v) (drop-cons bytes k 0 h)
+    ∙ ap (λ (n : ℕ). overUsed f (drop n bytes) n (changed f (used (getD bytes k 0)) k v)) (sym (add-one k)))
+
+pub over-end : (f : ℕ → Memory → Memory) (bytes : List ℕ) (k : ℕ) (v : List Float) → length bytes ≤ k → overUsed f (drop k bytes) k v ≡ v
+unfolding overUsed
+over-end f bytes k v h = ap (λ (t : List ℕ). overUsed f t k v) (drop-of-length-le bytes h)
+
+-- ---- one channel alone: channel k + i's memory afterwards is its own memory, changed where its byte says so, whatever the other channels hold
+
+pub over-own : (f : ℕ → Memory → Memory) (bytes : List ℕ) (k i : ℕ) (v : List Float) → i < length bytes → k + i < mostChannels → length v ≡ statePlaces
+    → memoryOf (overUsed f bytes k v) (k + i) ≡ cond (used (getD bytes i 0)) (f (k + i) (memoryOf v (k + i))) (memoryOf v (k + i))
+unfolding overUsed
+over-own f [] k i v h few l = absurd (not-suc-le-zero h)
+over-own f (b ∷ bytes) k zero v h few l =
+    let e : k + 0 ≡ k = omega arith in
+    ap (memoryOf (overUsed f bytes (suc k) (changed f (used b) k v))) e
+    ∙ over-before f bytes k (suc k) (changed f (used b) k v) (omega arith)
+    ∙ go (used b)
+    ∙ ap (λ (j : ℕ). cond (used b) (f j (memoryOf v j)) (memoryOf v j)) (sym e)
+  where
+    go : (t : Bool) → memoryOf (changed f t k v) k ≡ cond t (f k (memoryOf v k)) (memoryOf v k)
+    go true = memory-same v k (f k (memoryOf v k)) (omega arith) l
+    go false = refl
+over-own f (b ∷ bytes) k (suc i) v h few l =
+    let e : k + suc i ≡ suc k + i = omega arith in
+    let u = changed f (used b) k v in
+    let s : memoryOf u (suc k + i) ≡ memoryOf v (suc k + i) = changed-above f (used b) k (suc k + i) v (omega arith) in
+    ap (memoryOf (overUsed f bytes (suc k) u)) e
+    ∙ over-own f bytes (suc k) i u (le-of-suc-le-suc h) (omega arith) (changed-length f (used b) k v ∙ l)
+    ∙ ap (λ (m : Memory). cond (used (getD bytes i 0)) (f (suc k + i) m) m) s
+    ∙ ap (λ (j : ℕ). cond (used (getD bytes i 0)) (f j (memoryOf v j)) (memoryOf v j)) (sym e)

@@ -1,0 +1,51 @@
+-- `recurrence::flush_used` meets its contract: the channels left, from the state as it is, give what all of them give. Assumes nothing.
+use borrow.Author.Needs.{needs}
+use Prim.Native.Nat.{_-_, _≤_}
+use native.Mathlib.Omega.{arith}
+use mathlib.Core.Path.{_≡_, refl, sym, _∙_}
+use lib.ListN.{length, drop}
+use Rattle.recurrence.specs.Recurrence.{flushed}
+use Rattle.recurrence.specs.Channels.{overUsed}
+use Rattle.recurrence.proofs.Memories.{over-again, over-end}
+use Rattle.recurrence.proofs.flush_used.Statement.{statement}
+use Rattle.recurrence.proofs.flush_used.Tie as tie
+
+abbrev Inv-loop : tie.InvT-loop
+Inv-loop map w₀ k₀ w k =
+    (k ≤ length map) × (overUsed (λ j m. flushed m) (drop k map) k (w .values) ≡ overUsed (λ j m. flushed m) map 0 (w₀ .values))
+
+abbrev μ-loop : tie.MeasureT-loop
+μ-loop map w₀ k₀ w k = length map - k
+
+loop-holds : tie.Need-loop-holds Inv-loop μ-loop
+loop-holds c = search needs
+
+shared-slice-read-flush-channel : tie.Need-shared-slice-read-flush-channel Inv-loop μ-loop
+shared-slice-read-flush-channel c = search needs
+
+flush-channel-requires : tie.Need-flush-channel-requires Inv-loop μ-loop
+flush-channel-requires c κs = search needs
+
+add-k : tie.Need-add-k Inv-loop μ-loop
+add-k c = search needs
+
+loop-less : tie.Need-loop-less Inv-loop μ-loop
+loop-less c = search needs
+
+loop-again : tie.Need-loop-again Inv-loop μ-loop
+loop-again c =
+    let q = c .before .before in
+    let l = q .before .loop in
+    let a = q .before .before .before .args in (
+      search needs,
+      over-again (λ j m. flushed m) (a .map .now) (l .k) (l .w .values) _ (q .loop-test .taken) (c .flush-channel .ensures) ∙ l .inv .1,
+    )
+
+returns : tie.Need-returns Inv-loop μ-loop
+returns c =
+    let l = c .before .loop in
+    let a = c .before .before .before .args in
+    sym (over-end (λ j m. flushed m) (a .map .now) (l .k) (l .w .values) (c .loop-test .left)) ∙ l .inv .1
+
+pub flush-used-spec : {M : Type 1} → statement M
+flush-used-spec = tie.close (tie.spec Inv-loop μ-loop loop-holds shared-slice-read-flush-channel flush-channel-requires add-k loop-less loop-again returns)

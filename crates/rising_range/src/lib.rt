@@ -1,0 +1,58 @@
+// The loudness range of energies in rising order: the energies at the two ranks among those that the gate leaves.
+use blocks::Totals;
+use spans::Range;
+ghost use mathlib.Core.Path.{_≡_};
+ghost use Prim.Native.Nat.{_≤_};
+ghost use lib.ListN.{length, drop};
+ghost use Rattle.refusals.specs.Outcome.{says};
+ghost use Rattle.blocks.specs.Totals.{none, energiesFrom};
+ghost use Rattle.spans.specs.Span.{said};
+ghost use Rattle.rising_range.specs.Rising.{fromGate, listedSpan};
+
+// The energies one after the other, from 0.
+fn sum_of(rising: &[f64]) -> f64
+    ensures { λ r. ⌜ r ≡ energiesFrom none (now (rising .entry)) .sum ⌝ }
+{
+    let mut sum = 0.0;
+    let mut i = 0;
+    while i < rising.len() {
+        sum = sum + rising[i];
+        i += 1;
+    }
+    sum
+}
+
+// How many leading energies are below the gate.
+fn skipped(rising: &[f64], gate: f64) -> usize
+    ensures { λ r. ⌜ (r ≤ length (now (rising .entry))) × (drop r (now (rising .entry)) ≡ fromGate gate (now (rising .entry))) ⌝ }
+{
+    let mut i = 0;
+    while i < rising.len() {
+        if rising[i] < gate {
+            i += 1;
+        } else {
+            return i;
+        }
+    }
+    i
+}
+
+// The range of energies in rising order.
+pub fn span_in_order(rising: &[f64]) -> Range
+    ensures { λ r. ⌜ said r ≡ says (listedSpan (now (rising .entry))) ⌝ }
+{
+    let count = rising.len();
+    let gate = spans::gate_energy(Totals {
+        count: count as u64,
+        sum: sum_of(rising),
+    });
+    let first = skipped(rising, gate);
+    let left = count - first;
+    if left == 0 {
+        return Range::Nothing;
+    }
+    let last = (left - 1) as u64;
+    let low = first + ranks::low_rank(last) as usize;
+    let high = first + ranks::high_rank(last) as usize;
+    Range::Found(rising[low], rising[high])
+}

@@ -1,0 +1,4 @@
+pub mod Loudest
+pub mod Cutting
+pub mod Alone
+mod Runs

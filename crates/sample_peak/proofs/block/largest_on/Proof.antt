@@ -1,0 +1,82 @@
+-- `block::largest_on` meets its contract: the samples left, from the top as it is, give what all of them give. Assumes nothing.
+use borrow.Author.Needs.{needs}
+use Prim.Native.Nat.{_<_}
+use native.Mathlib.Omega.{arith}
+use mathlib.Core.Path.{_≡_, refl, sym, subst, _∙_}
+use lib.Ieee.{nan}
+use lib.ListN.{length, getD}
+use Rattle.samples.specs.Frames.{column}
+use Rattle.sample_peak.specs.Peak.{largestFrom}
+use Rattle.sources.specs.Blocks.{Reach}
+use Rattle.sources.proofs.Reaching.{reach-here, reach-next, reach-rest}
+use Rattle.sample_peak.proofs.Loudest.{High, raised-high, turn-largest, none-largest}
+use Rattle.sample_peak.proofs.block.largest_on.Statement.{statement}
+use Rattle.sample_peak.proofs.block.largest_on.Tie as tie
+
+abbrev Inv-loop : tie.InvT-loop
+Inv-loop top block first step count high₀ left₀ i₀ high left i =
+    Reach i step left (length block) × (High high × (largestFrom high (column block i step left) ≡ largestFrom top (column block first step count)))
+
+abbrev μ-loop : tie.MeasureT-loop
+μ-loop top block first step count high₀ left₀ i₀ high left i = left
+
+here : (c : tie.In-loop Inv-loop μ-loop) → c .before .loop .i < length (c .before .before .before .args .block .now)
+here c = reach-here _ _ _ _ (c .loop-test .taken) (c .before .loop .inv .0)
+
+loop-holds : tie.Need-loop-holds Inv-loop μ-loop
+loop-holds c = (c .before .pre .1, (c .before .pre .0, refl))
+
+mul-raise : tie.Need-mul-raise Inv-loop μ-loop
+mul-raise c = omega (arith, here c)
+
+shared-slice-read-raise : tie.Need-shared-slice-read-raise Inv-loop μ-loop
+shared-slice-read-raise c = here (c .before)
+
+raise-requires : tie.Need-raise-requires Inv-loop μ-loop
+raise-requires c κs = c .before .before .loop .inv .1 .0
+
+add-i : tie.Need-add-i Inv-loop μ-loop
+add-i c = let q = c .before .before in omega (arith, reach-next _ _ _ _ (q .loop-test .taken) (q .before .loop .inv .0))
+
+sub-left : tie.Need-sub-left Inv-loop μ-loop
+sub-left c = let q = c .before .before in omega (arith, q .loop-test .taken)
+
+loop-less : tie.Need-loop-less Inv-loop μ-loop
+loop-less c = let q = c .before .before in omega (arith, q .loop-test .taken)
+
+loop-again : tie.Need-loop-again Inv-loop μ-loop
+loop-again c =
+    let q = c .before .before in
+    let l = q .before .loop in
+    let a = q .before .before .before .args in
+    let h = q .loop-test .taken in
+    let e = c .raise .ensures in (
+      reach-rest _ _ _ _ h (l .inv .0),
+      (
+        subst High (sym e) (raised-high (l .high) (getD (a .block .now) (l .i) nan) (l .inv .1 .0)),
+        turn-largest (l .high) (a .block .now) (l .i) (a .step) (l .left) h (here q) _ e ∙ l .inv .1 .1,
+      ),
+    )
+
+returns : tie.Need-returns Inv-loop μ-loop
+returns c =
+    let l = c .before .loop in
+    let a = c .before .before .before .args in
+    let z : l .left ≡ 0 = omega (arith, c .loop-test .left) in
+    sym (none-largest (l .high) (a .block .now) (l .i) (a .step) (l .left) z) ∙ l .inv .1 .1
+
+pub largest-on-spec : {M : Type 1} → statement M
+largest-on-spec =
+    tie.close
+    (tie.spec
+    Inv-loop
+    μ-loop
+    loop-holds
+    mul-raise
+    shared-slice-read-raise
+    raise-requires
+    add-i
+    sub-left
+    loop-less
+    loop-again
+    returns)

@@ -1,0 +1,88 @@
+-- `sample_peak::process` meets its contract: the number of the check is the refusal, and past it the peaks are what the definitions say. Assumes nothing.
+use borrow.Author.Needs.{needs}
+use Prim.Native.Nat.{ℕ}
+use native.Mathlib.Omega.{arith}
+use mathlib.Core.Path.{_≡_, sym, ap, _∙_}
+use mathlib.Core.List.{List}
+use lib.ListN.{length}
+use lib.Ieee.{Float}
+use Rattle.refusals.specs.Outcome.{Outcome, saidBy, keptBy, went, NoValues, done}
+use Rattle.calls.specs.Check.{Check, numberOf}
+use Rattle.calls.specs.Calls.{checkFrames}
+use Rattle.calls.proofs.Checking.{passed, Framed, framed}
+use Rattle.calls.proofs.Stopping.{stopped, goes}
+use Rattle.sources.specs.Source.{sourceOf}
+use Rattle.sources.proofs.Cutting.{all-frames}
+use Rattle.sample_peak.specs.declared.Peaks.{Peaks}
+use Rattle.sample_peak.specs.Peak.{peaksAfter, raised}
+use Rattle.sample_peak.proofs.Cutting.{peaks-are}
+use Rattle.sample_peak.proofs.process.Statement.{statement}
+use Rattle.sample_peak.proofs.process.Tie as tie
+
+-- the call's floats
+abbrev src : tie.Start → List Float
+src s = sourceOf (s .args .ints .now) (s .args .floats .now)
+
+abbrev check : tie.Start → Check
+check s = checkFrames (s .args .channels) (length (src s))
+
+abbrev leaves : tie.Start → Outcome Peaks NoValues
+leaves s = went (record { values = peaksAfter (s .args .channels) (src s) (s .args .stored .values) }) done
+
+numbered : (c : tie.After-refused-frames) → c .refused-frames .result ≡ numberOf (check (c .before .before .before))
+numbered c =
+    let s = c .before .before .before in
+    c .refused-frames .ensures ∙ ap (λ (n : ℕ). numberOf (checkFrames (s .args .channels) n)) (c .before .size-of .ensures)
+
+-- a call that passes its check
+fine : (c : tie.Else1) → let s = c .before .before .before .before in Framed (s .args .channels) (length (src s))
+fine c =
+    let s = c .before .before .before .before in
+    framed (s .args .channels) (length (src s)) (passed (check s) (sym (numbered (c .before)) ∙ c .if1 .left))
+
+size-of-requires : tie.Need-size-of-requires
+size-of-requires c κs = search needs
+
+refused-frames-requires : tie.Need-refused-frames-requires
+refused-frames-requires c κs = search needs
+
+returns : tie.Need-returns
+unfolding raised
+returns c =
+    let r = c .before in
+    let s = r .before .before .before in
+    let f = stopped (check s) (leaves s) (s .args .stored) (r .refused-frames .result) (numbered r) (c .if1 .taken) in
+    (f .says, f .keeps)
+
+div-frames : tie.Need-div-frames
+div-frames c = fine c .some
+
+largest-all-requires : tie.Need-largest-all-requires
+largest-all-requires c κs =
+    let r = c .before in
+    let n = r .before .size-of in
+    let s = r .before .before .before in
+    let a = s .args in
+    all-frames (a .channels) (n .result) (a .ints .now) (a .floats .now) (rw (n .ensures) (fine c)) (n .ensures) (omega (arith, s .good)) (omega (arith, s .good))
+
+raise-peaks-requires : tie.Need-raise-peaks-requires
+raise-peaks-requires c κs = fine (c .before) .few
+
+returns-2 : tie.Need-returns-2
+unfolding raised
+returns-2 c =
+    let t = c .before in
+    let e = t .before in
+    let r = e .before in
+    let n = r .before .size-of in
+    let s = r .before .before .before in
+    let a = s .args in
+    let z = goes (check s) (leaves s) (r .refused-frames .result) (numbered r) (e .if1 .left) in (
+      ap saidBy (sym z),
+      ap (λ (v : List Float). record { values = v }) (c .raise-peaks .ensures ∙ peaks-are (a .channels) (n .result) (src s) (a .stored .values) (t .largest-all .result .values) (fine e .some) (n .ensures) (t .largest-all .ensures))
+          ∙ sym (ap (λ (o : Outcome Peaks NoValues). keptBy (a .stored) o) z),
+    )
+
+pub process-spec : {M : Type 1} → statement M
+process-spec =
+    tie.close (tie.spec size-of-requires refused-frames-requires returns div-frames largest-all-requires raise-peaks-requires returns-2)

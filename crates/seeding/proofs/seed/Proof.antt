@@ -1,0 +1,92 @@
+-- `seeding::seed` meets its contract: the number of the check is the refusal, and past it the state is what the definitions say. Assumes nothing.
+use borrow.Author.Needs.{needs}
+use Prim.Native.Nat.{ℕ}
+use native.Mathlib.Omega.{arith}
+use mathlib.Core.Path.{_≡_, sym, ap, _∙_}
+use mathlib.Core.List.{List}
+use lib.ListN.{length}
+use lib.Ieee.{Float}
+use Rattle.refusals.specs.Outcome.{Outcome, saidBy, keptBy, went, NoValues, done}
+use Rattle.calls.specs.Check.{Check, numberOf}
+use Rattle.calls.specs.Calls.{checkSeed}
+use Rattle.calls.proofs.Checking.{passed, framed, Framed, mapped, Seeds, seeds}
+use Rattle.calls.proofs.Stopping.{stopped, goes}
+use Rattle.sources.specs.Source.{sourceOf}
+use Rattle.sources.proofs.Cutting.{all-frames}
+use Rattle.recurrence.specs.declared.State.{State}
+use Rattle.recurrence.specs.Channels.{Call, callOf, stateAfter}
+use Rattle.recurrence.proofs.Cutting.{state-is}
+use Rattle.seeding.specs.Seeding.{moved}
+use Rattle.seeding.proofs.seed.Statement.{statement}
+use Rattle.seeding.proofs.seed.Tie as tie
+
+-- the call of the definitions
+abbrev call : tie.Start → Call
+call s = let a = s .args in callOf (a .c) (a .s) (a .channels) (sourceOf (a .ints .now) (a .floats .now)) (a .map .now)
+
+abbrev check : tie.Start → Check
+check s = let k = call s in checkSeed (k .channels) (length (k .samples)) (k .map)
+
+abbrev leaves : tie.Start → Outcome State NoValues
+leaves s = went (record { values = stateAfter (call s) }) done
+
+numbered : (c : tie.After-refused-seed) → c .refused-seed .result ≡ numberOf (check (c .before .before .before .before))
+numbered c =
+    let s = c .before .before .before .before in
+    c .refused-seed .ensures ∙ ap (λ (n : ℕ). numberOf (checkSeed (s .args .channels) n (s .args .map .now))) (c .before .size-of .ensures)
+
+-- a call that passes its check
+ok : (c : tie.Else1) → let k = call (c .before .before .before .before .before) in Seeds (k .channels) (length (k .samples)) (k .map)
+ok c =
+    let s = c .before .before .before .before .before in
+    seeds (call s .channels) (length (call s .samples)) (call s .map) (passed (check s) (sym (numbered (c .before)) ∙ c .if1 .left))
+
+fine : (c : tie.Else1) → let k = call (c .before .before .before .before .before) in Framed (k .channels) (length (k .samples))
+fine c =
+    let k = call (c .before .before .before .before .before) in
+    framed (k .channels) (length (k .samples)) (ok c .frames)
+
+size-of-requires : tie.Need-size-of-requires
+size-of-requires c κs = search needs
+
+refused-seed-requires : tie.Need-refused-seed-requires
+refused-seed-requires c κs = search needs
+
+returns : tie.Need-returns
+unfolding moved
+returns c =
+    let r = c .before in
+    let s = r .before .before .before .before in
+    let f = stopped (check s) (leaves s) (s .args .s) (r .refused-seed .result) (numbered r) (c .if1 .taken) in
+    (f .says, f .keeps)
+
+div-frames : tie.Need-div-frames
+div-frames c = fine c .some
+
+advance-all-requires : tie.Need-advance-all-requires
+advance-all-requires c κs =
+    let e = c .before in
+    let r = e .before in
+    let n = r .before .size-of in
+    let s = r .before .before .before .before in
+    let a = s .args in (
+      all-frames (a .channels) (n .result) (a .ints .now) (a .floats .now) (rw (n .ensures) (fine e)) (n .ensures) (omega (arith, s .good)) (omega (arith, s .good)),
+      mapped (a .channels) (a .map .now) (ok e .bytes),
+    )
+
+returns-2 : tie.Need-returns-2
+unfolding moved
+returns-2 c =
+    let e = c .before .before in
+    let r = e .before in
+    let n = r .before .size-of in
+    let s = r .before .before .before .before in
+    let z = goes (check s) (leaves s) (r .refused-seed .result) (numbered r) (e .if1 .left) in (
+      ap saidBy (sym z),
+      ap (λ (v : List Float). record { values = v }) (c .advance-all .ensures ∙ state-is (call s) (n .result) (fine e .some) (n .ensures))
+          ∙ sym (ap (λ (o : Outcome State NoValues). keptBy (s .args .s) o) z),
+    )
+
+pub seed-spec : {M : Type 1} → statement M
+seed-spec =
+    tie.close (tie.spec size-of-requires refused-seed-requires returns div-frames advance-all-requires returns-2)

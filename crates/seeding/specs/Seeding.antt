@@ -1,0 +1,11 @@
+-- A call of `seed` (01, step 4): "`seed` moves filter and interpolator state and writes no peak and no destination." Here it is the weighting's state.
+use lib.ListN.{length}
+use Rattle.refusals.specs.Outcome.{Outcome, went, NoValues, done}
+use Rattle.calls.specs.Check.{unless}
+use Rattle.calls.specs.Calls.{checkSeed}
+use Rattle.recurrence.specs.declared.State.{State}
+use Rattle.recurrence.specs.Channels.{Call, stateAfter}
+
+-- what a call comes to
+unfoldable pub moved : Call → Outcome State NoValues
+moved call = unless (checkSeed (call .channels) (length (call .samples)) (call .map)) (went (record { values = stateAfter call }) done)

@@ -1,0 +1,90 @@
+-- A call in blocks: a block holds the samples from some frame on, and a channel's samples before it and its own, one after the other, are that channel's samples. Assumes nothing.
+use Prim.Native.Nat.{ℕ, zero, suc, _+_, _-_, _*_, _/_, _^_, _≤_, _<_, min}
+use native.Mathlib.Nat.{min-le-left, min-le-right, mul-le-mul-right, add-mul, div-add-mod', mod-lt, zero-mul, lt-irrefl, eq-zero-or-pos}
+use mathlib.Core.Logic.{⊎-elim}
+use native.Mathlib.Omega.{arith}
+use mathlib.Core.Path.{_≡_, ap, sym, _∙_}
+use mathlib.Core.List.{List, _++_}
+use lib.IntN.{ℤ}
+use lib.ListN.{length, getD, drop, length-drop}
+use lib.Seq.{sets, getD-drop}
+use lib.Ieee.{Float}
+use Rattle.samples.specs.Frames.{silence, framesOf, column}
+use Rattle.samples.proofs.Columns.{frames-of, column-append, column-agrees}
+use Rattle.calls.specs.Calls.{mostChannels}
+use Rattle.calls.proofs.Checking.{Framed}
+use Rattle.sources.specs.Blocks.{Whole, blockPlaces}
+use Rattle.sources.specs.Source.{sourceOf}
+use Rattle.sources.proofs.Stores.{at-within}
+use Rattle.sources.proofs.ByKind.{source-below}
+
+-- ---- a block that was filled from place `far` on
+
+pub filled : (src block₀ block : List Float) (far n : ℕ) → block ≡ sets block₀ 0 (drop far src) → far + n ≤ length src → n ≤ length block₀
+    → (i : ℕ) → i < n → getD block i silence ≡ getD src (far + i) silence
+filled src block₀ block far n e h k i q =
+    let z : 0 + i ≡ i = omega arith in
+    ap (λ (l : List Float). getD l i silence) e
+    ∙ ap (λ (p : ℕ). getD (sets block₀ 0 (drop far src)) p silence) (sym z)
+    ∙ at-within (drop far src) block₀ 0 i silence (omega (arith, length-drop far src)) (omega arith)
+    ∙ getD-drop far src i silence
+
+-- ---- the next block
+
+-- the samples of the frames done, and of the block's frames
+pub record Next (src block : List Float) (channels done count : ℕ) : Type 0 where
+  pub agrees : (i : ℕ) → i < count * channels → getD block i silence ≡ getD src (done * channels + i) silence
+
+module _ (src block : List Float) (channels done count : ℕ) (next : Next src block channels done count) where
+  pub columns : (j : ℕ) → j < channels → column block j channels count ≡ column src (j + done * channels) channels count
+  columns j h =
+      let e : done * channels + j ≡ j + done * channels = omega arith in
+      column-agrees block src (done * channels) j channels count (λ i q. next .agrees i (omega arith))
+      ∙ ap (λ (p : ℕ). column src p channels count) e
+
+  pub joined : (j : ℕ) → j < channels → column src j channels done ++ column block j channels count ≡ column src j channels (done + count)
+  joined j h = ap (λ (l : List Float). column src j channels done ++ l) (columns j h) ∙ sym (column-append src j channels done count)
+
+-- ---- the sizes of the next block
+
+-- a block of so many places takes `count` frames after those done
+pub record Step (places channels frames samples done count : ℕ) : Type 0 where
+  pub block-fits : count * channels ≤ places
+  pub block-ends : done + count ≤ frames
+  pub samples-end : done * channels + count * channels ≤ samples
+  pub forward : 0 < count
+
+-- as many frames as a block has places for, or those that are left
+pub step-of : {places channels frames samples done count most : ℕ} → 0 < most → most * channels ≤ places → frames * channels ≡ samples → done < frames → count ≡ min (frames - done) most
+    → Step places channels frames samples done count
+step-of {places} {channels} {frames} {samples} {done} {count} {most} some fits all left e =
+    let low : count ≤ most = omega (arith, min-le-right (frames - done) most) in
+    let ends : done + count ≤ frames = omega (arith, min-le-left (frames - done) most) in
+    record {
+      block-fits = omega (arith, mul-le-mul-right channels low);
+      block-ends = ends;
+      samples-end = omega (arith, mul-le-mul-right channels ends, add-mul done count channels);
+      forward = omega arith;
+    }
+
+most-fits : (channels : ℕ) → blockPlaces / channels * channels ≤ blockPlaces
+most-fits channels = omega (arith, div-add-mod' blockPlaces channels)
+
+some-frames : (channels : ℕ) → 0 < channels → channels ≤ mostChannels → 0 < blockPlaces / channels
+some-frames channels h few =
+    ⊎-elim (λ (z : blockPlaces / channels ≡ 0). absurd (lt-irrefl 0 (omega (arith, div-add-mod' blockPlaces channels, ap (λ (x : ℕ). x * channels) z, zero-mul channels, mod-lt blockPlaces h))))
+    (λ (p : 0 < blockPlaces / channels). p) (eq-zero-or-pos (blockPlaces / channels))
+
+pub step : {channels frames samples done count : ℕ} → Whole channels frames samples → done < frames → count ≡ min (frames - done) (blockPlaces / channels) → Step blockPlaces channels frames samples done count
+step {channels} all left e = step-of (some-frames channels (all .some) (all .few)) (most-fits channels) (all .whole) left e
+
+-- ---- all samples of a call are frames, and few enough
+
+pub all-frames : (channels counted : ℕ) (ints : List ℤ) (floats : List Float) → Framed channels counted → counted ≡ length (sourceOf ints floats)
+    → length ints < 2 ^ 63 → length floats < 2 ^ 63 → Whole channels (counted / channels) (length (sourceOf ints floats))
+all-frames channels counted ints floats ok e h k =
+    record { some = ok .some; few = ok .few; whole = ok .whole ∙ e; small = source-below ints floats (2 ^ 63) h k }
+
+-- their number is the definition's
+pub frames-are : (channels counted samples : ℕ) → 0 < channels → counted ≡ samples → counted / channels ≡ framesOf channels samples
+frames-are channels counted samples some e = ap (λ (n : ℕ). n / channels) e ∙ sym (frames-of channels samples some)

@@ -1,0 +1,4 @@
+pub mod Stores
+pub mod ByKind
+pub mod Reaching
+pub mod Cutting

@@ -1,0 +1,86 @@
+-- `sources::fill` meets its contract: the part of the samples from `at` on is what is left of the floats that they become. Assumes nothing.
+use borrow.Author.Needs.{needs}
+use mathlib.Core.Path.{sym, _∙_}
+use Rattle.samples.specs.Sample.{sampleOf16, sampleOfF32}
+use Rattle.sources.proofs.ByKind.{source-floats, source-ints, rest-from, none-from}
+use Rattle.sources.proofs.fill.Statement.{statement}
+use Rattle.sources.proofs.fill.Tie as tie
+
+returns : tie.Need-returns
+returns c =
+    let a = c .before .before .before .before .args in
+    sym (none-from sampleOfF32 (a .floats .now) (source-floats (a .ints .now) (a .floats .now) (c .before .if1 .taken)) (a .block .now) (a .at) (c .if2 .taken))
+
+mul-fill-f64-f32 : tie.Need-mul-fill-f64-f32
+mul-fill-f64-f32 c = search needs
+
+sub-fill-f64-f32 : tie.Need-sub-fill-f64-f32
+sub-fill-f64-f32 c = search needs
+
+part-fill-f64-f32-start : tie.Need-part-fill-f64-f32-start
+part-fill-f64-f32-start c = search needs
+
+part-fill-f64-f32-end : tie.Need-part-fill-f64-f32-end
+part-fill-f64-f32-end c = search needs
+
+fill-f64-f32-requires : tie.Need-fill-f64-f32-requires
+fill-f64-f32-requires c κs = search needs
+
+same-length : tie.Need-same-length
+same-length c = search needs
+
+returns-2 : tie.Need-returns-2
+returns-2 c =
+    let a = c .before .before .before .before .before .before .before .before .before .args in
+    c .before .before .fill-f64-f32 .ensures
+    ∙ rest-from sampleOfF32 (a .floats .now) (source-floats (a .ints .now) (a .floats .now) (c .before .before .before .before .before .before .if1 .taken)) (a .block .now) (a .at)
+
+returns-3 : tie.Need-returns-3
+returns-3 c =
+    let a = c .before .before .before .before .args in
+    sym (none-from sampleOf16 (a .ints .now) (source-ints (a .ints .now) (a .floats .now) (c .before .if1 .left)) (a .block .now) (a .at) (c .if3 .taken))
+
+mul-fill-f64-i16 : tie.Need-mul-fill-f64-i16
+mul-fill-f64-i16 c = search needs
+
+sub-fill-f64-i16 : tie.Need-sub-fill-f64-i16
+sub-fill-f64-i16 c = search needs
+
+part-fill-f64-i16-start : tie.Need-part-fill-f64-i16-start
+part-fill-f64-i16-start c = search needs
+
+part-fill-f64-i16-end : tie.Need-part-fill-f64-i16-end
+part-fill-f64-i16-end c = search needs
+
+fill-f64-i16-requires : tie.Need-fill-f64-i16-requires
+fill-f64-i16-requires c κs = search needs
+
+same-length-2 : tie.Need-same-length-2
+same-length-2 c = search needs
+
+returns-4 : tie.Need-returns-4
+returns-4 c =
+    let a = c .before .before .before .before .before .before .before .before .before .args in
+    c .before .before .fill-f64-i16 .ensures
+    ∙ rest-from sampleOf16 (a .ints .now) (source-ints (a .ints .now) (a .floats .now) (c .before .before .before .before .before .before .if1 .left)) (a .block .now) (a .at)
+
+pub fill-spec : {M : Type 1} → statement M
+fill-spec =
+    tie.close
+    (tie.spec
+    returns
+    mul-fill-f64-f32
+    sub-fill-f64-f32
+    part-fill-f64-f32-start
+    part-fill-f64-f32-end
+    fill-f64-f32-requires
+    same-length
+    returns-2
+    returns-3
+    mul-fill-f64-i16
+    sub-fill-f64-i16
+    part-fill-f64-i16-start
+    part-fill-f64-i16-end
+    fill-f64-i16-requires
+    same-length-2
+    returns-4)

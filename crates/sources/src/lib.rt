@@ -1,0 +1,40 @@
+// A call's samples, of whatever kind, taken as floats block by block.
+ghost use mathlib.Core.Path.{_≡_};
+ghost use Prim.Native.Nat.{min};
+ghost use lib.ListN.{length, drop};
+ghost use lib.Seq.{sets};
+ghost use Rattle.sources.specs.Source.{sourceOf};
+
+// How many samples a call has. They are of one kind: integers, or floats where there are no integers.
+pub fn size_of(ints: &[i16], floats: &[f32]) -> usize
+    ensures { λ r. ⌜ r ≡ length (sourceOf (now (ints .entry)) (now (floats .entry))) ⌝ }
+{
+    if ints.len() == 0 {
+        return floats.len();
+    }
+    ints.len()
+}
+
+// The samples from place `at` on, in the block's first places, as many as both have. Its other places stay.
+pub fn fill(block: &mut [f64], ints: &[i16], floats: &[f32], at: usize)
+    ensures { λ _. ⌜ now (block .exit) ≡ sets (now (block .entry)) 0 (drop at (sourceOf (now (ints .entry)) (now (floats .entry)))) ⌝ }
+{
+    if ints.len() == 0 {
+        if floats.len() <= at {
+            return;
+        }
+        samples::fill_f64_f32(block, &floats[at..]);
+        return;
+    }
+    if ints.len() <= at {
+        return;
+    }
+    samples::fill_f64_i16(block, &ints[at..]);
+}
+
+// The smaller: as many frames as a block has places for, or those that are left.
+pub fn shorter(a: usize, b: usize) -> usize
+    ensures { λ r. ⌜ r ≡ min a b ⌝ }
+{
+    if a < b { a } else { b }
+}

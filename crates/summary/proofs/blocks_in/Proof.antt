@@ -1,0 +1,66 @@
+-- `summary::blocks_in` meets its contract. The invariant: the sum is that of the bins passed. Assumes nothing.
+use mathlib.Core.Path.{_≡_, sym, ap, _∙_}
+use mathlib.Core.List.{List}
+use Prim.Native.Nat.{ℕ, _+_, _-_, _*_, _≤_}
+use native.Mathlib.Omega.{arith}
+use borrow.Author.Needs.{needs}
+use denote.Ref.{now}
+use lib.ListN.{length, getD, take}
+use lib.Seq.{take-all}
+use Rattle.histogram_range.specs.Counted.{blocksIn}
+use Rattle.histogram_range.specs.Counted.{mostInBin, AtMost}
+use Rattle.histogram_range.proofs.Counting.{blocks-more, blocks-none, blocks-most}
+use Rattle.summary.proofs.blocks_in.Statement.{statement}
+use Rattle.summary.proofs.blocks_in.Tie as tie
+
+abbrev Inv-loop : tie.InvT-loop
+Inv-loop counters blocks₀ bin₀ blocks bin = (bin ≤ length counters) × (blocks ≡ blocksIn (take bin counters))
+
+abbrev μ-loop : tie.MeasureT-loop
+μ-loop counters blocks₀ bin₀ blocks bin = length counters - bin
+
+loop-holds : tie.Need-loop-holds Inv-loop μ-loop
+loop-holds c = (omega arith, blocks-none (now (c .before .args .counters)))
+
+mul-wide : tie.Need-mul-wide Inv-loop μ-loop
+mul-wide c = search needs
+
+shared-slice-read-wide : tie.Need-shared-slice-read-wide Inv-loop μ-loop
+shared-slice-read-wide c = search needs
+
+wide-requires : tie.Need-wide-requires Inv-loop μ-loop
+wide-requires c κs = search needs
+
+add-blocks : tie.Need-add-blocks Inv-loop μ-loop
+add-blocks c =
+    let l = c .before .before .before in
+    let counters = now (l .before .before .args .counters) in
+    let given = l .before .shared-slice-known .given in
+    omega (
+      arith,
+      l .loop .inv .1,
+      blocks-most counters (λ i. omega (arith, given i)) (l .loop .bin),
+      c .wide .ensures,
+      given (l .loop .bin),
+    )
+
+add-bin : tie.Need-add-bin Inv-loop μ-loop
+add-bin c = search needs
+
+loop-less : tie.Need-loop-less Inv-loop μ-loop
+loop-less c = search needs
+
+loop-again : tie.Need-loop-again Inv-loop μ-loop
+loop-again c =
+    let l = c .before .before .before in
+    (omega arith, omega (arith, l .loop .inv .1, c .wide .ensures, blocks-more (now (l .before .before .args .counters)) (l .loop .bin) (omega arith)))
+
+returns : tie.Need-returns Inv-loop μ-loop
+returns c =
+    let l = c .before in
+    let counters = now (l .before .before .args .counters) in
+    l .loop .inv .1 ∙ ap blocksIn (take-all (l .loop .bin) counters (omega arith))
+
+pub blocks-in-spec : {M : Type 1} → statement M
+blocks-in-spec =
+    tie.close (tie.spec Inv-loop μ-loop loop-holds mul-wide shared-slice-read-wide wide-requires add-blocks add-bin loop-less loop-again returns)

@@ -1,0 +1,69 @@
+-- `summary::of_record` meets its contract: the counters are empty before the record is read. Assumes nothing.
+use mathlib.Core.Path.{_≡_, sym, ap, _∙_}
+use mathlib.Core.List.{List}
+use Prim.Native.Nat.{ℕ}
+use borrow.Author.Needs.{needs}
+use denote.Ref.{now}
+use Rattle.refusals.specs.Outcome.{saidBy, keptBy}
+use Rattle.refusals.specs.Answer.{said}
+use Rattle.histogram.specs.Histogram.{empty}
+use Rattle.records.specs.Record.{readHistogram}
+use Rattle.summary.specs.Summary.{figuresOf, summaryOf}
+use Rattle.histogram_range.proofs.Adding.{empty-is}
+use Rattle.summary.proofs.Ranges.{read-figures, unread-figures}
+use Rattle.summary.proofs.of_record.Statement.{statement}
+use Rattle.summary.proofs.of_record.Tie as tie
+
+slice-aggregate-read-histogram : tie.Need-slice-aggregate-read-histogram
+slice-aggregate-read-histogram c = search needs
+
+read-histogram-requires : tie.Need-read-histogram-requires
+read-histogram-requires c κs = search needs
+
+enum-told : tie.Need-enum-told
+enum-told c = search needs
+
+slice-aggregate-figures : tie.Need-slice-aggregate-figures
+slice-aggregate-figures c = search needs
+
+figures-requires : tie.Need-figures-requires
+figures-requires c κs = search needs
+
+enum-known-number : tie.Need-enum-known-number
+enum-known-number c = search needs
+
+-- what the reading says, and what stands in the counters then
+answered : (c : tie.After-read-histogram) → said (c .read-histogram .result) ≡ saidBy (readHistogram (now (c .before .before .before .args .bytes)) empty)
+answered c = c .read-histogram .ensures .0 ∙ ap (λ (l : List ℕ). saidBy (readHistogram (now (c .before .before .before .args .bytes)) l)) empty-is
+
+left : (c : tie.After-read-histogram) → c .read-histogram .last .1 .0 ≡ keptBy empty (readHistogram (now (c .before .before .before .args .bytes)) empty)
+left c = c .read-histogram .ensures .1 ∙ ap (λ (l : List ℕ). keptBy l (readHistogram (now (c .before .before .before .args .bytes)) l)) empty-is
+
+returns : tie.Need-returns
+unfolding summaryOf
+returns c =
+    let e = c .before .before in
+    let r = e .before .before .before in
+    let bytes = now (r .before .before .before .args .bytes) in
+    c .figures .ensures ∙ ap (λ (l : List ℕ). saidBy (figuresOf l)) (left r)
+    ∙ sym (ap saidBy (read-figures (readHistogram bytes empty) empty (sym (ap said (e .enum-told .given .1)) ∙ answered r)))
+
+returns-2 : tie.Need-returns-2
+unfolding summaryOf
+returns-2 c =
+    let r = c .before .before .before .before in
+    let bytes = now (r .before .before .before .args .bytes) in
+    sym (unread-figures (readHistogram bytes empty) (c .before .number .given .0 .0) (sym (ap said (c .before .number .given .1)) ∙ answered r))
+
+pub of-record-spec : {M : Type 1} → statement M
+of-record-spec =
+    tie.close
+    (tie.spec
+    slice-aggregate-read-histogram
+    read-histogram-requires
+    enum-told
+    slice-aggregate-figures
+    figures-requires
+    enum-known-number
+    returns
+    returns-2)

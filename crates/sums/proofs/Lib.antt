@@ -1,0 +1,3 @@
+pub mod Passes
+pub mod Looking
+pub mod Answering

@@ -1,0 +1,4 @@
+pub mod Arms
+pub mod Pairs
+pub mod Rules
+pub mod Rows

@@ -1,0 +1,27 @@
+-- The tables in rows, as the code holds them.
+use Prim.Native.Nat.{ℕ, _*_, min}
+use mathlib.Core.List.{List}
+use lib.ListN.{take, drop}
+use lib.Ieee.{Float}
+use Rattle.tables.specs.Tables.{boundaries, energies}
+
+-- the boundaries come in 125 rows of eight bins each
+abbrev pub boundariesARow : ℕ
+boundariesARow = 8
+
+-- those of bins 8k to 8k + 7 and where bin 8k + 7 ends; past row 124 that row
+unfoldable pub boundaryRow : ℕ → List Float
+unfolding boundaries
+boundaryRow k = take 9 (drop (boundariesARow * min k 124) boundaries)
+
+-- the energies come in 50 rows of twenty bins each
+abbrev pub energiesARow : ℕ
+energiesARow = 20
+
+abbrev pub energyRows : ℕ
+energyRows = 50
+
+-- the energies 20k to 20k + 19; past row 49 that row
+unfoldable pub energyRow : ℕ → List Float
+unfolding energies
+energyRow k = take energiesARow (drop (energiesARow * min k 49) energies)

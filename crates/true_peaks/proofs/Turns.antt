@@ -1,0 +1,136 @@
+-- A call block by block: the samples left, from the state as it is, give what all of them give.
+-- A block's samples head those that are left, and a call may be cut between any two frames. Assumes nothing.
+use Prim.Native.Nat.{ℕ, _+_, _-_, _*_, _/_, _%_, _≤_, _<_}
+use native.Mathlib.Nat.{mul-mod-left, add-mul, zero-div, zero-mul, div-add-mod', div-le-self, mod-lt, lt-irrefl, eq-zero-or-pos}
+use native.Mathlib.Omega.{arith}
+use mathlib.Core.Path.{_≡_, refl, sym, ap, subst, _∙_}
+use mathlib.Core.Logic.{inl, inr, ⊎-elim}
+use mathlib.Core.List.{List, [], _∷_, _++_, map}
+use borrow.Author.Tests.{eq-eqb, ne-eqb, le-ltb}
+use lib.IntN.{ℤ}
+use lib.ListN.{length, getD, length-map, take, drop, length-drop, take-append-drop, drop-of-length-le}
+use lib.Seq.{sets, length-sets, length-take-le, drop-drop, ext-getD, getD-take}
+use lib.Ieee.{Float, nan}
+use Rattle.refusals.specs.Outcome.{keptBy, went, NoValues, done}
+use Rattle.samples.specs.Sample.{sampleOf16, samplesOf16, samplesOfF32}
+use Rattle.samples.specs.Frames.{column}
+use Rattle.calls.specs.Check.{Check, passes, unless}
+use Rattle.calls.specs.Calls.{mostChannels, checkFrames}
+use Rattle.sources.proofs.Stores.{at-within}
+use Rattle.sources.proofs.ByKind.{rest-from}
+use Rattle.interp.specs.Interp.{Kind, upsampled, noTruePeak, kindOf}
+use Rattle.true_peak.specs.declared.TruePeak.{TruePeak}
+use Rattle.true_peak.specs.Channel.{Channel, heard}
+use Rattle.true_peak.specs.TruePeak.{Block, channelOf, channelSamples, measured, heardBy, processed}
+use Rattle.true_peak.proofs.Independence.{Sized, either, measured-sized, own-channel, other-channel, same-state}
+use Rattle.true_peak.proofs.Cuts.{cut}
+use Rattle.true_peaks.specs.Blocks.{places}
+
+-- ---- no samples: nothing moves
+
+no-samples : (channels c : ℕ) → channelSamples (record { channels = channels; samples = [] }) c ≡ []
+unfolding column
+no-samples channels c = ap (column [] c channels) (zero-div channels)
+
+heard-none : (k : Kind) (ch : Channel) → heardBy k ch [] ≡ ch
+unfolding heardBy heard
+heard-none (upsampled i) ch = refl
+heard-none noTruePeak ch = refl
+
+pub none : (k : Kind) (channels : ℕ) (t : TruePeak) → Sized t → channels ≤ mostChannels → measured k (record { channels = channels; samples = [] }) t ≡ t
+none k channels t s few =
+    let b : Block = record { channels = channels; samples = [] } in
+    same-state (measured k b t) t (measured-sized b t s few k) s
+    (λ c h. elim (either c channels) [
+      | inl l ↦ own-channel b t s few k c l ∙ ap (heardBy k (channelOf t c)) (no-samples channels c) ∙ heard-none k (channelOf t c)
+      | inr l ↦ other-channel b t s few k c l h
+    ])
+
+-- ---- whole frames pass the check
+
+pub whole : (channels count : ℕ) → 0 < channels → channels ≤ mostChannels → checkFrames channels (count * channels) ≡ passes
+unfolding checkFrames
+whole channels count some few =
+    rw (ne-eqb channels 0 (λ e. omega arith), le-ltb mostChannels channels few, eq-eqb (count * channels % channels) 0 (mul-mod-left count channels))
+
+-- ---- the next block
+
+module _ (k : Kind) (channels : ℕ) (some : 0 < channels) (few : channels ≤ mostChannels) (src : List Float) (done count : ℕ) (ends : done * channels + count * channels ≤ length src) where
+  size : length (take (count * channels) (drop (done * channels) src)) ≡ count * channels
+  size = length-take-le (count * channels) (drop (done * channels) src) (omega (arith, length-drop (done * channels) src))
+
+  frames : length (take (count * channels) (drop (done * channels) src)) % channels ≡ 0
+  frames = ap (λ (n : ℕ). n % channels) size ∙ mul-mod-left count channels
+
+  joined : take (count * channels) (drop (done * channels) src) ++ drop ((done + count) * channels) src ≡ drop (done * channels) src
+  joined =
+      ap (λ (n : ℕ). take (count * channels) (drop (done * channels) src) ++ drop n src) (add-mul done count channels)
+      ∙ ap (λ (l : List Float). take (count * channels) (drop (done * channels) src) ++ l) (sym (drop-drop (count * channels) (done * channels) src))
+      ∙ take-append-drop (count * channels) (drop (done * channels) src)
+
+  pub turn : (w w′ t : TruePeak) → Sized w → w′ ≡ measured k (record { channels = channels; samples = take (count * channels) (drop (done * channels) src) }) w
+      → measured k (record { channels = channels; samples = drop (done * channels) src }) w ≡ measured k (record { channels = channels; samples = src }) t
+      → measured k (record { channels = channels; samples = drop ((done + count) * channels) src }) w′ ≡ measured k (record { channels = channels; samples = src }) t
+  turn w w′ t s e inv =
+      ap (measured k (record { channels = channels; samples = drop ((done + count) * channels) src })) e
+      ∙ sym (cut channels some few (take (count * channels) (drop (done * channels) src)) (drop ((done + count) * channels) src) frames k w s)
+      ∙ ap (λ (l : List Float). measured k (record { channels = channels; samples = l }) w) joined
+      ∙ inv
+
+  pub turn-sized : (w w′ : TruePeak) → Sized w → w′ ≡ measured k (record { channels = channels; samples = take (count * channels) (drop (done * channels) src) }) w → Sized w′
+  turn-sized w w′ s e = subst Sized (sym e) (measured-sized (record { channels = channels; samples = take (count * channels) (drop (done * channels) src) }) w s few k)
+
+pub last : (k : Kind) (channels : ℕ) → channels ≤ mostChannels → (src : List Float) (over : ℕ) → length src ≤ over * channels → (w t : TruePeak) → Sized w
+    → measured k (record { channels = channels; samples = drop (over * channels) src }) w ≡ measured k (record { channels = channels; samples = src }) t
+    → w ≡ measured k (record { channels = channels; samples = src }) t
+last k channels few src over h w t s inv =
+    sym (none k channels w s few)
+    ∙ ap (λ (l : List Float). measured k (record { channels = channels; samples = l }) w) (sym (drop-of-length-le src h))
+    ∙ inv
+
+-- ---- the frames of a block
+
+pub runs-fit : (channels : ℕ) → places / (128 * channels) * 128 * channels ≤ places
+runs-fit channels = omega (arith, div-add-mod' places (128 * channels))
+
+pub few-runs : (channels : ℕ) → places / (128 * channels) ≤ places
+few-runs channels = div-le-self places (128 * channels)
+
+pub some-runs : (channels : ℕ) → 0 < channels → channels ≤ mostChannels → 0 < places / (128 * channels)
+some-runs channels h few =
+    ⊎-elim (λ (z : places / (128 * channels) ≡ 0). absurd (lt-irrefl 0 (omega (arith, div-add-mod' places (128 * channels), ap (λ (x : ℕ). x * (128 * channels)) z, zero-mul (128 * channels), mod-lt places (big h)))))
+    (λ (p : 0 < places / (128 * channels)). p) (eq-zero-or-pos (places / (128 * channels)))
+  where
+    big : 0 < channels → 0 < 128 * channels
+    big h = omega arith
+
+-- ---- floats as they stand
+
+pub as-they-stand : (l : List Float) → samplesOfF32 l ≡ l
+as-they-stand [] = refl
+as-they-stand (x ∷ l) = ap (λ (t : List Float). x ∷ t) (as-they-stand l)
+
+-- ---- a block: its first places hold the samples, and a call that passes goes
+
+first : (n : ℕ) (xs block : List Float) → n ≤ length xs → n ≤ length block → take n (sets block 0 xs) ≡ take n xs
+first n xs block h k =
+    let e = length-take-le n (sets block 0 xs) (omega (arith, length-sets block 0 xs)) in
+    ext-getD nan (take n (sets block 0 xs)) (take n xs) (e ∙ sym (length-take-le n xs h))
+    (λ i q. (
+    let r : i < n = omega (arith, e) in
+    let z : i ≡ 0 + i = omega arith in
+    getD-take n (sets block 0 xs) i nan r
+    ∙ ap (λ (j : ℕ). getD (sets block 0 xs) j nan) z
+    ∙ at-within xs block 0 i nan (omega arith) (omega arith)
+    ∙ sym (getD-take n xs i nan r)))
+
+pub block-holds : (ints : List ℤ) (from size : ℕ) (before block : List Float) → block ≡ sets before 0 (map sampleOf16 (take (length ints - from) (drop from ints))) → from + size ≤ length ints → size ≤ length before
+    → take size block ≡ take size (drop from (samplesOf16 ints))
+block-holds ints from size before block e ends fits =
+    ap (take size) (e ∙ rest-from sampleOf16 ints {src = samplesOf16 ints} refl before from)
+    ∙ first size (drop from (samplesOf16 ints)) before (omega (arith, length-drop from (samplesOf16 ints), length-map ints sampleOf16)) fits
+
+pub went-on : (rate channels : ℕ) (l : List Float) (t state : TruePeak) → checkFrames channels (length l) ≡ passes
+    → state ≡ keptBy t (processed rate (record { channels = channels; samples = l }) t) → state ≡ measured (kindOf rate) (record { channels = channels; samples = l }) t
+went-on rate channels l t state ok e =
+    e ∙ ap (λ (k : Check). keptBy t (unless k (went (measured (kindOf rate) (record { channels = channels; samples = l }) t) done))) ok

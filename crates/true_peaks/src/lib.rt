@@ -1,0 +1,141 @@
+// The true peak of a call over samples of whatever kind: integers become f32 block by block, and floats are heard where they stand.
+ghost use mathlib.Core.Path.{_≡_};
+ghost use mathlib.Core.List.{map};
+ghost use Prim.Native.Nat.{_+_, _*_, _<_, _≤_};
+ghost use lib.ListN.{length, take, drop};
+ghost use Rattle.refusals.specs.Answer.{said};
+ghost use Rattle.refusals.specs.Outcome.{saidBy, keptBy};
+ghost use Rattle.samples.specs.Sample.{sampleOf16, samplesOf16};
+ghost use Rattle.calls.specs.Check.{passes};
+ghost use Rattle.calls.specs.Calls.{mostChannels, checkFrames};
+ghost use Rattle.sources.specs.Source.{sourceOf};
+ghost use Rattle.interp.specs.Interp.{kindOf};
+ghost use Rattle.true_peak.specs.Channel.{past};
+ghost use Rattle.true_peak.specs.TruePeak.{measured, processed, seeded};
+ghost use Rattle.true_peaks.specs.Blocks.{places};
+use refusals::Answer;
+use true_peak::Measured;
+use true_peak::TruePeak;
+
+// The places of a block, and the frames that the interpolator takes at a time: a block is whole runs of them.
+const BLOCK: usize = 2048;
+
+const RUN: usize = 128;
+
+// How many frames a block takes.
+fn most(channels: usize) -> usize
+    requires { ⌜ (0 < channels) × (channels ≤ mostChannels) ⌝ }
+    ensures { λ r. ⌜ (0 < r) × (r * channels ≤ places) ⌝ }
+{
+    BLOCK / (RUN * channels) * RUN
+}
+
+// The state of these values: cutting a call into blocks counts on each channel's places.
+fn state_of(memory: [f32; 184], peaks: [f32; 8]) -> TruePeak
+    ensures { λ r. ⌜ r ≡ record { memory = memory; peaks = peaks } ⌝ }
+    ensures { λ _. ⌜ (length memory ≡ mostChannels * past) × (length peaks ≡ mostChannels) ⌝ }
+{
+    TruePeak {
+        memory: memory,
+        peaks: peaks,
+    }
+}
+
+// So many samples from place `from` on, by way of a block.
+fn hear(
+    rate: u32,
+    t: TruePeak,
+    channels: usize,
+    ints: &[i16],
+    from: usize,
+    size: usize,
+    block: &mut [f32],
+) -> TruePeak
+    requires { ⌜ checkFrames channels size ≡ passes ⌝ }
+    requires { ⌜ from + size ≤ length (now ints) ⌝ }
+    requires { ⌜ size ≤ length (now block) ⌝ }
+    ensures { λ r. ⌜ r ≡ measured (kindOf rate) (record { channels = channels; samples = take size (drop from (samplesOf16 (now (ints .entry)))) }) t ⌝ }
+{
+    samples::fill_f32_i16(block, &ints[from..]);
+    let m = true_peak::process(rate, t, channels, &block[..size]);
+    m.state
+}
+
+// All samples, block by block.
+fn hear_all(rate: u32, t: TruePeak, channels: usize, ints: &[i16]) -> TruePeak
+    requires { ⌜ checkFrames channels (length (now ints)) ≡ passes ⌝ }
+    ensures { λ r. ⌜ r ≡ measured (kindOf rate) (record { channels = channels; samples = samplesOf16 (now (ints .entry)) }) t ⌝ }
+{
+    let mut block: [f32; BLOCK] = [0.0; BLOCK];
+    let frames = ints.len() / channels;
+    let most = most(channels);
+    let memory = t.memory;
+    let peaks = t.peaks;
+    let mut w = state_of(memory, peaks);
+    let mut done = 0;
+    while done < frames {
+        let count = sources::shorter(frames - done, most);
+        w = hear(
+            rate,
+            w,
+            channels,
+            ints,
+            done * channels,
+            count * channels,
+            &mut block,
+        );
+        done += count;
+    }
+    w
+}
+
+// The state after all samples, of one kind: integers, or floats where there are no integers.
+fn measure(rate: u32, t: TruePeak, channels: usize, ints: &[i16], floats: &[f32]) -> TruePeak
+    requires { ⌜ checkFrames channels (length (sourceOf (now ints) (now floats))) ≡ passes ⌝ }
+    ensures { λ r. ⌜ r ≡ measured (kindOf rate) (record { channels = channels; samples = sourceOf (now (ints .entry)) (now (floats .entry)) }) t ⌝ }
+{
+    if ints.len() == 0 {
+        let m = true_peak::process(rate, t, channels, floats);
+        return m.state;
+    }
+    hear_all(rate, t, channels, ints)
+}
+
+// The true peaks after a call over interleaved samples. Calls may be cut between any two frames.
+pub fn process(rate: u32, t: TruePeak, channels: usize, ints: &[i16], floats: &[f32]) -> Measured
+    ensures { λ r. ⌜ said (r .answer) ≡ saidBy (processed rate (record { channels = channels; samples = sourceOf (now (ints .entry)) (now (floats .entry)) }) t) ⌝ }
+    ensures { λ r. ⌜ r .state ≡ keptBy t (processed rate (record { channels = channels; samples = sourceOf (now (ints .entry)) (now (floats .entry)) }) t) ⌝ }
+{
+    let number = calls::refused_frames(channels, sources::size_of(ints, floats));
+    if number != 0 {
+        return Measured {
+            answer: Answer::Refused(number),
+            state: t,
+        };
+    }
+    Measured {
+        answer: Answer::Done,
+        state: measure(rate, t, channels, ints, floats),
+    }
+}
+
+// The memory after a call whose peaks are not wanted.
+pub fn seed(rate: u32, t: TruePeak, channels: usize, ints: &[i16], floats: &[f32]) -> Measured
+    ensures { λ r. ⌜ said (r .answer) ≡ saidBy (seeded rate (record { channels = channels; samples = sourceOf (now (ints .entry)) (now (floats .entry)) }) t) ⌝ }
+    ensures { λ r. ⌜ r .state ≡ keptBy t (seeded rate (record { channels = channels; samples = sourceOf (now (ints .entry)) (now (floats .entry)) }) t) ⌝ }
+{
+    let number = calls::refused_frames(channels, sources::size_of(ints, floats));
+    if number != 0 {
+        return Measured {
+            answer: Answer::Refused(number),
+            state: t,
+        };
+    }
+    let peaks = t.peaks;
+    let mut moved = measure(rate, t, channels, ints, floats);
+    moved.peaks = peaks;
+    Measured {
+        answer: Answer::Done,
+        state: moved,
+    }
+}

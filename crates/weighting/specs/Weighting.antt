@@ -1,0 +1,42 @@
+-- A call of the weighting (01, step 4): "Output goes to the channel's own equal part of the destination, from the start index."
+-- "An unused channel keeps state and destination."
+use Prim.Native.Nat.{ℕ, suc, _+_, _*_, _/_}
+use mathlib.Core.Bool.{true, cond}
+use mathlib.Core.List.{List, [], _∷_}
+use lib.ListN.{length}
+use lib.Seq.{sets}
+use lib.Ieee.{Float}
+use Rattle.refusals.specs.Outcome.{Outcome, went, keptBy, NoValues, done}
+use Rattle.calls.specs.Check.{unless}
+use Rattle.calls.specs.Calls.{used, checkProcess}
+use Rattle.recurrence.specs.declared.State.{State}
+use Rattle.recurrence.specs.Recurrence.{outs}
+use Rattle.recurrence.specs.Channels.{Call, heard, memoryOf, stateAfter}
+
+-- each used channel's outputs stored in its own equal part of the destination, from the start index
+unfoldable pub overParts : (ℕ → List Float) → ℕ → ℕ → List ℕ → ℕ → List Float → List Float
+overParts outputs part start [] k dest = dest
+overParts outputs part start (byte ∷ bytes) k dest =
+    overParts outputs part start bytes (suc k) (cond (used byte) (sets dest (k * part + start) (outputs k)) dest)
+
+-- the destination after a call
+unfoldable pub destAfter : Call → List Float → ℕ → List Float
+unfolding overParts outs
+destAfter call dest start =
+    overParts (λ k. outs (call .coefficients .a) (call .coefficients .b) (memoryOf (call .state .values) k) (heard call k))
+    (length dest / call .channels) start (call .map) 0 dest
+
+-- what a call has in hand, and what it leaves
+pub record Kept : Type 0 where
+  pub state : State
+  pub dest : List Float
+
+-- what a call comes to
+unfoldable pub weighed : Call → List Float → ℕ → Outcome Kept NoValues
+weighed call dest start =
+    unless (checkProcess true (call .channels) (length (call .samples)) (call .map) (length dest) start)
+    (went (record { state = record { values = stateAfter call }; dest = destAfter call dest start }) done)
+
+-- what stands after it: what it leaves, and what it was given where it is refused
+abbrev pub kept : Call → List Float → ℕ → Kept
+kept call dest start = keptBy (record { state = call .state; dest = dest }) (weighed call dest start)
