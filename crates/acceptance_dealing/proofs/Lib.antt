@@ -1,0 +1,5 @@
+pub mod Tallies
+pub mod Counts
+pub mod Plans
+pub mod Together
+pub mod Dealing

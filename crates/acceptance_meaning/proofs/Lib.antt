@@ -1,0 +1,3 @@
+pub mod Ranks
+pub mod Gate
+pub mod Range

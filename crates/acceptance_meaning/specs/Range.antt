@@ -1,0 +1,46 @@
+-- Demand 2, the range: "ITU-R BS.1770 and EBU Tech 3342 decide the meaning of gating and range." `loudnessRange` is Tech 3342's over blocks: its two gates, then its
+-- two percentiles; crates/range/specs/Tech3342.antt says what it rests on. Departures: blocks at a gate are kept; a histogram's block stands at the energy of
+-- its bin, and the mean of its gate is from count times energy, bins upward (`binsGate`). proofs/Range.antt proves `RangeIsTech3342`.
+use Prim.Native.Nat.{ℕ, _≤_}
+use mathlib.Core.Path.{_≡_}
+use mathlib.Core.Bool.{false}
+use mathlib.Core.List.{List, _++_}
+use lib.ListN.{length, drop}
+use lib.Ieee.{Float}
+use Rattle.refusals.specs.Outcome.{went}
+use Rattle.histogram.specs.Histogram.{empty}
+use Rattle.history.specs.Set.{Histories, historiesOf, refusalOf, sound}
+use Rattle.blocks.specs.Totals.{none, binsFrom}
+use Rattle.ordering.specs.Order.{inOrder}
+use Rattle.spans.specs.Span.{gateEnergy}
+use Rattle.histogram_range.specs.Counted.{addedTo}
+use Rattle.queue_range.specs.Listed.{allHeld, anyNan}
+use Rattle.range.specs.Range.{queuesIn, rangeOf}
+use Rattle.range.specs.Tech3342.{loudnessRange, rangeAbove, blocksFrom}
+
+-- the question asks over queues only: one or more, none of them NaN's, and the work slice has room for what they hold
+pub record OverQueues (question : Histories) (work : List Float) : Type 0 where
+  pub whole : refusalOf question ≡ sound
+  pub some : queuesIn (historiesOf question) ≡ 0 → ⊥
+  pub only : queuesIn (historiesOf question) ≡ length (historiesOf question)
+  pub room : length (allHeld (historiesOf question)) ≤ length work
+  pub numbers : anyNan (allHeld (historiesOf question)) ≡ false
+
+-- or over histograms only, or no history at all
+pub record OverHistograms (question : Histories) : Type 0 where
+  pub whole : refusalOf question ≡ sound
+  pub only : queuesIn (historiesOf question) ≡ 0
+
+-- the counters of all histograms, and the gate that is worked from them
+abbrev pub added : Histories → List ℕ
+added question = addedTo empty (historiesOf question)
+
+abbrev pub binsGate : List ℕ → Float
+binsGate counters = gateEnergy (binsFrom none 0 counters)
+
+pub record RangeIsTech3342 : Type 0 where
+  pub queues : (question : Histories) (work : List Float) → OverQueues question work →
+      let held = allHeld (historiesOf question) in
+      rangeOf question work ≡ went (inOrder held ++ drop (length held) work) (loudnessRange held)
+  pub histograms : (question : Histories) (work : List Float) → OverHistograms question
+      → rangeOf question work ≡ went work (rangeAbove (binsGate (added question)) (blocksFrom 0 (added question)))

@@ -1,0 +1,107 @@
+-- Each statement fixes its outcome, proved: "Two outcomes that satisfy a statement are proved the same". What an answer says has a way back to the answer, so that two
+-- answers that say the same are the same; what is kept is told by an equation. Assumes nothing.
+use mathlib.Core.Path.{_≡_, refl, sym, ap, _∙_}
+use mathlib.Core.List.{List}
+use Prim.Native.Nat.{ℕ}
+use lib.IntN.{ℤ}
+use lib.Ieee.{Float}
+use Rattle.refusals.specs.declared.Answer.{Answer}
+use Rattle.refusals.specs.declared.Answer.the-variants.{Done, Refused}
+use Rattle.refusals.specs.Outcome.{Outcome, Said, says, refusal, NoValues, done}
+use Rattle.refusals.specs.Answer.{said as saidAnswer}
+use Rattle.histogram_bins.specs.declared.Level.{Level}
+use Rattle.histogram_bins.specs.declared.Level.the-variants.{Tenths, Refused as Refused-level}
+use Rattle.histogram_bins.specs.Reading.{said as saidLevel}
+use Rattle.queue.specs.Queue.{Stored}
+use Rattle.blocks.specs.declared.Totals.{Totals}
+use Rattle.gate.specs.declared.Gated.{Gated}
+use Rattle.gate.specs.declared.Gated.the-variants.{Blocks, Refused as Refused-gated}
+use Rattle.gate.specs.declared.Energy.{Energy}
+use Rattle.gate.specs.declared.Energy.the-variants.{Of, Refused as Refused-energy}
+use Rattle.gate.specs.declared.Threshold.{Threshold}
+use Rattle.gate.specs.declared.Threshold.the-variants.{Loudness, Energy as Energy-at, Refused as Refused-threshold}
+use Rattle.gate.specs.Gate.{said as saidGated}
+use Rattle.gate.specs.GatedEnergy.{said as saidEnergy}
+use Rattle.gate.specs.Relative.{Level as LevelOf, loudness, energy, said as saidThreshold}
+use Rattle.spans.specs.declared.Range.{Range}
+use Rattle.spans.specs.declared.Range.the-variants.{Found, Nothing, NotANumber, Refused as Refused-range}
+use Rattle.spans.specs.Span.{Span, found, nothing, notANumber}
+use Rattle.spans.specs.Span.{said as saidRange}
+use Rattle.acceptance_outcomes.specs.Fixed.{Meets, Fixes, EachFixed}
+
+-- where there is a way back from what is said, a statement fixes its outcome
+pub fixes : {Answer Values : Type 0} (Kept : Type 0) (said : Answer → Said Values) (back : Said Values → Answer) → ((a : Answer) → back (said a) ≡ a) → Fixes Kept said
+fixes Kept said back there given call answer other kept otherwise m n =
+    (sym (there answer) ∙ ap back (m .answered ∙ sym (n .answered)) ∙ there other, m .standing ∙ sym (n .standing))
+
+-- ---- the ways back
+pub answer-back : Said NoValues → Answer
+answer-back (says done) = Done
+answer-back (refusal n) = Refused n
+
+pub answer-there : (a : Answer) → answer-back (saidAnswer a) ≡ a
+unfolding answer-back
+answer-there Done = refl
+answer-there (Refused n) = refl
+
+level-back : Said ℤ → Level
+level-back (says t) = Tenths t
+level-back (refusal n) = Refused-level n
+
+level-there : (a : Level) → level-back (saidLevel a) ≡ a
+unfolding level-back
+level-there (Tenths t) = refl
+level-there (Refused-level n) = refl
+
+gated-back : Said Totals → Gated
+gated-back (says t) = Blocks (t .count) (t .sum)
+gated-back (refusal n) = Refused-gated n
+
+gated-there : (a : Gated) → gated-back (saidGated a) ≡ a
+unfolding gated-back
+gated-there (Blocks count sum) = refl
+gated-there (Refused-gated n) = refl
+
+energy-back : Said Float → Energy
+energy-back (says e) = Of e
+energy-back (refusal n) = Refused-energy n
+
+energy-there : (a : Energy) → energy-back (saidEnergy a) ≡ a
+unfolding energy-back
+energy-there (Of e) = refl
+energy-there (Refused-energy n) = refl
+
+threshold-back : Said LevelOf → Threshold
+threshold-back (says (loudness l)) = Loudness l
+threshold-back (says (energy e)) = Energy-at e
+threshold-back (refusal n) = Refused-threshold n
+
+threshold-there : (a : Threshold) → threshold-back (saidThreshold a) ≡ a
+unfolding threshold-back
+threshold-there (Loudness l) = refl
+threshold-there (Energy-at e) = refl
+threshold-there (Refused-threshold n) = refl
+
+range-back : Said Span → Range
+range-back (says (found low high)) = Found low high
+range-back (says nothing) = Nothing
+range-back (says notANumber) = NotANumber
+range-back (refusal n) = Refused-range n
+
+range-there : (a : Range) → range-back (saidRange a) ≡ a
+unfolding range-back
+range-there (Found low high) = refl
+range-there Nothing = refl
+range-there NotANumber = refl
+range-there (Refused-range n) = refl
+
+pub each-fixed : EachFixed
+each-fixed = record {
+  reading = fixes Unit saidLevel level-back level-there;
+  histogram = fixes (List ℕ) saidAnswer answer-back answer-there;
+  queue = fixes Stored saidAnswer answer-back answer-there;
+  gate = fixes Unit saidGated gated-back gated-there;
+  gatedEnergy = fixes Unit saidEnergy energy-back energy-there;
+  relativeThreshold = fixes Unit saidThreshold threshold-back threshold-there;
+  loudnessRange = fixes (List Float) saidRange range-back range-there;
+}

@@ -1,0 +1,236 @@
+-- Demand 1, proved: "Given exactly when". Each operation's definition goes down its rows: by cases on the tests. Assumes nothing.
+use mathlib.Core.Path.{_≡_, refl, sym, ap, _∙_}
+use mathlib.Core.Bool.{Bool, true, false, not, _&&_, _||_, cond}
+use mathlib.Core.List.{List, [], _∷_, _++_}
+use Prim.Native.Nat.{ℕ}
+use lib.Dec.{eqb, ltb}
+use lib.ListN.{length, drop, set}
+use lib.Ieee.{Float, isNan}
+use Rattle.refusals.specs.Refusal.{STORE, FULL, SET, MODE, NONE, NAN, SCALE, ROOM}
+use Rattle.refusals.specs.Outcome.{Outcome, went, refused, Question, answers, NoValues, done}
+use Rattle.histogram_bins.specs.Reading.{offScale, readingOf, tenthsOf}
+use Rattle.histogram_bins.specs.Energy.{dropped}
+use Rattle.histogram.specs.Histogram.{isHistogram, takesOne, oneMore, empty, room, sums, addTo, mergeInto, cleared}
+use Rattle.queue.specs.Queue.{Stored, over, suits, advanced, nextPlace, enqueued}
+use Rattle.history.specs.declared.set.Entry.{Entry}
+use Rattle.history.specs.Set.{mostHistories, Histories, chosen, historiesOf, shows, anyOutside, allSound, Verdict, sound, refusing, refusalOf, unlessRefused}
+use Rattle.blocks.specs.declared.Totals.{Totals}
+use Rattle.blocks.specs.Totals.{none, meanOf}
+use Rattle.sums.specs.Sums.{totalsOf}
+use Rattle.gate.specs.Gate.{thresholdOf, allGated, gateOver, gateOf}
+use Rattle.gate.specs.GatedEnergy.{meanAnswer, gatedEnergyOf}
+use Rattle.gate.specs.Relative.{Level, loudness, energy as energy-of, lowest, levelOf, relativeOf}
+use Rattle.sums.specs.Sums.{alone}
+use Rattle.ordering.specs.Order.{inOrder}
+use Rattle.spans.specs.Span.{Span, notANumber}
+use Rattle.histogram_range.specs.Counted.{addedTo, countedSpan}
+use Rattle.queue_range.specs.Listed.{allHeld, anyNan, listedRange}
+use Rattle.rising_range.specs.Rising.{listedSpan}
+use Rattle.range.specs.Range.{queuesIn, rangeOver, rangeOf}
+use Rattle.acceptance_refusals.specs.Rows.{Row, row, RefusedBy}
+use Rattle.acceptance_refusals.specs.Table.{
+  readingRows,
+  addRows,
+  mergeRows,
+  resetRows,
+  queueRows,
+  setRows,
+  allOf,
+  gateRows,
+  relativeRows,
+  someQueue,
+  rangeRows,
+  Demand1,
+}
+use Rattle.acceptance_refusals.proofs.Rows.{downRows, by-rows}
+
+reads : (energy : Float) → readingOf energy ≡ downRows (readingRows energy) tt (tenthsOf energy)
+unfolding readingOf offScale
+reads energy = refl
+
+adds : (counters : List ℕ) (energy : Float)
+    → addTo counters energy ≡ downRows (addRows counters energy) (cond (dropped energy) counters (oneMore counters energy)) done
+unfolding addTo
+adds counters energy = go (isHistogram counters) (dropped energy) (takesOne counters energy)
+  where
+    go : (a d t : Bool)
+        → cond a (cond d (went counters done) (cond t (went (oneMore counters energy) done) (refused FULL))) (refused STORE)
+        ≡ cond (not a) (refused STORE) (cond (not d && not t) (refused FULL) (went (cond d counters (oneMore counters energy)) done))
+    go false d t = refl
+    go true true t = refl
+    go true false true = refl
+    go true false false = refl
+
+merges : (into from : List ℕ) → mergeInto into from ≡ downRows (mergeRows into from) (sums into from) done
+unfolding mergeInto
+merges into from = go (isHistogram into) (isHistogram from) (room into from)
+  where
+    go : (a b r : Bool)
+        → cond (a && b) (cond r (went (sums into from) done) (refused FULL)) (refused STORE)
+        ≡ cond (not a || not b) (refused STORE) (cond (not r) (refused FULL) (went (sums into from) done))
+    go false b r = refl
+    go true false r = refl
+    go true true true = refl
+    go true true false = refl
+
+clears : (counters : List ℕ) → cleared counters ≡ downRows (resetRows counters) empty done
+unfolding cleared
+clears counters = go (isHistogram counters)
+  where
+    go : (a : Bool) → _≡_ {A = Outcome (List ℕ) NoValues} (cond a (went empty done) (refused STORE)) (cond (not a) (refused STORE) (went empty done))
+    go true = refl
+    go false = refl
+
+enqueues : (s : Stored) (energy : Float) →
+    let added = over (advanced (s .queue)) (set (s .store) (nextPlace (s .queue)) energy) in
+    enqueued s energy ≡ downRows (queueRows s) (cond (dropped energy) s added) done
+unfolding enqueued
+enqueues s energy = go (suits (s .queue) (length (s .store))) (dropped energy) (over (advanced (s .queue)) (set (s .store) (nextPlace (s .queue)) energy))
+  where
+    go : (a d : Bool) (added : Stored)
+        → cond a (cond d (went s done) (went added done)) (refused STORE) ≡ cond (not a) (refused STORE) (went (cond d s added) done)
+    go false d added = refl
+    go true true added = refl
+    go true false added = refl
+
+-- ---- a set's rows come first
+outside : Histories → Bool
+outside h = ltb mostHistories (h .count) || anyOutside (length (h .counters)) (length (h .energies)) (chosen h)
+
+asks-first : {Values : Type 0} (h : Histories) (question : Question Values)
+    → unlessRefused (refusalOf h) question ≡ cond (outside h) (refused SET) (cond (not (allSound (h .energies) (chosen h))) (refused STORE) question)
+unfolding refusalOf outside
+asks-first h question = go (outside h) (allSound (h .energies) (chosen h))
+  where
+    go : (a d : Bool)
+        → unlessRefused (cond a (refusing SET) (cond d sound (refusing STORE))) question ≡ cond a (refused SET) (cond (not d) (refused STORE) question)
+    go true d = refl
+    go false true = refl
+    go false false = refl
+
+ranges-first : (h : Histories) (question : Outcome (List Float) Span)
+    → unlessRefused (refusalOf h) question ≡ cond (outside h) (refused SET) (cond (not (allSound (h .energies) (chosen h))) (refused STORE) question)
+unfolding refusalOf outside
+ranges-first h question = go (outside h) (allSound (h .energies) (chosen h))
+  where
+    go : (a d : Bool)
+        → unlessRefused (cond a (refusing SET) (cond d sound (refusing STORE))) question ≡ cond a (refused SET) (cond (not d) (refused STORE) question)
+    go true d = refl
+    go false true = refl
+    go false false = refl
+
+-- what stands behind a set's rows
+behind : {Kept Values : Type 0} → Histories → Outcome Kept Values → Outcome Kept Values
+unfolding outside
+behind h question = cond (outside h) (refused SET) (cond (not (allSound (h .energies) (chosen h))) (refused STORE) question)
+
+-- ---- the gate
+abbrev leftOf : Histories → Totals
+leftOf h = allGated (thresholdOf (allOf h)) none (historiesOf h)
+
+gates-over : (h : Histories) →
+    let t = allOf h in
+    gateOver (historiesOf h)
+    ≡ cond (eqb (t .count) 0 || (not (isNan (t .sum)) && eqb (leftOf h .count) 0)) (refused NONE) (cond (isNan (t .sum)) (refused NAN) (answers (leftOf h)))
+unfolding gateOver
+gates-over h = go (eqb (allOf h .count) 0) (isNan (allOf h .sum)) (eqb (leftOf h .count) 0)
+  where
+    go : (z n l : Bool)
+        → cond z (refused NONE) (cond n (refused NAN) (cond l (refused NONE) (answers (leftOf h))))
+        ≡ cond (z || (not n && l)) (refused NONE) (cond n (refused NAN) (answers (leftOf h)))
+    go true n l = refl
+    go false true l = refl
+    go false false true = refl
+    go false false false = refl
+
+gates : (h : Histories) → gateOf h ≡ downRows (gateRows h) tt (leftOf h)
+unfolding gateOf behind outside
+gates h = asks-first h (gateOver (historiesOf h)) ∙ ap (behind h) (gates-over h)
+
+mean-down : (rows : List Row) (totals : Totals) → meanAnswer (downRows rows tt totals) ≡ downRows rows tt (meanOf totals)
+mean-down [] totals = refl
+mean-down (row ∷ rest) totals = go (row .holds) (mean-down rest totals)
+  where
+    go : (b : Bool) → meanAnswer (downRows rest tt totals) ≡ downRows rest tt (meanOf totals)
+        → meanAnswer (cond b (refused (row .refuses)) (downRows rest tt totals)) ≡ cond b (refused (row .refuses)) (downRows rest tt (meanOf totals))
+    go true later = refl
+    go false later = later
+
+means : (h : Histories) → gatedEnergyOf h ≡ downRows (gateRows h) tt (meanOf (leftOf h))
+means h = ap meanAnswer (gates h) ∙ mean-down (gateRows h) (leftOf h)
+
+-- ---- the relative threshold
+module _ (entry : Entry) (counters : List ℕ) (energies : List Float) where
+  abbrev totals : Totals
+  totals = totalsOf (shows counters energies entry)
+
+  abbrev level : Level
+  level = cond (eqb (totals .count) 0) (loudness lowest) (energy-of (thresholdOf totals))
+
+  level-over : levelOf totals ≡ cond (not (eqb (totals .count) 0) && isNan (totals .sum)) (refused NAN) (answers level)
+  unfolding levelOf
+  level-over = go (eqb (totals .count) 0) (isNan (totals .sum))
+    where
+      go : (z n : Bool)
+          → cond z (answers (loudness lowest)) (cond n (refused NAN) (answers (energy-of (thresholdOf totals))))
+          ≡ cond (not z && n) (refused NAN) (answers (cond z (loudness lowest) (energy-of (thresholdOf totals))))
+      go true n = refl
+      go false true = refl
+      go false false = refl
+
+  relates : relativeOf entry counters energies ≡ downRows (relativeRows entry counters energies) tt level
+  unfolding relativeOf behind outside
+  relates = asks-first (alone entry counters energies) (levelOf totals) ∙ ap (behind (alone entry counters energies)) level-over
+
+-- ---- the range
+module _ (h : Histories) (work : List Float) where
+  abbrev held : List Float
+  held = allHeld (historiesOf h)
+
+  -- what the work slice holds, and what is answered, where no row holds
+  abbrev worked : List Float
+  worked = cond (eqb (queuesIn (historiesOf h)) 0) work (cond (anyNan held) work (inOrder held ++ drop (length held) work))
+
+  abbrev span : Span
+  span =
+      cond (eqb (queuesIn (historiesOf h)) 0) (countedSpan (addedTo empty (historiesOf h))) (cond (anyNan held) notANumber (listedSpan (inOrder held)))
+
+  range-over : rangeOver (historiesOf h) work
+      ≡ cond (someQueue h && not (eqb (queuesIn (historiesOf h)) (length (historiesOf h)))) (refused MODE)
+      (cond (someQueue h && ltb (length work) (length held)) (refused ROOM) (went worked span))
+  unfolding rangeOver listedRange
+  range-over =
+      go (eqb (queuesIn (historiesOf h)) 0) (eqb (queuesIn (historiesOf h)) (length (historiesOf h))) (ltb (length work) (length held)) (anyNan held)
+      (countedSpan (addedTo empty (historiesOf h))) (inOrder held ++ drop (length held) work) (listedSpan (inOrder held))
+    where
+      go : (z a r n : Bool) (ofBins : Span) (rising : List Float) (ofHeld : Span)
+          → cond z (went work ofBins) (cond a (cond r (refused ROOM) (cond n (went work notANumber) (went rising ofHeld))) (refused MODE))
+          ≡ cond (not z && not a) (refused MODE)
+          (cond (not z && r) (refused ROOM) (went (cond z work (cond n work rising)) (cond z ofBins (cond n notANumber ofHeld))))
+      go true a r n ofBins rising ofHeld = refl
+      go false false r n ofBins rising ofHeld = refl
+      go false true true n ofBins rising ofHeld = refl
+      go false true false true ofBins rising ofHeld = refl
+      go false true false false ofBins rising ofHeld = refl
+
+  ranges : rangeOf h work ≡ downRows (rangeRows h work) worked span
+  unfolding rangeOf behind outside
+  ranges = ranges-first h (rangeOver (historiesOf h) work) ∙ ap (behind h) range-over
+
+-- ---- the demand
+pub demand-1 : Demand1
+demand-1 = record {
+  reading = λ x. by-rows (readingRows x) (readingOf x) tt (tenthsOf x) (reads x);
+  histogramAdd = λ counters x. by-rows (addRows counters x) (addTo counters x) (cond (dropped x) counters (oneMore counters x)) done (adds counters x);
+  histogramMerge = λ into from. by-rows (mergeRows into from) (mergeInto into from) (sums into from) done (merges into from);
+  histogramReset = λ counters. by-rows (resetRows counters) (cleared counters) empty done (clears counters);
+  queueAdd =
+      λ s x.
+      by-rows (queueRows s) (enqueued s x) (cond (dropped x) s (over (advanced (s .queue)) (set (s .store) (nextPlace (s .queue)) x))) done (enqueues s x);
+  gate = λ h. by-rows (gateRows h) (gateOf h) tt (leftOf h) (gates h);
+  gatedEnergy = λ h. by-rows (gateRows h) (gatedEnergyOf h) tt (meanOf (leftOf h)) (means h);
+  relativeThreshold =
+      λ entry counters energies.
+      by-rows (relativeRows entry counters energies) (relativeOf entry counters energies) tt (level entry counters energies) (relates entry counters energies);
+  loudnessRange = λ h work. by-rows (rangeRows h work) (rangeOf h work) (worked h work) (span h work) (ranges h work);
+}

@@ -1,0 +1,94 @@
+-- Demand 1, operation by operation: the rows of 01's table that apply to it, in 01's order. Over a set of histories "SET comes first for every entry, then STORE entry
+-- by entry". proofs/Table.antt proves `Demand1`. Weighting, sample peak, true peak and the records stand in other crates.
+use Prim.Native.Nat.{ℕ}
+use mathlib.Core.Bool.{Bool, not, _&&_, _||_}
+use mathlib.Core.List.{List, [], _∷_, _++_}
+use lib.Dec.{eqb, ltb}
+use lib.ListN.{length}
+use lib.Ieee.{Float, isNan, lt, le}
+use Rattle.refusals.specs.Refusal.{STORE, FULL, SET, MODE, NONE, NAN, SCALE, ROOM}
+use Rattle.tables.specs.Tables.{boundaryAt}
+use Rattle.histogram_bins.specs.Bin.{bins}
+use Rattle.histogram_bins.specs.Reading.{readingOf}
+use Rattle.histogram_bins.specs.Energy.{dropped}
+use Rattle.histogram.specs.Histogram.{isHistogram, takesOne, room, addTo, mergeInto, cleared}
+use Rattle.queue.specs.Queue.{Stored, suits, enqueued}
+use Rattle.history.specs.declared.set.Entry.{Entry}
+use Rattle.history.specs.Set.{mostHistories, Histories, chosen, historiesOf, shows, anyOutside, allSound}
+use Rattle.blocks.specs.declared.Totals.{Totals}
+use Rattle.blocks.specs.Totals.{none}
+use Rattle.sums.specs.Sums.{totalsOf, allTotals}
+use Rattle.gate.specs.Gate.{thresholdOf, allGated, gateOf}
+use Rattle.gate.specs.GatedEnergy.{gatedEnergyOf}
+use Rattle.sums.specs.Sums.{alone}
+use Rattle.gate.specs.Relative.{relativeOf}
+use Rattle.queue_range.specs.Listed.{allHeld}
+use Rattle.range.specs.Range.{queuesIn, rangeOf}
+use Rattle.acceptance_refusals.specs.Rows.{Row, row, RefusedBy}
+
+-- ---- reading of an energy. SCALE: "reading of NaN, below boundary 0, or at or above boundary 1000"
+abbrev pub readingRows : Float → List Row
+readingRows energy = row SCALE (isNan energy || (lt energy (boundaryAt 0) || le (boundaryAt bins) energy)) ∷ []
+
+-- ---- histograms. STORE: "not 1,000 counters". FULL: "in add or merge, a counter would pass 4,294,967,295"
+abbrev pub addRows : List ℕ → Float → List Row
+addRows counters energy = row STORE (not (isHistogram counters)) ∷ row FULL (not (dropped energy) && not (takesOne counters energy)) ∷ []
+
+abbrev pub mergeRows : List ℕ → List ℕ → List Row
+mergeRows into from = row STORE (not (isHistogram into) || not (isHistogram from)) ∷ row FULL (not (room into from)) ∷ []
+
+abbrev pub resetRows : List ℕ → List Row
+resetRows counters = row STORE (not (isHistogram counters)) ∷ []
+
+-- ---- a queue. STORE: "queue maximum outside 1..36,000 or unlike its store; head not below maximum; held above maximum"
+abbrev pub queueRows : Stored → List Row
+queueRows s = row STORE (not (suits (s .queue) (length (s .store)))) ∷ []
+
+-- ---- a set. SET: "more than 16 histories, or an entry reaching outside its lent slice". STORE: a queue as above, "in a question or writer, a held energy below boundary 0"
+abbrev pub setRows : Histories → List Row
+setRows h =
+    row SET (ltb mostHistories (h .count) || anyOutside (length (h .counters)) (length (h .energies)) (chosen h))
+    ∷ row STORE (not (allSound (h .energies) (chosen h)))
+    ∷ []
+
+-- ---- the gate question and gated energy. NONE: "no blocks, or the sum is not NaN and no block is at or above the gate". NAN: "the threshold sum is NaN"
+abbrev pub allOf : Histories → Totals
+allOf h = allTotals none (historiesOf h)
+
+abbrev pub gateRows : Histories → List Row
+gateRows h =
+    setRows h
+    ++ row NONE (eqb (allOf h .count) 0 || (not (isNan (allOf h .sum)) && eqb (allGated (thresholdOf (allOf h)) none (historiesOf h) .count) 0))
+    ∷ row NAN (isNan (allOf h .sum))
+    ∷ []
+
+-- ---- a single history's relative threshold: "-70.0 when empty, otherwise the threshold energy or NAN"
+abbrev pub relativeRows : Entry → List ℕ → List Float → List Row
+relativeRows entry counters energies =
+    setRows (alone entry counters energies)
+    ++ row NAN (not (eqb (totalsOf (shows counters energies entry) .count) 0) && isNan (totalsOf (shows counters energies entry) .sum))
+    ∷ []
+
+-- ---- the range. MODE: "range over queues and histograms mixed". ROOM: "in a range over queues, work slice shorter than the blocks held"
+abbrev pub someQueue : Histories → Bool
+someQueue h = not (eqb (queuesIn (historiesOf h)) 0)
+
+abbrev pub rangeRows : Histories → List Float → List Row
+rangeRows h work =
+    setRows h
+    ++ row MODE (someQueue h && not (eqb (queuesIn (historiesOf h)) (length (historiesOf h))))
+    ∷ row ROOM (someQueue h && ltb (length work) (length (allHeld (historiesOf h))))
+    ∷ []
+
+-- ---- the demand
+pub record Demand1 : Type 0 where
+  pub reading : (energy : Float) → RefusedBy (readingRows energy) (readingOf energy)
+  pub histogramAdd : (counters : List ℕ) (energy : Float) → RefusedBy (addRows counters energy) (addTo counters energy)
+  pub histogramMerge : (into from : List ℕ) → RefusedBy (mergeRows into from) (mergeInto into from)
+  pub histogramReset : (counters : List ℕ) → RefusedBy (resetRows counters) (cleared counters)
+  pub queueAdd : (s : Stored) (energy : Float) → RefusedBy (queueRows s) (enqueued s energy)
+  pub gate : (h : Histories) → RefusedBy (gateRows h) (gateOf h)
+  pub gatedEnergy : (h : Histories) → RefusedBy (gateRows h) (gatedEnergyOf h)
+  pub relativeThreshold : (entry : Entry) (counters : List ℕ) (energies : List Float)
+      → RefusedBy (relativeRows entry counters energies) (relativeOf entry counters energies)
+  pub loudnessRange : (h : Histories) (work : List Float) → RefusedBy (rangeRows h work) (rangeOf h work)

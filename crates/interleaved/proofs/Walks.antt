@@ -1,0 +1,5 @@
+pub mod New
+pub mod Channels
+pub mod Frames
+pub mod Sample
+pub mod Part
