@@ -24,6 +24,9 @@ use Rattle.queue_reader.specs.declared.Received.{Received}
 use Rattle.queue_reader.specs.declared.Received.the-variants.{Held, Refused as Refused-received}
 use Rattle.queue_reader.specs.QueueRecord.{energyWidth, maximumIn, heldIn, patternsIn, numbersFit, allFit, stored, queueIn, bodyRead, readQueue, said as saidReceived}
 use Rattle.queue_writer.specs.Writing.{queueRecord, writeQueue}
+use Rattle.summary.specs.declared.Summary.{Summary}
+use Rattle.summary.specs.declared.Summary.the-variants.{Ranged, Rangeless, Refused as Refused-summary}
+use Rattle.summary.specs.Summary.{Figures, ranged, rangeless, said as saidSummary}
 use Rattle.acceptance_refusals.proofs.Rows.{downRows, by-rows}
 use Rattle.acceptance_outcomes.proofs.Fixed.{fixes, answer-back, answer-there}
 use Rattle.acceptance_records.specs.Records.{readHistogramRows, readQueueRows, writeHistogramRows, writeQueueRows, RecordCalls}
@@ -125,6 +128,17 @@ unfolding written-back
 written-there (Bytes n) = refl
 written-there (Refused n) = refl
 
+summary-back : Said Figures → Summary
+summary-back (says (ranged blocks low high range)) = Ranged blocks low high range
+summary-back (says (rangeless blocks)) = Rangeless blocks
+summary-back (refusal n) = Refused-summary n
+
+summary-there : (a : Summary) → summary-back (saidSummary a) ≡ a
+unfolding summary-back
+summary-there (Ranged blocks low high range) = refl
+summary-there (Rangeless blocks) = refl
+summary-there (Refused-summary n) = refl
+
 pub record-calls : RecordCalls
 record-calls = record {
   histogramRead =
@@ -141,4 +155,5 @@ record-calls = record {
   fixedRead = fixes (List ℕ) saidAnswer answer-back answer-there;
   fixedReceived = fixes (List Float) saidReceived received-back received-there;
   fixedWritten = fixes (List ℕ) saidWritten written-back written-there;
+  fixedSummary = fixes Unit saidSummary summary-back summary-there;
 }

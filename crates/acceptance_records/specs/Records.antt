@@ -19,6 +19,7 @@ use Rattle.layout.specs.Written.{said as saidWritten}
 use Rattle.records.specs.Record.{histogramRecord, readHistogram, writeHistogram}
 use Rattle.queue_reader.specs.QueueRecord.{energyWidth, maximumIn, heldIn, patternsIn, numbersFit, allFit, readQueue, said as saidReceived}
 use Rattle.queue_writer.specs.Writing.{queueRecord, writeQueue}
+use Rattle.summary.specs.Summary.{said as saidSummary}
 use Rattle.acceptance_refusals.specs.Rows.{Row, row, RefusedBy}
 use Rattle.acceptance_outcomes.specs.Fixed.{Fixes}
 
@@ -63,3 +64,5 @@ pub record RecordCalls : Type 0 where
   pub fixedRead : Fixes (List ℕ) saidAnswer
   pub fixedReceived : Fixes (List Float) saidReceived
   pub fixedWritten : Fixes (List ℕ) saidWritten
+  -- the report keeps nothing
+  pub fixedSummary : Fixes Unit saidSummary
