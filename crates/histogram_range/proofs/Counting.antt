@@ -3,15 +3,15 @@
 use mathlib.Core.Path.{_≡_, refl, sym, ap, _∙_, subst}
 use mathlib.Core.Bool.{Bool, true, false}
 use mathlib.Core.List.{List, [], _∷_}
-use Prim.Native.Nat.{ℕ, zero, suc, _+_, _-_, _*_, _≤_, _<_, zero-le}
+use Prim.Native.Nat.{ℕ, zero, suc, _+_, _-_, _*_, _^_, _≤_, _<_, zero-le}
 use native.Mathlib.Nat.{le-of-suc-le-suc, not-suc-le-zero}
 use native.Mathlib.Numerals.{add-one}
 use native.Mathlib.Omega.{arith}
 use borrow.Author.Tests.{ltb-true, ltb-false}
-use lib.Dec.{ltb}
+use lib.Dec.{T, ltb, le→leb}
 use lib.IntN.{pos}
 use lib.ListN.{length, getD, take, set}
-use lib.Ieee.{binary64, mul, ofInt}
+use lib.Ieee.{binary64, mul, ofInt, inFloat}
 use Rattle.tables.specs.Tables.{energyAt}
 use Rattle.blocks.specs.declared.Totals.{Totals}
 use Rattle.blocks.specs.Totals.{withBlocks, binsFrom}
@@ -134,3 +134,8 @@ some-below running counters (suc bin) e h z =
     ap (λ (l : List ℕ). getD l (suc bin - 1) 0) e
     ∙ ap (λ (k : ℕ). getD (runningFrom 0 counters) k 0) {x = suc bin - 1} {y = bin} (omega arith)
     ∙ omega (arith, running-at 0 counters bin (omega (arith, ap length e, running-length 0 counters)))
+
+-- what a bin of 16 histograms has is a float exactly
+pub in-float : (blocks : ℕ) → blocks ≤ mostInBin → T (inFloat binary64 (pos blocks))
+unfolding inFloat
+in-float blocks h = le→leb blocks (2 ^ 53) (omega (arith, h))

@@ -86,7 +86,7 @@ fn sum_row(totals: Totals, counters: &[u64], row: usize) -> Totals
     let mut i = 0;
     while i < tables::ENERGIES_A_ROW {
         let blocks = counters[first + i];
-        sum = sum + std::num::nearest_u64_to_f64(blocks) * energies[i];
+        sum = sum + (blocks as f64) * energies[i];
         count = count + blocks;
         i += 1;
     }
