@@ -303,6 +303,59 @@ uint8_t xel_loudness_range(const size_t *entries, size_t entries_len, const uint
                            size_t counters_len, const double *energies, size_t energies_len,
                            double *work, size_t work_len, double *low, double *high);
 
+/*
+ * Records: a history as bytes, as docs/RECORDS.md lays them out. A reader refuses in the order of the
+ * codes below, and alters nothing where it refuses.
+ */
+
+/* The bytes of a histogram's record, and those of a queue's record without its energies, 8 bytes each. */
+#define XEL_HISTOGRAM_RECORD 4006
+#define XEL_QUEUE_RECORD_HEAD 14
+
+/*
+ * Reads a histogram's record (kind 1) into 1000 counters.
+ *
+ *   bytes, bytes_len        the record, and nothing after it
+ *   counters, counters_len  receive the counters: 1000 places
+ *   answers  0; XEL_LENGTH, XEL_KIND; XEL_STORE where these are not 1000 counters
+ */
+uint8_t xel_histogram_read(const uint8_t *bytes, size_t bytes_len, uint32_t *counters,
+                           size_t counters_len);
+
+/*
+ * Writes a histogram's record to the output's first places; the others stay.
+ *
+ *   out, out_len  at least 4006 places
+ *   written  receives the number of bytes. Left as it was on a refusal
+ *   answers  0; XEL_STORE where these are not 1000 counters; XEL_ROOM where the output is too short
+ */
+uint8_t xel_histogram_write(const uint32_t *counters, size_t counters_len, uint8_t *out,
+                            size_t out_len, size_t *written);
+
+/*
+ * Reads a queue's record (kind 2): its energies, oldest first, to the store's first places; the others
+ * stay.
+ *
+ *   maximum, head, held  receive the queue's numbers; head is 0. Left as they were on a refusal
+ *   store, store_len     exactly as many places as the record's maximum
+ *   answers  0; XEL_LENGTH, XEL_KIND; XEL_CONTENT where maximum, held or an energy breaks its rule;
+ *            XEL_STORE where the store has another length
+ */
+uint8_t xel_queue_read(const uint8_t *bytes, size_t bytes_len, size_t *maximum, size_t *head,
+                       size_t *held, double *store, size_t store_len);
+
+/*
+ * Writes a queue's record to the output's first places, oldest energy first; the others stay.
+ *
+ *   maximum, head, held, store, store_len  the queue, as xel_queue_add has it
+ *   out, out_len  at least 14 places and 8 for each energy held
+ *   written  receives the number of bytes. Left as it was on a refusal
+ *   answers  0; XEL_STORE where the queue breaks a rule, or holds an energy below boundary 0;
+ *            XEL_ROOM where the output is too short
+ */
+uint8_t xel_queue_write(size_t maximum, size_t head, size_t held, const double *store,
+                        size_t store_len, uint8_t *out, size_t out_len, size_t *written);
+
 #ifdef __cplusplus
 }
 #endif
