@@ -1,5 +1,6 @@
 // Replays the oracle's answers, kept as a list on standard input, and prints for each operation how many are the same.
 // The list is sections until its end. A section: u32 operation, u32 number of cases, u32 bytes a case, then the cases. All numbers low byte first.
+mod filters;
 mod histories;
 mod questions;
 
@@ -21,6 +22,12 @@ const MERGES: u64 = 5;
 const QUEUE_ADDS: u64 = 6;
 
 const QUESTIONS: u64 = 7;
+
+const PHASES: u64 = 8;
+
+const FILTER_CALLS: u64 = 9;
+
+const IMPULSES: u64 = 10;
 
 fn main() {
     let mut sections: u64 = 64;
@@ -104,6 +111,15 @@ fn case_same(operation: u64, case: &[u8]) -> bool {
     if operation == QUESTIONS {
         return questions::answers_same(case);
     }
+    if operation == PHASES {
+        return filters::phases_same(case);
+    }
+    if operation == FILTER_CALLS {
+        return filters::call_same(case);
+    }
+    if operation == IMPULSES {
+        return filters::impulse_same(case);
+    }
     false
 }
 
@@ -158,6 +174,12 @@ fn print_name(operation: u64) {
         io::write_all(STDOUT_FILENO, b"queue adds ");
     } else if operation == QUESTIONS {
         io::write_all(STDOUT_FILENO, b"questions ");
+    } else if operation == PHASES {
+        io::write_all(STDOUT_FILENO, b"phases ");
+    } else if operation == FILTER_CALLS {
+        io::write_all(STDOUT_FILENO, b"filter calls ");
+    } else if operation == IMPULSES {
+        io::write_all(STDOUT_FILENO, b"impulses ");
     } else {
         io::write_all(STDOUT_FILENO, b"unknown ");
     }
