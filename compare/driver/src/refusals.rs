@@ -11,6 +11,9 @@ pub const MODE: u8 = 8;
 pub const NONE: u8 = 9;
 pub const NAN: u8 = 10;
 pub const SCALE: u8 = 11;
+pub const LENGTH: u8 = 12;
+pub const KIND: u8 = 13;
+pub const CONTENT: u8 = 14;
 pub const ROOM: u8 = 15;
 
 /// The name of a refusal.
@@ -27,6 +30,9 @@ pub fn name(number: u8) -> &'static str {
         NONE => "NONE",
         NAN => "NAN",
         SCALE => "SCALE",
+        LENGTH => "LENGTH",
+        KIND => "KIND",
+        CONTENT => "CONTENT",
         ROOM => "ROOM",
         _ => "unknown",
     }

@@ -1,8 +1,9 @@
 //! Document 01's words on histories, where the Rust has no say: the refusals, counters of 32 bits,
-//! merging, and the places of a queue's store. Those on the range and the filter are beside them.
+//! merging, and the places of a queue's store. Those on the range, the filter and records are beside them.
 
 pub mod filter;
 pub mod range;
+pub mod records;
 
 use crate::oracle::{self, BOUNDARIES};
 use crate::refusals::{FULL, STORE};

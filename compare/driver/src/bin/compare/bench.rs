@@ -6,6 +6,7 @@ mod bins;
 mod filter;
 mod histories;
 mod questions;
+mod records;
 
 use std::time::Instant;
 
@@ -36,6 +37,7 @@ pub fn run(seed: u64) {
     }
     histories::run(&mut rng);
     questions::run(&mut rng);
+    records::run(&mut rng);
     filter::run(&mut rng);
 }
 

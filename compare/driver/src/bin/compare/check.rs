@@ -7,6 +7,7 @@ mod histogram;
 mod interp;
 mod queue;
 mod range;
+mod records;
 mod sets;
 mod true_peak;
 
@@ -31,6 +32,7 @@ pub fn run(seed: u64) -> Result<(), Difference> {
     queue::run(seed)?;
     gate::run(seed)?;
     range::run(seed)?;
+    records::run(seed)?;
     interp::run(seed)?;
     true_peak::run(seed)?;
     filter::run(seed)
