@@ -13,7 +13,7 @@ use Rattle.filter.specs.declared.Filter.{Filter}
 use Rattle.filter.specs.Call.{Call, kept}
 use Rattle.filter_process.specs.Process.{processed}
 use Rattle.filter_seed.specs.Seed.{seeded}
-use Rattle.exports_filter.specs.Filters.{switchesOf, filterOf, Processed, Seeded}
+use Rattle.exports_filter.specs.Filters.{switchesOf, filterOf}
 
 -- a filter with the switches of a number is the filter of that number
 pub switched : (channels rate on : ℕ) (a b state peaks memory truePeaks : List Float) (s : Switches) → s ≡ switchesOf on
@@ -30,23 +30,28 @@ switched channels rate on a b state peaks memory truePeaks s h = rw h
 
 pub processed-told : (call call′ : Call) (answer : Answer) (filter : Filter) (dest : List Float) (n : ℕ) → call ≡ call′
     → said answer ≡ saidBy (processed call) → filter ≡ kept processed call .filter → dest ≡ kept processed call .dest → n ≡ numberSaid answer
-    → Processed call′ n (filter .state .values) (filter .peaks .values) (filter .«true_peak» .memory) (filter .«true_peak» .peaks) dest
-processed-told call call′ answer filter dest n e says-so keeps writes number =
-    record {
-      told = number ∙ answer-told (processed call) answer says-so ∙ ap (λ (c : Call). code (processed c)) e;
-      state-kept = ap (λ (f : Filter). f .state .values) keeps ∙ ap (λ (c : Call). kept processed c .filter .state .values) e;
-      peaks-kept = ap (λ (f : Filter). f .peaks .values) keeps ∙ ap (λ (c : Call). kept processed c .filter .peaks .values) e;
-      memory-kept = ap (λ (f : Filter). f .«true_peak» .memory) keeps ∙ ap (λ (c : Call). kept processed c .filter .«true_peak» .memory) e;
-      true-peaks-kept = ap (λ (f : Filter). f .«true_peak» .peaks) keeps ∙ ap (λ (c : Call). kept processed c .filter .«true_peak» .peaks) e;
-      dest-kept = writes ∙ ap (λ (c : Call). kept processed c .dest) e;
-    }
+    → (n ≡ code (processed call′))
+    × (filter .state .values ≡ kept processed call′ .filter .state .values)
+    × (filter .peaks .values ≡ kept processed call′ .filter .peaks .values)
+    × (filter .«true_peak» .memory ≡ kept processed call′ .filter .«true_peak» .memory)
+    × (filter .«true_peak» .peaks ≡ kept processed call′ .filter .«true_peak» .peaks)
+    × (dest ≡ kept processed call′ .dest)
+processed-told call call′ answer filter dest n e says-so keeps writes number = (
+  number ∙ answer-told (processed call) answer says-so ∙ ap (λ (c : Call). code (processed c)) e,
+  ap (λ (f : Filter). f .state .values) keeps ∙ ap (λ (c : Call). kept processed c .filter .state .values) e,
+  ap (λ (f : Filter). f .peaks .values) keeps ∙ ap (λ (c : Call). kept processed c .filter .peaks .values) e,
+  ap (λ (f : Filter). f .«true_peak» .memory) keeps ∙ ap (λ (c : Call). kept processed c .filter .«true_peak» .memory) e,
+  ap (λ (f : Filter). f .«true_peak» .peaks) keeps ∙ ap (λ (c : Call). kept processed c .filter .«true_peak» .peaks) e,
+  writes ∙ ap (λ (c : Call). kept processed c .dest) e,
+)
 
 pub seeded-told : (call call′ : Call) (answer : Answer) (filter : Filter) (n : ℕ) → call ≡ call′
     → said answer ≡ saidBy (seeded call) → filter ≡ kept seeded call .filter → n ≡ numberSaid answer
-    → Seeded call′ n (filter .state .values) (filter .«true_peak» .memory)
-seeded-told call call′ answer filter n e says-so keeps number =
-    record {
-      told = number ∙ answer-told (seeded call) answer says-so ∙ ap (λ (c : Call). code (seeded c)) e;
-      state-kept = ap (λ (f : Filter). f .state .values) keeps ∙ ap (λ (c : Call). kept seeded c .filter .state .values) e;
-      memory-kept = ap (λ (f : Filter). f .«true_peak» .memory) keeps ∙ ap (λ (c : Call). kept seeded c .filter .«true_peak» .memory) e;
-    }
+    → (n ≡ code (seeded call′))
+    × (filter .state .values ≡ kept seeded call′ .filter .state .values)
+    × (filter .«true_peak» .memory ≡ kept seeded call′ .filter .«true_peak» .memory)
+seeded-told call call′ answer filter n e says-so keeps number = (
+  number ∙ answer-told (seeded call) answer says-so ∙ ap (λ (c : Call). code (seeded c)) e,
+  ap (λ (f : Filter). f .state .values) keeps ∙ ap (λ (c : Call). kept seeded c .filter .state .values) e,
+  ap (λ (f : Filter). f .«true_peak» .memory) keeps ∙ ap (λ (c : Call). kept seeded c .filter .«true_peak» .memory) e,
+)

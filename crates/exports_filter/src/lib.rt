@@ -3,8 +3,10 @@ ghost use mathlib.Core.Path.{_≡_};
 ghost use lib.ListN.{replicate};
 ghost use Rattle.samples.specs.Sample.{samplesOf16, samplesOfF32};
 ghost use Rattle.codes.specs.Codes.{code};
-ghost use Rattle.filter.specs.Call.{callOf, seedOf};
-ghost use Rattle.exports_filter.specs.Filters.{switchesOf, filterOf, seedFilterOf, Processed, Seeded};
+ghost use Rattle.filter.specs.Call.{callOf, seedOf, kept};
+ghost use Rattle.filter_process.specs.Process.{processed};
+ghost use Rattle.filter_seed.specs.Seed.{seeded};
+ghost use Rattle.exports_filter.specs.Filters.{switchesOf, filterOf, seedFilterOf};
 use codes::number_of;
 use filter::Filter;
 use filter::Switches;
@@ -39,8 +41,13 @@ pub extern "C" fn xel_process_i16(
     dest: &mut [f64],
     start: usize,
 ) -> u8
-    ensures { λ r. ⌜ Processed (callOf (filterOf channels rate on (now (a .entry)) (now (b .entry)) (now (state .entry)) (now (peaks .entry)) (now (memory .entry)) (now («true_peaks» .entry))) (samplesOf16 (now («data» .entry))) (now (map .entry)) (now (dest .entry)) start)
-        r (now (state .exit)) (now (peaks .exit)) (now (memory .exit)) (now («true_peaks» .exit)) (now (dest .exit)) ⌝ }
+    ensures { λ r. ⌜ (let call = callOf (filterOf channels rate on (now (a .entry)) (now (b .entry)) (now (state .entry)) (now (peaks .entry)) (now (memory .entry)) (now («true_peaks» .entry))) (samplesOf16 (now («data» .entry))) (now (map .entry)) (now (dest .entry)) start in
+        (r ≡ code (processed call))
+        × (now (state .exit) ≡ kept processed call .filter .state .values)
+        × (now (peaks .exit) ≡ kept processed call .filter .peaks .values)
+        × (now (memory .exit) ≡ kept processed call .filter .«true_peak» .memory)
+        × (now («true_peaks» .exit) ≡ kept processed call .filter .«true_peak» .peaks)
+        × (now (dest .exit) ≡ kept processed call .dest)) ⌝ }
 {
     let given = Filter {
         channels: channels,
@@ -87,8 +94,13 @@ pub extern "C" fn xel_process_f32(
     dest: &mut [f64],
     start: usize,
 ) -> u8
-    ensures { λ r. ⌜ Processed (callOf (filterOf channels rate on (now (a .entry)) (now (b .entry)) (now (state .entry)) (now (peaks .entry)) (now (memory .entry)) (now («true_peaks» .entry))) (samplesOfF32 (now («data» .entry))) (now (map .entry)) (now (dest .entry)) start)
-        r (now (state .exit)) (now (peaks .exit)) (now (memory .exit)) (now («true_peaks» .exit)) (now (dest .exit)) ⌝ }
+    ensures { λ r. ⌜ (let call = callOf (filterOf channels rate on (now (a .entry)) (now (b .entry)) (now (state .entry)) (now (peaks .entry)) (now (memory .entry)) (now («true_peaks» .entry))) (samplesOfF32 (now («data» .entry))) (now (map .entry)) (now (dest .entry)) start in
+        (r ≡ code (processed call))
+        × (now (state .exit) ≡ kept processed call .filter .state .values)
+        × (now (peaks .exit) ≡ kept processed call .filter .peaks .values)
+        × (now (memory .exit) ≡ kept processed call .filter .«true_peak» .memory)
+        × (now («true_peaks» .exit) ≡ kept processed call .filter .«true_peak» .peaks)
+        × (now (dest .exit) ≡ kept processed call .dest)) ⌝ }
 {
     let given = Filter {
         channels: channels,
@@ -130,7 +142,10 @@ pub extern "C" fn xel_seed_i16(
     data: &[i16],
     map: &[u8],
 ) -> u8
-    ensures { λ r. ⌜ Seeded (seedOf (seedFilterOf channels rate on (now (a .entry)) (now (state .entry)) (now (memory .entry))) (samplesOf16 (now («data» .entry))) (now (map .entry))) r (now (state .exit)) (now (memory .exit)) ⌝ }
+    ensures { λ r. ⌜ (let call = seedOf (seedFilterOf channels rate on (now (a .entry)) (now (state .entry)) (now (memory .entry))) (samplesOf16 (now («data» .entry))) (now (map .entry)) in
+        (r ≡ code (seeded call))
+        × (now (state .exit) ≡ kept seeded call .filter .state .values)
+        × (now (memory .exit) ≡ kept seeded call .filter .«true_peak» .memory)) ⌝ }
 {
     let given = Filter {
         channels: channels,
@@ -167,7 +182,10 @@ pub extern "C" fn xel_seed_f32(
     data: &[f32],
     map: &[u8],
 ) -> u8
-    ensures { λ r. ⌜ Seeded (seedOf (seedFilterOf channels rate on (now (a .entry)) (now (state .entry)) (now (memory .entry))) (samplesOfF32 (now («data» .entry))) (now (map .entry))) r (now (state .exit)) (now (memory .exit)) ⌝ }
+    ensures { λ r. ⌜ (let call = seedOf (seedFilterOf channels rate on (now (a .entry)) (now (state .entry)) (now (memory .entry))) (samplesOfF32 (now («data» .entry))) (now (map .entry)) in
+        (r ≡ code (seeded call))
+        × (now (state .exit) ≡ kept seeded call .filter .state .values)
+        × (now (memory .exit) ≡ kept seeded call .filter .«true_peak» .memory)) ⌝ }
 {
     let given = Filter {
         channels: channels,

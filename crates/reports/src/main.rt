@@ -1,4 +1,6 @@
 // Reports on each record of a list on standard input, with an empty line after each report. Before each record stands its length, a u32, low byte first.
+mod lines;
+
 use libc::STDIN_FILENO;
 use libc::STDOUT_FILENO;
 
@@ -40,7 +42,7 @@ fn read_record(input: &mut [u8], size: u64) -> bool {
 fn report_first(input: &[u8], size: u64) {
     let length = size as usize;
     if length <= input.len() {
-        report_lines::print(summary::of_record(&input[..length]));
+        lines::print(summary::of_record(&input[..length]));
         io::write_all(STDOUT_FILENO, b"\n");
     }
 }

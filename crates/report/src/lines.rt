@@ -8,7 +8,7 @@ fn print_line(name: &[u8], number: u64) {
     io::write_all(STDOUT_FILENO, b"\n");
 }
 
-pub fn print(report: Summary) {
+pub(crate) fn print(report: Summary) {
     match report {
         Summary::Ranged {
             blocks,
