@@ -181,7 +181,10 @@ fn queues(rng: &mut Rng) -> Result<(), Difference> {
         read_queue(&mut reads, &record, places)?;
         // damaged: a byte of the head, or a pattern
         match rng.below(3) {
-            0 => record[rng.below(14) as usize] = rng.bits() as u8,
+            0 => {
+                let at = rng.below(record.len().min(14) as u64) as usize;
+                record[at] = rng.bits() as u8;
+            }
             1 if record.len() >= 22 => {
                 let at = 14 + 8 * rng.below((record.len() as u64 - 14) / 8) as usize;
                 let pattern = energies::any(rng).to_bits().to_le_bytes();
