@@ -211,7 +211,15 @@ fn queues(rng: &mut Rng) -> Result<(), Difference> {
             read_queue(&mut reads, &changed, 5)?;
         }
     }
-    // the longest queue, and one energy more than it may hold
+    // the longest queue, written and read; and one energy more than it may hold
+    let longest = Queue {
+        maximum: 36_000,
+        head: 777,
+        held: 36_000,
+        store: (0..36_000).map(|_| energies::in_table(rng)).collect(),
+    };
+    let record = write_queue(&mut writes, &longest, 14 + 8 * 36_000)?;
+    read_queue(&mut reads, &record, 36_000)?;
     for (maximum, held) in [(36_000, 36_000), (36_001, 36_001), (36_000, 36_001)] {
         let mut record = vec![0; 14 + 8 * held];
         let length = record.len() as u32 - 4;
