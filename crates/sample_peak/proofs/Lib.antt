@@ -1,4 +1,6 @@
 pub mod Loudest
 pub mod Cutting
 pub mod Alone
-mod Runs
+mod Rest
+mod Tops
+mod Lanes

@@ -49,29 +49,6 @@ above-nan nan = refl
 above-nan (inf s) = refl
 above-nan (fin s n d) = refl
 
-pub above : (top x : Float) → High top → lt top x ≡ true → greater top (absolute x) ≡ x
-above top nan h g = absurd (true≢false (sym g ∙ above-nan top))
-above top (inf true) h g = absurd (true≢false (sym g ∙ above-bottom top h))
-above top (inf false) h g = rw g
-above top (fin true m e) h g = absurd (true≢false (sym g ∙ above-negative top h m e))
-above top (fin false m e) h g = rw g
-
-pub below : (top x : Float) → High top → lt top (neg x) ≡ true → greater top (absolute x) ≡ neg x
-unfolding neg
-below top nan h g = absurd (true≢false (sym g ∙ above-nan top))
-below top (inf true) h g = rw g
-below top (inf false) h g = absurd (true≢false (sym g ∙ above-bottom top h))
-below top (fin true m e) h g = rw g
-below top (fin false m e) h g = absurd (true≢false (sym g ∙ above-negative top h m e))
-
-pub neither : (top x : Float) → High top → lt top x ≡ false → lt top (neg x) ≡ false → greater top (absolute x) ≡ top
-unfolding neg
-neither top nan h f g = rw f
-neither top (inf true) h f g = rw g
-neither top (inf false) h f g = rw f
-neither top (fin true m e) h f g = rw g
-neither top (fin false m e) h f g = rw f
-
 -- ---- the tops stay so
 
 magnitude-high : (x : Float) → High (absolute x)
@@ -86,6 +63,18 @@ greater-high top v h k = go (lt top v)
     go : (b : Bool) → High (cond b v top)
     go true = k
     go false = h
+
+kept : (top x : Float) → lt top x ≡ false → greater top x ≡ top
+kept top x g = ap (λ (b : Bool). cond b x top) g
+
+-- against x and then against -x, or against the magnitude
+pub both-ways : (top x : Float) → High top → greater (greater top x) (neg x) ≡ greater top (absolute x)
+unfolding neg
+both-ways top nan h = ap (λ (t : Float). greater t nan) (kept top nan (above-nan top))
+both-ways top (inf true) h = ap (λ (t : Float). greater t (inf false)) (kept top (inf true) (above-bottom top h))
+both-ways top (inf false) h = kept (greater top (inf false)) (inf true) (above-bottom (greater top (inf false)) (greater-high top (inf false) h (magnitude-high (inf false))))
+both-ways top (fin true m e) h = ap (λ (t : Float). greater t (fin false m e)) (kept top (fin true m e) (above-negative top h m e))
+both-ways top (fin false m e) h = kept (greater top (fin false m e)) (fin true m e) (above-negative (greater top (fin false m e)) (greater-high top (fin false m e) h (magnitude-high (fin false m e))) m e)
 
 pub raised-high : (top x : Float) → High top → High (greater top (absolute x))
 raised-high top x h = greater-high top (absolute x) h (magnitude-high x)
@@ -118,9 +107,9 @@ pub nought-high : High nought
 unfolding lt
 nought-high = refl
 
-pub start-peaks : (l : List Float) (s k : ℕ) → k < 8 → getD (replicate 8 nought) k nan ≡ largestFrom nought (column l k s 0)
+pub start-tops : (n : ℕ) (l : List Float) (s k : ℕ) → k < n → getD (replicate n nought) k nan ≡ largestFrom nought (column l k s 0)
 unfolding largestFrom column
-start-peaks l s k h = getD-replicate 8 k nought nan h
+start-tops n l s k h = getD-replicate n k nought nan h
 
 -- what the frames of a block do to channel k's top
 abbrev pub peaks : List Float → ℕ → ℕ → ℕ → Float → Float

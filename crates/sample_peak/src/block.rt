@@ -1,13 +1,14 @@
 // The sample peak over one block of samples as floats, channel by channel.
 ghost use mathlib.Core.Path.{_≡_};
 ghost use mathlib.Core.Bool.{false};
-ghost use Prim.Native.Nat.{ℕ, _*_, _<_, _≤_};
+ghost use Prim.Native.Nat.{ℕ, _+_, _*_, _<_, _≤_};
 ghost use lib.ListN.{length, getD};
 ghost use lib.Ieee.{nan, lt};
 ghost use Rattle.samples.specs.Frames.{column};
 ghost use Rattle.calls.specs.Calls.{mostChannels};
 ghost use Rattle.sources.specs.Blocks.{Reach};
 ghost use Rattle.sample_peak.specs.Peak.{absolute, greater, largestFrom, nought, overChannels};
+ghost use Rattle.sample_peak.specs.Lanes.{mostLanes};
 use super::Peaks;
 use super::greater_of;
 
@@ -16,48 +17,64 @@ fn raise(top: f64, x: f64) -> f64
     requires { ⌜ lt top nought ≡ false ⌝ }
     ensures { λ r. ⌜ r ≡ greater top (absolute x) ⌝ }
 {
-    if top < x {
-        return x;
-    }
-    if top < -x {
-        return -x;
-    }
-    top
+    let high = greater_of(top, x);
+    greater_of(high, -x)
 }
 
-// The greater of top and the magnitude at place i of a block.
-fn raise_at(top: f64, block: &[f64], i: usize) -> f64
-    requires { ⌜ lt top nought ≡ false ⌝ }
-    requires { ⌜ i < length (now block) ⌝ }
-    ensures { λ r. ⌜ r ≡ greater top (absolute (getD (now (block .entry)) i nan)) ⌝ }
-{
-    raise(top, block[i])
+// Lane j of n has the largest magnitude of every n-th place from j on. No lane waits for another, and where n is a multiple of the channels a lane is of one channel.
+struct Lanes {
+    values: [f64; 24],
 }
 
-// Four runs of a channel's frames, `quarter` frames each, side by side: none waits for another.
-fn largest_runs(top: f64, block: &[f64], first: usize, step: usize, quarter: usize) -> f64
-    requires { ⌜ lt top nought ≡ false ⌝ }
-    requires { ⌜ Reach first step (quarter * 4) (length (now block)) ⌝ }
-    ensures { λ r. ⌜ r ≡ largestFrom top (column (now (block .entry)) first step (quarter * 4)) ⌝ }
+// As many lanes as the processor's registers hold. Of 1, 2, 3, 4, 6 and 8 channels they are a multiple.
+const LANES: usize = 24;
+
+// One place of the block more in each of the first `lanes` lanes, from place `at` on.
+fn raise_turn(tops: Lanes, lanes: usize, block: &[f64], at: usize) -> Lanes
+    requires { ⌜ lanes ≤ mostLanes ⌝ }
+    requires { ⌜ at + lanes ≤ length (now block) ⌝ }
+    requires { ⌜ ((j : ℕ) → j < lanes → lt (getD (tops .values) j nan) nought ≡ false) ⌝ }
+    ensures { λ r. ⌜ r .values ≡ overChannels (λ j top. greater top (absolute (getD (now (block .entry)) (at + j) nan))) lanes 0 (tops .values) ⌝ }
 {
-    let second = first + quarter * step;
-    let third = second + quarter * step;
-    let fourth = third + quarter * step;
-    let mut a = top;
-    let mut b = top;
-    let mut c = top;
-    let mut d = top;
-    let mut i = 0;
-    let mut left = quarter;
-    while 0 < left {
-        a = raise_at(a, block, first + i);
-        b = raise_at(b, block, second + i);
-        c = raise_at(c, block, third + i);
-        d = raise_at(d, block, fourth + i);
-        i += step;
-        left -= 1;
+    let mut w = tops;
+    let mut j = 0;
+    while j < lanes {
+        let top = w.values[j];
+        w.values[j] = raise(top, block[at + j]);
+        j += 1;
     }
-    greater_of(greater_of(greater_of(a, b), c), d)
+    w
+}
+
+// So many turns, each with one place for every lane.
+fn raise_turns(lanes: usize, block: &[f64], turns: usize) -> Lanes
+    requires { ⌜ lanes ≤ mostLanes ⌝ }
+    requires { ⌜ turns * lanes ≤ length (now block) ⌝ }
+    ensures { λ r. ⌜ length (r .values) ≡ mostLanes ⌝ }
+    ensures { λ r. ⌜ ((j : ℕ) → j < lanes → getD (r .values) j nan ≡ largestFrom nought (column (now (block .entry)) j lanes turns)) ⌝ }
+{
+    let mut w = Lanes { values: [0.0; 24] };
+    let mut done = 0;
+    let mut at = 0;
+    while done < turns {
+        w = raise_turn(w, lanes, block, at);
+        at += lanes;
+        done += 1;
+    }
+    w
+}
+
+// The same. All the lanes that there are stand by themselves, for a loop of a known length is unrolled.
+fn lanes_of(lanes: usize, block: &[f64], turns: usize) -> Lanes
+    requires { ⌜ lanes ≤ mostLanes ⌝ }
+    requires { ⌜ turns * lanes ≤ length (now block) ⌝ }
+    ensures { λ r. ⌜ length (r .values) ≡ mostLanes ⌝ }
+    ensures { λ r. ⌜ ((j : ℕ) → j < lanes → getD (r .values) j nan ≡ largestFrom nought (column (now (block .entry)) j lanes turns)) ⌝ }
+{
+    if lanes == LANES {
+        return raise_turns(LANES, block, turns);
+    }
+    raise_turns(lanes, block, turns)
 }
 
 // A channel's frames one after another.
@@ -77,30 +94,24 @@ fn largest_on(top: f64, block: &[f64], first: usize, step: usize, count: usize) 
     high
 }
 
-// One channel's frames of a block: four runs of them, and the few that are left.
-fn largest(top: f64, block: &[f64], first: usize, step: usize, count: usize) -> f64
-    requires { ⌜ lt top nought ≡ false ⌝ }
-    requires { ⌜ Reach first step count (length (now block)) ⌝ }
-    ensures { λ r. ⌜ r ≡ largestFrom top (column (now (block .entry)) first step count) ⌝ }
-{
-    let quarter = count / 4;
-    let done = quarter * 4;
-    let high = largest_runs(top, block, first, step, quarter);
-    largest_on(high, block, first + done * step, step, count - done)
-}
-
-// Every channel's frames of a block.
+// Every channel's frames of a block: its lanes, and the few frames that are left.
 pub(crate) fn peak_block(tops: Peaks, channels: usize, count: usize, block: &[f64]) -> Peaks
-    requires { ⌜ channels ≤ mostChannels ⌝ }
+    requires { ⌜ (0 < channels) × (channels ≤ mostChannels) ⌝ }
     requires { ⌜ count * channels ≤ length (now block) ⌝ }
     requires { ⌜ ((k : ℕ) → k < channels → lt (getD (tops .values) k nan) nought ≡ false) ⌝ }
     ensures { λ r. ⌜ r .values ≡ overChannels (λ k top. largestFrom top (column (now (block .entry)) k channels count)) channels 0 (tops .values) ⌝ }
 {
+    let each = LANES / channels;
+    let turns = count / each;
+    let done = turns * each;
+    let lanes = lanes_of(each * channels, block, turns);
+    let values = lanes.values;
     let mut w = tops;
     let mut k = 0;
     while k < channels {
         let top = w.values[k];
-        w.values[k] = largest(top, block, k, channels, count);
+        let high = largest_on(top, &values, k, channels, each);
+        w.values[k] = largest_on(high, block, k + done * channels, channels, count - done);
         k += 1;
     }
     w

@@ -11,7 +11,7 @@ use Rattle.samples.specs.Frames.{column}
 use Rattle.sources.specs.Blocks.{blockPlaces}
 use Rattle.sources.specs.Source.{sourceOf}
 use Rattle.sample_peak.specs.Peak.{largestFrom, nought}
-use Rattle.sample_peak.proofs.Loudest.{peaks, High, largest-high, channels-length, channels-first, start-peaks, nought-high}
+use Rattle.sample_peak.proofs.Loudest.{peaks, High, largest-high, channels-length, channels-first, start-tops, nought-high}
 use Rattle.sources.proofs.Cutting.{Next, Step, step, filled}
 use Rattle.sample_peak.proofs.Cutting.{cut-peaks}
 use Rattle.sample_peak.proofs.largest_all.Statement.{statement}
@@ -32,7 +32,7 @@ div-most c = c .before .pre .some
 
 loop-holds : tie.Need-loop-holds Inv-loop μ-loop
 unfolding ofBits
-loop-holds c = let s = c .before in (omega arith, (refl, (refl, λ k h. start-peaks _ (s .args .channels) k (omega (arith, h, s .pre .few)))))
+loop-holds c = let s = c .before in (omega arith, (refl, (refl, λ k h. start-tops 8 _ (s .args .channels) k (omega (arith, h, s .pre .few)))))
 
 sub-shorter : tie.Need-sub-shorter Inv-loop μ-loop
 sub-shorter c = search needs
@@ -73,7 +73,7 @@ peak-block-requires c κs =
     let q = f .before .before .before in
     let s = q .before .before .before in
     let l = q .before .loop in (
-      s .pre .few,
+      (s .pre .some, s .pre .few),
       (
         omega (arith, size f, sizes (f .before .before) .block-fits),
         λ k h. ap (λ (x : Float). lt x nought) (l .inv .1 .1 .1 k h) ∙ largest-high nought (column (sourceOf (s .args .ints .now) (s .args .floats .now)) k (s .args .channels) (l .done)) nought-high,

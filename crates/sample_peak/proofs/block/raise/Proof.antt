@@ -1,17 +1,22 @@
--- `sample_peak::raise` meets its contract: of x and -x only the one that is the magnitude can be above a top that is not below 0. Assumes nothing.
-use mathlib.Core.Path.{sym}
-use Rattle.sample_peak.proofs.Loudest.{above, below, neither}
+-- `block::raise` meets its contract: of x and -x only the one that is the magnitude can be above a top that is not below 0. Assumes nothing.
+use borrow.Author.Needs.{needs}
+use mathlib.Core.Path.{ap, _∙_}
+use lib.Ieee.{neg}
+use Rattle.sample_peak.specs.Peak.{greater}
+use Rattle.sample_peak.proofs.Loudest.{both-ways}
 use Rattle.sample_peak.proofs.block.raise.Statement.{statement}
 use Rattle.sample_peak.proofs.block.raise.Tie as tie
 
+greater-of-requires : tie.Need-greater-of-requires
+greater-of-requires c κs = search needs
+
+greater-of-requires-2 : tie.Need-greater-of-requires-2
+greater-of-requires-2 c κs = search needs
+
 returns : tie.Need-returns
-returns c = sym (above (c .before .args .top) (c .before .args .x) (c .before .pre) (c .if1 .taken))
-
-returns-2 : tie.Need-returns-2
-returns-2 c = let s = c .before .before in sym (below (s .args .top) (s .args .x) (s .pre) (c .if2 .taken))
-
-returns-3 : tie.Need-returns-3
-returns-3 c = let s = c .before .before in sym (neither (s .args .top) (s .args .x) (s .pre) (c .before .if1 .left) (c .if2 .left))
+returns c =
+    let s = c .before .before in
+    c .greater-of2 .ensures ∙ ap (λ h. greater h (neg (s .args .x))) (c .before .greater-of .ensures) ∙ both-ways (s .args .top) (s .args .x) (s .pre)
 
 pub raise-spec : {M : Type 1} → statement M
-raise-spec = tie.close (tie.spec returns returns-2 returns-3)
+raise-spec = tie.close (tie.spec greater-of-requires greater-of-requires-2 returns)

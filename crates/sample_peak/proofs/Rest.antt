@@ -1,0 +1,30 @@
+-- The frames of a channel that are left after the first of them: they lie within the block, and from the largest of the first they give the largest of all. Assumes nothing.
+use Prim.Native.Nat.{ℕ, _+_, _-_, _*_, _≤_, _<_}
+use native.Mathlib.Omega.{arith}
+use mathlib.Core.Path.{_≡_, ap, sym, _∙_}
+use mathlib.Core.List.{List, _++_}
+use lib.Ieee.{Float}
+use Rattle.samples.specs.Frames.{column}
+use Rattle.samples.proofs.Columns.{column-append}
+use Rattle.sample_peak.specs.Peak.{largestFrom}
+use Rattle.sources.specs.Blocks.{Reach}
+use Rattle.sample_peak.proofs.Loudest.{largest-append}
+
+distributed : (m n step : ℕ) → (m + n) * step ≡ m * step + n * step
+distributed m n step = omega arith
+
+module _ (first step count size done : ℕ) (all : Reach first step count size) (part : done ≤ count) where
+  split : done * step + (count - done) * step ≡ count * step
+  split = let e : done + (count - done) ≡ count = omega arith in sym (distributed done (count - done) step) ∙ ap (λ (k : ℕ). k * step) e
+
+  pub reach-after : Reach (first + done * step) step (count - done) size
+  reach-after = record { few = all .few; within = omega (arith, all .within, split) }
+
+pub after-first : (top high : Float) (block : List Float) (first step count done : ℕ) → done ≤ count → high ≡ largestFrom top (column block first step done)
+    → largestFrom high (column block (first + done * step) step (count - done)) ≡ largestFrom top (column block first step count)
+after-first top high block first step count done part e =
+    let m : done + (count - done) ≡ count = omega arith in
+    ap (λ (t : Float). largestFrom t (column block (first + done * step) step (count - done))) e
+    ∙ sym (largest-append top (column block first step done) (column block (first + done * step) step (count - done)))
+    ∙ ap (largestFrom top) (sym (column-append block first step done (count - done)))
+    ∙ ap (λ (k : ℕ). largestFrom top (column block first step k)) m

@@ -1,0 +1,101 @@
+-- `block::raise_turn` meets its contract: the lanes left, from the tops as they are, give what all of them give. Assumes nothing.
+use borrow.Author.Needs.{needs}
+use Prim.Native.Nat.{ℕ, _+_, _-_, _≤_}
+use native.Mathlib.Omega.{arith}
+use mathlib.Core.Path.{_≡_, refl, sym, ap, _∙_}
+use mathlib.Core.List.{List}
+use lib.ListN.{getD, set}
+use lib.Seq.{getD-set-other}
+use lib.Ieee.{Float, nan, lt}
+use Rattle.sample_peak.specs.Peak.{nought, overChannels}
+use Rattle.sample_peak.proofs.Loudest.{channels-again, channels-end}
+use Rattle.sample_peak.proofs.Lanes.{turn}
+use Rattle.sample_peak.proofs.block.raise_turn.Statement.{statement}
+use Rattle.sample_peak.proofs.block.raise_turn.Tie as tie
+
+abbrev Inv-loop : tie.InvT-loop
+Inv-loop lanes block at w₀ j₀ w j =
+    (j ≤ lanes)
+    × ((overChannels (turn block at) (lanes - j) j (w .values) ≡ overChannels (turn block at) lanes 0 (w₀ .values))
+    × ((i : ℕ) → j ≤ i → getD (w .values) i nan ≡ getD (w₀ .values) i nan))
+
+abbrev μ-loop : tie.MeasureT-loop
+μ-loop lanes block at w₀ j₀ w j = lanes - j
+
+loop-holds : tie.Need-loop-holds Inv-loop μ-loop
+loop-holds c =
+    let a = c .before .args in
+    let e : a .lanes - 0 ≡ a .lanes = omega arith in
+    (omega arith, (ap (λ (n : ℕ). overChannels (turn (a .block .now) (a .at)) n 0 (a .tops .values)) e, λ j h. refl))
+
+mul-top : tie.Need-mul-top Inv-loop μ-loop
+mul-top c = search needs
+
+element-copy-out-top : tie.Need-element-copy-out-top Inv-loop μ-loop
+element-copy-out-top c = search needs
+
+add-raise : tie.Need-add-raise Inv-loop μ-loop
+add-raise c = search needs
+
+mul-raise : tie.Need-mul-raise Inv-loop μ-loop
+mul-raise c = search needs
+
+shared-slice-read-raise : tie.Need-shared-slice-read-raise Inv-loop μ-loop
+shared-slice-read-raise c = search needs
+
+raise-requires : tie.Need-raise-requires Inv-loop μ-loop
+raise-requires c κs =
+    let q = c .before .before in
+    let l = q .before .loop in
+    let p = q .before .before .before .pre in
+    ap (λ (x : Float). lt x nought) (l .inv .1 .1 (l .j) (omega arith)) ∙ p .1 .1 (l .j) (q .loop-test .taken)
+
+mul-w : tie.Need-mul-w Inv-loop μ-loop
+mul-w c = search needs
+
+element-write-w : tie.Need-element-write-w Inv-loop μ-loop
+element-write-w c = search needs
+
+add-j : tie.Need-add-j Inv-loop μ-loop
+add-j c = search needs
+
+loop-less : tie.Need-loop-less Inv-loop μ-loop
+loop-less c = search needs
+
+loop-again : tie.Need-loop-again Inv-loop μ-loop
+loop-again c =
+    let q = c .before .before .before in
+    let l = q .before .loop in
+    let a = q .before .before .before .args in (
+      search needs,
+      (
+        channels-again (turn (a .block .now) (a .at)) (a .lanes) (l .j) (l .w .values) _ (q .loop-test .taken) (ap (set (l .w .values) (l .j)) (c .raise .ensures)) ∙ l .inv .1 .0,
+        λ i h. getD-set-other (l .w .values) (l .j) i (c .raise .result) nan (λ e. omega arith) ∙ l .inv .1 .1 i (omega arith),
+      ),
+    )
+
+returns : tie.Need-returns Inv-loop μ-loop
+returns c =
+    let l = c .before .loop in
+    let a = c .before .before .before .args in
+    sym (channels-end (turn (a .block .now) (a .at)) (a .lanes) (l .j) (l .w .values) (c .loop-test .left)) ∙ l .inv .1 .0
+
+pub raise-turn-spec : {M : Type 1} → statement M
+raise-turn-spec =
+    tie.close
+    (tie.spec
+    Inv-loop
+    μ-loop
+    loop-holds
+    mul-top
+    element-copy-out-top
+    add-raise
+    mul-raise
+    shared-slice-read-raise
+    raise-requires
+    mul-w
+    element-write-w
+    add-j
+    loop-less
+    loop-again
+    returns)

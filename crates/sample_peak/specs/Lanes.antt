@@ -1,0 +1,5 @@
+-- The lanes of the sample peak's inner loop.
+use Prim.Native.Nat.{ℕ}
+
+abbrev pub mostLanes : ℕ
+mostLanes = 24
