@@ -169,10 +169,10 @@ uint8_t xel_seed_f32(size_t channels, uint32_t rate, uint8_t on, const double a[
  * first; before the start a sample is 0. Their largest magnitude is what the true peak keeps.
  *
  *   samples  12, or 24, floats of any value
- *   phases   receives 4, or 2
+ *   out      receives the phases: 4, or 2
  */
-void xel_phases_fourfold(const float samples[12], float phases[4]);
-void xel_phases_twofold(const float samples[24], float phases[2]);
+void xel_phases_fourfold(const float samples[12], float out[4]);
+void xel_phases_twofold(const float samples[24], float out[2]);
 
 /*
  * Histories of block energies. The caller owns the memory: a histogram is 1000 counters, a queue a
