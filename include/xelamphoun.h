@@ -57,6 +57,9 @@ enum xel_refusal {
 #define XEL_NOTHING 128
 #define XEL_NOT_A_NUMBER 129
 
+/* What a sample answers whose channel or frame is not there: this is no refusal. */
+#define XEL_PAST_THE_END 130
+
 /*
  * Boundary i of the histogram, in energy. It stands at -70 + i/10 LUFS; bin i runs from boundary i
  * up to, and not including, boundary i + 1.
@@ -163,6 +166,48 @@ uint8_t xel_seed_i16(size_t channels, uint32_t rate, uint8_t on, const double a[
 uint8_t xel_seed_f32(size_t channels, uint32_t rate, uint8_t on, const double a[5],
                      double state[40], float memory[184], const float *data, size_t data_len,
                      const uint8_t *map, size_t map_len);
+
+/*
+ * Interleaved samples as frames: frame f is the samples f * channels to f * channels + channels - 1, a
+ * channel each. A question is about a part, the frames from first on and before end, both counted in
+ * the whole: 0 and SIZE_MAX for all of it. A part ends where the samples do, and is empty where it
+ * begins there or at end.
+ *
+ *   data, data_len  the samples
+ *   channels        1 to 8
+ *   first, end      any numbers
+ */
+
+/* The number of channels of a part: the one that was given, whatever it is. */
+size_t xel_interleaved_channels_i16(const int16_t *data, size_t data_len, size_t channels,
+                                    size_t first, size_t end);
+size_t xel_interleaved_channels_f32(const float *data, size_t data_len, size_t channels,
+                                    size_t first, size_t end);
+
+/*
+ * How many frames a part has.
+ *
+ *   frames   receives the number. Left as it was on a refusal
+ *   answers  0; XEL_CHANNELS; XEL_SAMPLES where the part's samples are not whole frames
+ */
+uint8_t xel_interleaved_frames_i16(const int16_t *data, size_t data_len, size_t channels,
+                                   size_t first, size_t end, size_t *frames);
+uint8_t xel_interleaved_frames_f32(const float *data, size_t data_len, size_t channels,
+                                   size_t first, size_t end, size_t *frames);
+
+/*
+ * A channel's sample in a frame of a part.
+ *
+ *   channel, frame  the frame is counted in the part
+ *   sample   receives the sample: s/32768 of an int16_t s. Left as it was where the answer is not 0
+ *   answers  0; XEL_CHANNELS or XEL_SAMPLES; XEL_PAST_THE_END where there is no such channel or frame
+ */
+uint8_t xel_interleaved_sample_i16(const int16_t *data, size_t data_len, size_t channels,
+                                   size_t first, size_t end, size_t channel, size_t frame,
+                                   double *sample);
+uint8_t xel_interleaved_sample_f32(const float *data, size_t data_len, size_t channels,
+                                   size_t first, size_t end, size_t channel, size_t frame,
+                                   double *sample);
 
 /*
  * The interpolator's phases at a frame, from the frame's own sample and those before it, newest

@@ -1,39 +1,25 @@
--- A checked question: the number 0 says that it is answered, and any other is the refusal's. Assumes nothing.
+-- An answer that is checked first, by the check's number; and the place that a sample is asked for at. Assumes nothing.
 use mathlib.Core.Path.{_≡_, refl, sym, ap, _∙_}
 use mathlib.Core.List.{List, map}
-use mathlib.Core.Bool.{Bool, true, false, cond, _&&_, _||_}
-use Prim.Native.Nat.{ℕ, _%_, _≤_, _<_}
-use native.Mathlib.Omega.{arith}
+use mathlib.Core.Bool.{Bool, true, false, cond, _&&_}
+use Prim.Native.Nat.{ℕ, _≤_, _<_}
 use borrow.Author.Tests.{lt-ltb, le-ltb}
-use lib.Dec.{ltb, eqb}
+use lib.Dec.{ltb}
 use lib.ListN.{length, length-map}
 use lib.Ieee.{Float}
-use Rattle.refusals.specs.Refusal.{CHANNELS, SAMPLES}
-use Rattle.refusals.specs.Outcome.{Question, went, refused, answers, Said, says, refusal, saidBy, NoValues, done}
+use Rattle.refusals.specs.Outcome.{Question, answers, Said, says, refusal, saidBy}
 use Rattle.samples.specs.Frames.{sampleAt}
-use Rattle.interleaved.specs.Shown.{mostChannels, checkIn, numberOf, unless, Place, at, pastTheEnd, sampleOr, sampleIn}
+use Rattle.calls.specs.Check.{numberOf}
+use Rattle.calls.specs.Calls.{checkFrames}
+use Rattle.calls.proofs.Stopping as check
+use Rattle.interleaved.specs.Shown.{checked, Place, at, pastTheEnd, sampleOr, sampleIn}
 
--- 1 and 2 are not 0
-picked : (a b : Bool) → numberOf (cond a (refused CHANNELS) (cond b (answers done) (refused SAMPLES))) ≡ 0
-    → cond a (refused CHANNELS) (cond b (answers done) (refused SAMPLES)) ≡ answers done
-picked true b h = absurd (let e : _≡_ {A = ℕ} 1 0 = h in omega arith)
-picked false true h = refl
-picked false false h = absurd (let e : _≡_ {A = ℕ} 2 0 = h in omega arith)
+module _ {Values : Type 0} (channels samples : ℕ) (values : Values) (n : ℕ) (e : n ≡ numberOf (checkFrames channels samples)) where
+  pub goes : n ≡ 0 → says values ≡ saidBy (checked channels samples values)
+  goes h = sym (ap (λ (o : Question Values). saidBy o) (check.goes (checkFrames channels samples) (answers values) n e h))
 
-passes : (channels samples : ℕ) → numberOf (checkIn channels samples) ≡ 0 → checkIn channels samples ≡ answers done
-unfolding checkIn
-passes channels samples h = picked (eqb channels 0 || ltb mostChannels channels) (eqb (samples % channels) 0) h
-
-fails : {Values : Type 0} (check : Question NoValues) (values : Values) (n : ℕ) → n ≡ numberOf check → (n ≡ 0 → ⊥) → refusal n ≡ saidBy (unless check values)
-fails (went _ _) values n e h = absurd (h e)
-fails (refused r) values n e h = ap refusal e
-
-module _ {Values : Type 0} (channels samples : ℕ) (values : Values) (n : ℕ) (e : n ≡ numberOf (checkIn channels samples)) where
-  pub goes : n ≡ 0 → says values ≡ saidBy (unless (checkIn channels samples) values)
-  goes h = sym (ap (λ (check : Question NoValues). saidBy (unless check values)) (passes channels samples (sym e ∙ h)))
-
-  pub stops : (n ≡ 0 → ⊥) → refusal n ≡ saidBy (unless (checkIn channels samples) values)
-  stops h = fails (checkIn channels samples) values n e h
+  pub stops : (n ≡ 0 → ⊥) → refusal n ≡ saidBy (checked channels samples values)
+  stops h = check.stopped (checkFrames channels samples) (answers values) tt n e h .says
 
 -- ---- the place asked for
 

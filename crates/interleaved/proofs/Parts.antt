@@ -1,6 +1,6 @@
 -- The frames of the two parts of a split, one after the other, are the frames of the whole.
 -- The first part holds whole frames, so the frames of the two lists, one after the other, are those of their frames; past the end one part is the whole and the other is empty. Assumes nothing.
-use mathlib.Core.Path.{_≡_, refl, sym, ap, _∙_}
+use mathlib.Core.Path.{_≡_, sym, ap, _∙_}
 use mathlib.Core.List.{List, [], _∷_, _++_, append-nil}
 use mathlib.Core.Logic.{_⊎_, inl, inr, ⊎-elim}
 use Prim.Native.Nat.{ℕ, zero, suc, _+_, _-_, _*_, _/_, _≤_, _<_}

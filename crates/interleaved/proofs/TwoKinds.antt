@@ -9,7 +9,7 @@ use Rattle.interleaved.specs.declared.ints.Interleaved.{Interleaved as O
 use Rattle.interleaved.specs.declared.floats.Interleaved.{Interleaved as OfF32}
 use Rattle.interleaved.proofs.ints.Interleaved as I16
 use Rattle.interleaved.proofs.floats.Interleaved as F32
-use Rattle.interleaved.proofs.Kind.{Kind}
+use Rattle.interleaved_walks.proofs.Kind.{Kind}
 
 -- a struct's name does not depend on its lifetime
 abbrev any : NamedLft

@@ -2,15 +2,13 @@
 // of channels. The borrow checker covers no function over such a struct, so each is thin: it takes the struct apart and
 // calls a function on the slice and the numbers. Every branch stands in those; the ones here serve both kinds.
 ghost use mathlib.Core.Path.{_≡_};
-ghost use Prim.Native.Nat.{_*_, min};
+ghost use Prim.Native.Nat.{min};
 ghost use Rattle.refusals.specs.Outcome.{saidBy};
-ghost use Rattle.interleaved.specs.Shown.{numberOf, checkIn, framesIn, sampleOr};
+ghost use Rattle.interleaved.specs.Shown.{framesIn, sampleOr, placeOf};
 ghost use Rattle.interleaved.specs.Said.{framesSaid, sampleSaid};
 
 pub mod floats;
 pub mod ints;
-
-const MOST_CHANNELS: usize = 8;
 
 // How many frames there are.
 pub enum Frames {
@@ -25,26 +23,10 @@ pub enum Sample {
     Refused(u8),
 }
 
-// The number of CHANNELS or SAMPLES, and 0 where neither holds. `samples` is their number.
-fn refused(channels: usize, samples: usize) -> u8
-    ensures { λ r. ⌜ r ≡ numberOf (checkIn channels samples) ⌝ }
-{
-    if channels == 0 {
-        return refusals::CHANNELS;
-    }
-    if MOST_CHANNELS < channels {
-        return refusals::CHANNELS;
-    }
-    if samples % channels != 0 {
-        return refusals::SAMPLES;
-    }
-    0
-}
-
 fn frames_of(channels: usize, samples: usize) -> Frames
     ensures { λ r. ⌜ framesSaid r ≡ saidBy (framesIn channels samples) ⌝ }
 {
-    let number = refused(channels, samples);
+    let number = calls::refused_frames(channels, samples);
     if number != 0 {
         return Frames::Refused(number);
     }
@@ -55,7 +37,7 @@ fn frames_of(channels: usize, samples: usize) -> Frames
 fn sample_or(channels: usize, samples: usize, channel: usize, frame: usize, sample: f64) -> Sample
     ensures { λ r. ⌜ sampleSaid r ≡ saidBy (sampleOr channels samples channel frame sample) ⌝ }
 {
-    let number = refused(channels, samples);
+    let number = calls::refused_frames(channels, samples);
     if number != 0 {
         return Sample::Refused(number);
     }
@@ -70,7 +52,7 @@ fn sample_or(channels: usize, samples: usize, channel: usize, frame: usize, samp
 
 // How many samples stand before a frame, and all where the frame lies past the end. No product is formed that could wrap.
 fn before(channels: usize, frame: usize, samples: usize) -> usize
-    ensures { λ r. ⌜ r ≡ min (frame * channels) samples ⌝ }
+    ensures { λ r. ⌜ r ≡ min (placeOf channels frame) samples ⌝ }
 {
     if channels == 0 {
         return 0;

@@ -4,6 +4,7 @@ mod bins;
 mod filter;
 mod gate;
 mod histogram;
+mod interleaved;
 mod interp;
 mod queue;
 mod range;
@@ -33,6 +34,7 @@ pub fn run(seed: u64) -> Result<(), Difference> {
     gate::run(seed)?;
     range::run(seed)?;
     records::run(seed)?;
+    interleaved::run(seed)?;
     interp::run(seed)?;
     true_peak::run(seed)?;
     filter::run(seed)

@@ -1,6 +1,7 @@
 //! The proved library's functions, as include/xelamphoun.h declares them, and safe names for them.
 
 pub mod filter;
+pub mod interleaved;
 pub mod records;
 
 use driver::sets::Set;

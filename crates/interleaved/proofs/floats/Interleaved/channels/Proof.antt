@@ -3,7 +3,7 @@ use contract.Running.{givenOf, tables, tablesOf}
 use denote.Triple.Spec.{tripleOf}
 use denote.Triple.Table.{entered}
 use Rattle.interleaved.proofs.TwoKinds.{floats}
-use Rattle.interleaved.proofs.Walks.Channels.{meets}
+use Rattle.interleaved_walks.proofs.Walks.Channels.{meets}
 use Rattle.interleaved.proofs.floats.Interleaved.channels.Key.{name as #channels}
 use Rattle.interleaved.proofs.floats.Interleaved.channels as channels
 use Rattle.interleaved.proofs.floats.Interleaved.channels.Statement as stated

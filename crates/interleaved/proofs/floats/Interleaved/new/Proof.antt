@@ -3,7 +3,7 @@ use contract.Running.{givenOf, tables, tablesOf}
 use denote.Triple.Spec.{tripleOf}
 use denote.Triple.Table.{entered}
 use Rattle.interleaved.proofs.TwoKinds.{floats}
-use Rattle.interleaved.proofs.Walks.New.{meets}
+use Rattle.interleaved_walks.proofs.Walks.New.{meets}
 use Rattle.interleaved.proofs.floats.Interleaved.new.Key.{name as #new}
 use Rattle.interleaved.proofs.floats.Interleaved.new as new
 use Rattle.interleaved.proofs.floats.Interleaved.new.Statement as stated

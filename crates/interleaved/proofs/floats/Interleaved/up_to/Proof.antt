@@ -4,7 +4,7 @@ use denote.Triple.Spec.{tripleOf}
 use denote.Triple.Table.{entered, cited}
 use Rattle.interleaved.specs.Shown.{upTo}
 use Rattle.interleaved.proofs.TwoKinds.{floats}
-use Rattle.interleaved.proofs.Walks.Part.{meets}
+use Rattle.interleaved_walks.proofs.Walks.Part.{meets}
 use Rattle.interleaved.proofs.floats.cut_up_to as cut-up-to
 use Rattle.interleaved.proofs.floats.cut_up_to.Symbol as cut-up-to-def
 use Rattle.interleaved.proofs.floats.cut_up_to.Symbol.{name as #cut-up-to}

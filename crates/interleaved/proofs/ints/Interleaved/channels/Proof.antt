@@ -3,7 +3,7 @@ use contract.Running.{givenOf, tables, tablesOf}
 use denote.Triple.Spec.{tripleOf}
 use denote.Triple.Table.{entered}
 use Rattle.interleaved.proofs.TwoKinds.{ints}
-use Rattle.interleaved.proofs.Walks.Channels.{meets}
+use Rattle.interleaved_walks.proofs.Walks.Channels.{meets}
 use Rattle.interleaved.proofs.ints.Interleaved.channels.Key.{name as #channels}
 use Rattle.interleaved.proofs.ints.Interleaved.channels as channels
 use Rattle.interleaved.proofs.ints.Interleaved.channels.Statement as stated

@@ -2,8 +2,9 @@
 use contract.Running.{givenOf, tables, tablesOf}
 use denote.Triple.Spec.{tripleOf}
 use denote.Triple.Table.{entered, cited}
+use Rattle.interleaved.proofs.Answers as answers
 use Rattle.interleaved.proofs.TwoKinds.{ints}
-use Rattle.interleaved.proofs.Walks.Frames.{meets}
+use Rattle.interleaved_walks.proofs.Walks.Frames.{meets}
 use Rattle.interleaved.proofs.frames_of as frames-of
 use Rattle.interleaved.proofs.frames_of.Symbol as frames-of-def
 use Rattle.interleaved.proofs.frames_of.Symbol.{name as #frames-of}
@@ -18,5 +19,5 @@ unfolding code.routine tablesOf
 frames-spec 𝓤 H 𝓜 𝓖 𝓡 =
     entered 𝓤 H (tripleOf 𝓤 H (𝓖 .A) frames.signature (frames.spec 𝓤 H (𝓖 .A) (𝓜 .mem) (𝓡 .run)))
     (tables 𝓤 H 𝓜 𝓡 code.env .C) (tables 𝓤 H 𝓜 𝓡 code.env .Λ) #frames code.function (code.unfolded 𝓤 H 𝓜 𝓡)
-    (meets ints 𝓤 H (𝓖 .A) (givenOf 𝓤 H 𝓜 𝓖) (𝓜 .mem) (𝓡 .run) (tablesOf 𝓤 H 𝓜 (tables 𝓤 H 𝓜 𝓡 code.env))
+    (meets ints answers.frames answers.Framed #frames-of 𝓤 H (𝓖 .A) (givenOf 𝓤 H 𝓜 𝓖) (tablesOf 𝓤 H 𝓜 (tables 𝓤 H 𝓜 𝓡 code.env))
     (cited 𝓤 H (tripleOf 𝓤 H (𝓖 .A) frames-of.signature (frames-of.spec 𝓤 H (𝓖 .A) (𝓜 .mem) (𝓡 .run))) 𝓜 𝓡 code.env #frames-of frames-of-def.routine code.calls-interleaved·frames-of (frames-of-thm.met 𝓤 H 𝓜 𝓖 𝓡)))

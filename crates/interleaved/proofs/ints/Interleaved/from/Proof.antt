@@ -4,7 +4,7 @@ use denote.Triple.Spec.{tripleOf}
 use denote.Triple.Table.{entered, cited}
 use Rattle.interleaved.specs.Shown.{fromOn}
 use Rattle.interleaved.proofs.TwoKinds.{ints}
-use Rattle.interleaved.proofs.Walks.Part.{meets}
+use Rattle.interleaved_walks.proofs.Walks.Part.{meets}
 use Rattle.interleaved.proofs.ints.cut_from as cut-from
 use Rattle.interleaved.proofs.ints.cut_from.Symbol as cut-from-def
 use Rattle.interleaved.proofs.ints.cut_from.Symbol.{name as #cut-from}

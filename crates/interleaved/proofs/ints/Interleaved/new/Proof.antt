@@ -3,7 +3,7 @@ use contract.Running.{givenOf, tables, tablesOf}
 use denote.Triple.Spec.{tripleOf}
 use denote.Triple.Table.{entered}
 use Rattle.interleaved.proofs.TwoKinds.{ints}
-use Rattle.interleaved.proofs.Walks.New.{meets}
+use Rattle.interleaved_walks.proofs.Walks.New.{meets}
 use Rattle.interleaved.proofs.ints.Interleaved.new.Key.{name as #new}
 use Rattle.interleaved.proofs.ints.Interleaved.new as new
 use Rattle.interleaved.proofs.ints.Interleaved.new.Statement as stated

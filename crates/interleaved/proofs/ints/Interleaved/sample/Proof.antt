@@ -2,8 +2,9 @@
 use contract.Running.{givenOf, tables, tablesOf}
 use denote.Triple.Spec.{tripleOf}
 use denote.Triple.Table.{entered, cited}
+use Rattle.interleaved.proofs.Answers as answers
 use Rattle.interleaved.proofs.TwoKinds.{ints}
-use Rattle.interleaved.proofs.Walks.Sample.{meets}
+use Rattle.interleaved_walks.proofs.Walks.Sample.{meets}
 use Rattle.interleaved.proofs.ints.sample_of as sample-of
 use Rattle.interleaved.proofs.ints.sample_of.Symbol as sample-of-def
 use Rattle.interleaved.proofs.ints.sample_of.Symbol.{name as #sample-of}
@@ -18,5 +19,5 @@ unfolding code.routine tablesOf
 sample-spec 𝓤 H 𝓜 𝓖 𝓡 =
     entered 𝓤 H (tripleOf 𝓤 H (𝓖 .A) sample.signature (sample.spec 𝓤 H (𝓖 .A) (𝓜 .mem) (𝓡 .run)))
     (tables 𝓤 H 𝓜 𝓡 code.env .C) (tables 𝓤 H 𝓜 𝓡 code.env .Λ) #sample code.function (code.unfolded 𝓤 H 𝓜 𝓡)
-    (meets ints #sample-of 𝓤 H (𝓖 .A) (givenOf 𝓤 H 𝓜 𝓖) (tablesOf 𝓤 H 𝓜 (tables 𝓤 H 𝓜 𝓡 code.env))
+    (meets ints answers.sample (answers.Sampled ints) #sample-of 𝓤 H (𝓖 .A) (givenOf 𝓤 H 𝓜 𝓖) (tablesOf 𝓤 H 𝓜 (tables 𝓤 H 𝓜 𝓡 code.env))
     (cited 𝓤 H (tripleOf 𝓤 H (𝓖 .A) sample-of.signature (sample-of.spec 𝓤 H (𝓖 .A) (𝓜 .mem) (𝓡 .run))) 𝓜 𝓡 code.env #sample-of sample-of-def.routine code.calls-interleaved·ints·sample-of (sample-of-thm.met 𝓤 H 𝓜 𝓖 𝓡)))

@@ -1,0 +1,38 @@
+-- `exports_interleaved::xel_interleaved_frames_f32` meets its contract: each case of the answer is told as the C interface tells it. Assumes nothing.
+use mathlib.Core.Path.{sym, ap, _∙_}
+use denote.Ref.{now}
+use borrow.Author.Needs.{needs}
+use Rattle.refusals.specs.Outcome.{saidBy}
+use Rattle.codes.proofs.Told.{values-told, refusal-told}
+use Rattle.interleaved.specs.Said.{framesSaid}
+use Rattle.exports_interleaved.specs.Part.{partOf, framesOfPart}
+use Rattle.exports_interleaved.proofs.xel_interleaved_frames_f32.Statement.{statement}
+use Rattle.exports_interleaved.proofs.xel_interleaved_frames_f32.Tie as tie
+
+frames-requires : tie.Need-frames-requires
+frames-requires c κs = search needs
+
+enum-known-number : tie.Need-enum-known-number
+enum-known-number c = search needs
+
+enum-known-number-2 : tie.Need-enum-known-number-2
+enum-known-number-2 c = search needs
+
+returns : tie.Need-returns
+returns c =
+    let f = c .before .before .before in
+    let a = f .before .before .args in
+    let o = framesOfPart (partOf (a .channels) (a .first) (a .end) (now (a .«data»))) in
+    let given = c .before .number .given in
+    values-told o (now (a .frames)) (given .0 .0) (_∙_ {c = saidBy o} (ap framesSaid (sym (given .1))) (f .frames .ensures))
+
+returns-2 : tie.Need-returns-2
+returns-2 c =
+    let f = c .before .before .before in
+    let a = f .before .before .args in
+    let o = framesOfPart (partOf (a .channels) (a .first) (a .end) (now (a .«data»))) in
+    let given = c .before .number2 .given in
+    refusal-told o (now (a .frames)) (given .0 .0) (_∙_ {c = saidBy o} (ap framesSaid (sym (given .1))) (f .frames .ensures))
+
+pub xel-interleaved-frames-f32-spec : {M : Type 1} → statement M
+xel-interleaved-frames-f32-spec = tie.close (tie.spec frames-requires enum-known-number enum-known-number-2 returns returns-2)

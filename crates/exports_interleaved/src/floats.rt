@@ -1,0 +1,40 @@
+// Interleaved f32 samples of which a part is asked about. Each function makes the struct and asks it.
+ghost use mathlib.Core.Path.{_≡_};
+ghost use Rattle.refusals.specs.Outcome.{saidBy};
+ghost use Rattle.samples.specs.Sample.{samplesOfF32};
+ghost use Rattle.interleaved.specs.Said.{framesSaid, sampleSaid};
+ghost use Rattle.exports_interleaved.specs.Part.{partOf, framesOfPart, sampleOfPart};
+use interleaved::Frames;
+use interleaved::Sample;
+use interleaved::floats::Interleaved;
+
+fn part<'a>(samples: &'a [f32], channels: usize, first: usize, end: usize) -> Interleaved<'a>
+    ensures { λ r. ⌜ (now (r .samples) ≡ partOf channels first end (now (samples .entry)) .samples) × (r .channels ≡ partOf channels first end (now (samples .entry)) .channels) ⌝ }
+{
+    Interleaved::new(samples, channels).up_to(end).from(first)
+}
+
+pub fn channels(samples: &[f32], channels: usize, first: usize, end: usize) -> usize
+    ensures { λ n. ⌜ n ≡ partOf channels first end (now (samples .entry)) .channels ⌝ }
+{
+    part(samples, channels, first, end).channels()
+}
+
+pub fn frames(samples: &[f32], channels: usize, first: usize, end: usize) -> Frames
+    ensures { λ r. ⌜ framesSaid r ≡ saidBy (framesOfPart (partOf channels first end (now (samples .entry)))) ⌝ }
+{
+    part(samples, channels, first, end).frames()
+}
+
+pub fn sample(
+    samples: &[f32],
+    channels: usize,
+    first: usize,
+    end: usize,
+    channel: usize,
+    frame: usize,
+) -> Sample
+    ensures { λ r. ⌜ sampleSaid r ≡ saidBy (sampleOfPart samplesOfF32 (partOf channels first end (now (samples .entry))) channel frame) ⌝ }
+{
+    part(samples, channels, first, end).sample(channel, frame)
+}

@@ -1,0 +1,4 @@
+pub mod Held
+pub mod Kind
+pub mod Answer
+pub mod Walks
