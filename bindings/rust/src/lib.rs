@@ -23,6 +23,7 @@
 mod bins;
 mod filter;
 mod histories;
+mod interleaved;
 mod questions;
 mod refusal;
 #[allow(missing_docs)]
@@ -31,6 +32,7 @@ pub mod sys;
 pub use bins::{boundary, energy, find_histogram_index, reading};
 pub use filter::{phases_fourfold, phases_twofold, Channel, Coefficients, Filter, Switches};
 pub use histories::{Histogram, Queue, QueueNumbers};
+pub use interleaved::{Interleaved, Sample};
 pub use questions::{Entry, Gated, Range, Set, Threshold};
 pub use refusal::Refusal;
 
@@ -49,6 +51,7 @@ const HISTOGRAM: usize = 0;
 const QUEUE: usize = 1;
 const NOTHING: u8 = 128;
 const NOT_A_NUMBER: u8 = 129;
+const PAST_THE_END: u8 = 130;
 const LOUDNESS: u8 = 1;
 const SAMPLE_PEAK: u8 = 2;
 const TRUE_PEAK: u8 = 4;

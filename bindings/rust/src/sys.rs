@@ -71,6 +71,57 @@ extern "C" {
         map_len: usize,
     ) -> u8;
 
+    pub fn xel_interleaved_channels_i16(
+        data: *const i16,
+        data_len: usize,
+        channels: usize,
+        first: usize,
+        end: usize,
+    ) -> usize;
+    pub fn xel_interleaved_frames_i16(
+        data: *const i16,
+        data_len: usize,
+        channels: usize,
+        first: usize,
+        end: usize,
+        frames: &mut usize,
+    ) -> u8;
+    pub fn xel_interleaved_sample_i16(
+        data: *const i16,
+        data_len: usize,
+        channels: usize,
+        first: usize,
+        end: usize,
+        channel: usize,
+        frame: usize,
+        sample: &mut f64,
+    ) -> u8;
+    pub fn xel_interleaved_channels_f32(
+        data: *const f32,
+        data_len: usize,
+        channels: usize,
+        first: usize,
+        end: usize,
+    ) -> usize;
+    pub fn xel_interleaved_frames_f32(
+        data: *const f32,
+        data_len: usize,
+        channels: usize,
+        first: usize,
+        end: usize,
+        frames: &mut usize,
+    ) -> u8;
+    pub fn xel_interleaved_sample_f32(
+        data: *const f32,
+        data_len: usize,
+        channels: usize,
+        first: usize,
+        end: usize,
+        channel: usize,
+        frame: usize,
+        sample: &mut f64,
+    ) -> u8;
+
     pub fn xel_phases_fourfold(samples: &[f32; 12], out: &mut [f32; 4]);
     pub fn xel_phases_twofold(samples: &[f32; 24], out: &mut [f32; 2]);
 

@@ -105,6 +105,58 @@ fn phases() {
 }
 
 #[test]
+fn interleaved_samples() {
+    let ints = Interleaved::new(&[16384i16, 1, -32768, 2, 0, 3], 2);
+    let floats = Interleaved::new(&[0.5f32, 1.0, -1.0, 2.0, 0.0, 3.0], 2);
+    for (frame, sample) in [0.5, -1.0, 0.0].into_iter().enumerate() {
+        assert_eq!(ints.sample(0, frame), Ok(Sample::At(sample)));
+        assert_eq!(floats.sample(0, frame), Ok(Sample::At(sample)));
+    }
+    for (channel, frame) in [(2, 0), (0, 3), (usize::MAX, 0), (0, usize::MAX)] {
+        assert_eq!(ints.sample(channel, frame), Ok(Sample::PastTheEnd));
+        assert_eq!(floats.sample(channel, frame), Ok(Sample::PastTheEnd));
+    }
+    let parts = [
+        (0, 3, 3),
+        (1, 3, 2),
+        (1, 2, 1),
+        (2, 1, 0),
+        (7, usize::MAX, 0),
+    ];
+    for (first, end, frames) in parts {
+        let (ints, floats) = (
+            Interleaved { first, end, ..ints },
+            Interleaved {
+                first,
+                end,
+                ..floats
+            },
+        );
+        assert_eq!((ints.frames(), floats.frames()), (Ok(frames), Ok(frames)));
+        assert_eq!((ints.channels(), floats.channels()), (2, 2));
+    }
+    let last = Interleaved { first: 2, ..ints };
+    assert_eq!(last.sample(1, 0), Ok(Sample::At(3.0 / 32768.0)));
+
+    for (channels, refusal) in [
+        (0, Refusal::Channels),
+        (9, Refusal::Channels),
+        (4, Refusal::Samples),
+    ] {
+        let (ints, floats) = (
+            Interleaved { channels, ..ints },
+            Interleaved { channels, ..floats },
+        );
+        assert_eq!(
+            (ints.frames(), floats.frames()),
+            (Err(refusal), Err(refusal))
+        );
+        assert_eq!(ints.sample(0, 0), Err(refusal));
+        assert_eq!(floats.channels(), channels);
+    }
+}
+
+#[test]
 fn a_refused_call_alters_nothing() {
     let filter = Filter::new(2, 48_000, Switches::ALL, HALVING);
     let map = [Channel::Used; 9];
@@ -448,5 +500,18 @@ fn any_history_call_answers() {
         let _ = (set.gate(), set.gated_energy(), set.relative_threshold());
         let _ = set.loudness_range(&mut work[..any.below(13)]);
         let _ = (find_histogram_index(any.float()), reading(any.float()));
+
+        let data = [7i16; 12];
+        let part = Interleaved {
+            data: &data[..any.below(13)],
+            channels: any.number(),
+            first: any.number(),
+            end: any.number(),
+        };
+        let _ = (
+            part.channels(),
+            part.frames(),
+            part.sample(any.number(), any.number()),
+        );
     }
 }
