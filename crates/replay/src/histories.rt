@@ -152,18 +152,22 @@ fn all_queued(case: &[u8], store: &mut [f64]) -> bool {
         let queued = queue.add(store, energy);
         let answer = queued.answer;
         queue = queued.queue;
-        if number_of(answer) != fields::number_at(case, at + 8, 2) {
-            return false;
-        }
-        if queue.head as u64 != fields::number_at(case, at + 10, 2) {
-            return false;
-        }
-        if queue.held as u64 != fields::number_at(case, at + 12, 2) {
+        if !queued_same(case, at, answer, queue) {
             return false;
         }
         at += 14;
     }
     true
+}
+
+// Whether the answer to the energy at a place, and the queue afterwards, are the case's.
+fn queued_same(case: &[u8], at: usize, answer: Answer, queue: Queue) -> bool {
+    if 4096 < at {
+        return false;
+    }
+    number_of(answer) == fields::number_at(case, at + 8, 2)
+        && queue.head as u64 == fields::number_at(case, at + 10, 2)
+        && queue.held as u64 == fields::number_at(case, at + 12, 2)
 }
 
 fn store_same(case: &[u8], store: &[f64]) -> bool {

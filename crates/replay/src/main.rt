@@ -1,6 +1,6 @@
-// Replays the oracle's answers, kept as a list on standard input, and prints for each operation how many are the same.
-// The list is sections until its end. A section: u32 operation, u32 number of cases, u32 bytes a case, then the cases. All numbers low byte first.
-mod filters;
+// Replays the oracle's answers on bins, histories and questions, kept as a list on standard input, and prints for each operation how many are the same.
+// The list is sections until its end. A section: u32 operation, u32 number of cases, u32 bytes a case, the operation's name in 20 bytes, then the cases.
+// All numbers low byte first. The loop over sections and cases is the same in `replay_filter` and `replay_records`.
 mod histories;
 mod questions;
 
@@ -23,12 +23,6 @@ const QUEUE_ADDS: u64 = 6;
 
 const QUESTIONS: u64 = 7;
 
-const PHASES: u64 = 8;
-
-const FILTER_CALLS: u64 = 9;
-
-const IMPULSES: u64 = 10;
-
 fn main() {
     let mut sections: u64 = 64;
     while 0 < sections {
@@ -41,22 +35,26 @@ fn main() {
 
 // Whether there was a section, and all its cases were the same.
 fn replay_section() -> bool {
-    let mut head = [0u8; 12];
-    if io::read_full(STDIN_FILENO, &mut head) != 12 {
+    let mut head = [0u8; 32];
+    if io::read_full(STDIN_FILENO, &mut head) != 32 {
         return false;
     }
+    io::write_all(STDOUT_FILENO, &head[12..]);
     let operation = fields::number_at(&head, 0, 4);
     let cases = fields::number_at(&head, 4, 4);
     let size = fields::number_at(&head, 8, 4);
-    let same = replay_cases(operation, cases, size);
-    print_name(operation);
+    print_same(replay_cases(operation, cases, size), cases)
+}
+
+// Prints how many were the same, and answers whether all were.
+fn print_same(same: u64, cases: u64) -> bool {
     io::print_decimal(STDOUT_FILENO, same);
-    if same == cases {
-        io::write_all(STDOUT_FILENO, b" same\n");
-    } else {
+    if same < cases {
         io::write_all(STDOUT_FILENO, b" same and the next differs\n");
+        return false;
     }
-    same == cases
+    io::write_all(STDOUT_FILENO, b" same\n");
+    true
 }
 
 // How many cases were the same before the first that was not.
@@ -111,15 +109,6 @@ fn case_same(operation: u64, case: &[u8]) -> bool {
     if operation == QUESTIONS {
         return questions::answers_same(case);
     }
-    if operation == PHASES {
-        return filters::phases_same(case);
-    }
-    if operation == FILTER_CALLS {
-        return filters::call_same(case);
-    }
-    if operation == IMPULSES {
-        return filters::impulse_same(case);
-    }
     false
 }
 
@@ -157,30 +146,4 @@ fn from_lowest(above: u64) -> i32 {
         return 1000;
     }
     -700 + above as i32
-}
-
-fn print_name(operation: u64) {
-    if operation == TABLES {
-        io::write_all(STDOUT_FILENO, b"tables ");
-    } else if operation == BINS {
-        io::write_all(STDOUT_FILENO, b"bins ");
-    } else if operation == READINGS {
-        io::write_all(STDOUT_FILENO, b"readings ");
-    } else if operation == HISTOGRAM_ADDS {
-        io::write_all(STDOUT_FILENO, b"histogram adds ");
-    } else if operation == MERGES {
-        io::write_all(STDOUT_FILENO, b"merges ");
-    } else if operation == QUEUE_ADDS {
-        io::write_all(STDOUT_FILENO, b"queue adds ");
-    } else if operation == QUESTIONS {
-        io::write_all(STDOUT_FILENO, b"questions ");
-    } else if operation == PHASES {
-        io::write_all(STDOUT_FILENO, b"phases ");
-    } else if operation == FILTER_CALLS {
-        io::write_all(STDOUT_FILENO, b"filter calls ");
-    } else if operation == IMPULSES {
-        io::write_all(STDOUT_FILENO, b"impulses ");
-    } else {
-        io::write_all(STDOUT_FILENO, b"unknown ");
-    }
 }

@@ -11,13 +11,9 @@ use spans::Range;
 pub(crate) fn answers_same(case: &[u8]) -> bool {
     let mut counters = [0u32; 1000];
     let mut energies = [0.0; 24];
-    let mut work = [0.0; 24];
     fill_counters(case, &mut counters);
     fill_energies(case, &mut energies);
-    let count = fields::number_at(case, 0, 2) as usize;
-    let gated = gate::gate(entries_of(case), count, &counters, &energies);
-    let range = range::loudness_range(entries_of(case), count, &counters, &energies, &mut work);
-    gate_same(case, gated) && range_same(case, range) && work_same(case, &work)
+    gate_same(case, &counters, &energies) && range_same(case, &counters, &energies)
 }
 
 fn number_at(case: &[u8], at: usize) -> usize {
@@ -99,7 +95,14 @@ fn put(energies: &mut [f64], place: usize, energy: f64) {
     }
 }
 
-fn gate_same(case: &[u8], gated: Gated) -> bool {
+fn gate_same(case: &[u8], counters: &[u32], energies: &[f64]) -> bool {
+    gated_same(
+        case,
+        gate::gate(entries_of(case), number_at(case, 0), counters, energies),
+    )
+}
+
+fn gated_same(case: &[u8], gated: Gated) -> bool {
     let refusal = fields::number_at(case, 282, 2);
     let blocks = fields::number_at(case, 284, 8);
     let sum = fields::number_at(case, 292, 8);
@@ -111,7 +114,19 @@ fn gate_same(case: &[u8], gated: Gated) -> bool {
     }
 }
 
-fn range_same(case: &[u8], range: Range) -> bool {
+fn range_same(case: &[u8], counters: &[u32], energies: &[f64]) -> bool {
+    let mut work = [0.0; 24];
+    let range = range::loudness_range(
+        entries_of(case),
+        number_at(case, 0),
+        counters,
+        energies,
+        &mut work,
+    );
+    ranged_same(case, range) && work_same(case, &work)
+}
+
+fn ranged_same(case: &[u8], range: Range) -> bool {
     let code = fields::number_at(case, 300, 2);
     let low = fields::number_at(case, 302, 8);
     let high = fields::number_at(case, 310, 8);

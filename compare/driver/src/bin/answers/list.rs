@@ -1,11 +1,13 @@
-//! The fixed list that the proved program `replay` runs with no Rust at hand. Little-endian, sections
-//! to the end: u32 operation, u32 number of cases, u32 bytes a case, then the cases. Beside it, the
-//! lines that the program prints when every answer is the same. A new operation is a new function
-//! here or in a module below, and a line in `sections`.
+//! The fixed lists that the proved programs `replay`, `replay_filter` and `replay_records` run with no
+//! Rust at hand. Little-endian, sections to the end: u32 operation, u32 number of cases, u32 bytes a
+//! case, the operation's name in 20 bytes, then the cases. Beside each list, the lines that its program
+//! prints when every answer is the same. A new operation is a new function here or in a module below,
+//! and a line in `sections`.
 
 mod filter;
 mod histories;
 mod questions;
+mod records;
 
 use driver::energies::{self, above, below};
 use driver::oracle::{self, BOUNDARIES, ENERGIES};
@@ -15,6 +17,12 @@ const SEED: u64 = 128;
 const BINS: usize = 4096;
 const READINGS: usize = 2048;
 
+/// The bytes of an operation's name, spaces after it.
+const NAME: usize = 20;
+
+/// The programs, each with a list of its own.
+pub const PROGRAMS: [&str; 3] = ["replay", "replay_filter", "replay_records"];
+
 /// An operation's cases, under the name that the program prints.
 struct Section {
     operation: u32,
@@ -22,23 +30,33 @@ struct Section {
     cases: Vec<Vec<u8>>,
 }
 
-/// Operations are numbered from 1 in this order.
-fn sections() -> Vec<Section> {
-    let named = [
-        ("tables", tables()),
-        ("bins", bins()),
-        ("readings", readings()),
-        ("histogram adds", histories::histogram_adds()),
-        ("merges", histories::merges()),
-        ("queue adds", histories::queue_adds()),
-        ("questions", questions::questions()),
-        ("phases", filter::phases()),
-        ("filter calls", filter::calls()),
-        ("impulses", filter::impulses()),
-    ];
-    let numbered = (1..).zip(named);
-    numbered
-        .map(|(operation, (name, cases))| Section {
+/// What a program replays.
+fn sections(program: &str) -> Vec<Section> {
+    let named = match program {
+        "replay" => vec![
+            (1, "tables", tables()),
+            (2, "bins", bins()),
+            (3, "readings", readings()),
+            (4, "histogram adds", histories::histogram_adds()),
+            (5, "merges", histories::merges()),
+            (6, "queue adds", histories::queue_adds()),
+            (7, "questions", questions::questions()),
+        ],
+        "replay_filter" => vec![
+            (8, "phases", filter::phases()),
+            (9, "filter calls", filter::calls()),
+            (10, "impulses", filter::impulses()),
+        ],
+        _ => vec![
+            (11, "histogram reads", records::histogram_reads()),
+            (12, "histogram writes", records::histogram_writes()),
+            (13, "queue reads", records::queue_reads()),
+            (14, "queue writes", records::queue_writes()),
+        ],
+    };
+    named
+        .into_iter()
+        .map(|(operation, name, cases)| Section {
             operation,
             name,
             cases,
@@ -46,13 +64,17 @@ fn sections() -> Vec<Section> {
         .collect()
 }
 
-pub fn bytes() -> Vec<u8> {
-    sections().iter().flat_map(Section::bytes).collect()
-}
-
-pub fn lines() -> String {
-    let line = |section: &Section| format!("{} {} same\n", section.name, section.cases.len());
-    sections().iter().map(line).collect()
+/// A program's list, and what it prints over it.
+pub fn list_and_lines(program: &str) -> (Vec<u8>, String) {
+    let sections = sections(program);
+    let line = |section: &Section| {
+        let (name, cases) = (section.name, section.cases.len());
+        format!("{name:NAME$}{cases} same\n")
+    };
+    (
+        sections.iter().flat_map(Section::bytes).collect(),
+        sections.iter().map(line).collect(),
+    )
 }
 
 impl Section {
@@ -62,7 +84,9 @@ impl Section {
         assert!(self.cases.iter().all(|case| case.len() == size));
         let head = [self.operation, self.cases.len() as u32, size as u32];
         let head = head.iter().flat_map(|number| number.to_le_bytes());
-        head.chain(self.cases.concat()).collect()
+        let name = format!("{:NAME$}", self.name).into_bytes();
+        assert!(name.len() == NAME && name.ends_with(b" "));
+        head.chain(name).chain(self.cases.concat()).collect()
     }
 }
 

@@ -33,44 +33,14 @@ float-of-requires c κs = search needs
 add-requires : tie.Need-add-requires Inv-loop μ-loop
 add-requires c κs = search needs
 
-number-of-requires : tie.Need-number-of-requires Inv-loop μ-loop
-number-of-requires c κs = search needs
-
-add-number-at : tie.Need-add-number-at Inv-loop μ-loop
-add-number-at c = search needs
-
-number-at-requires-5 : tie.Need-number-at-requires-5 Inv-loop μ-loop
-number-at-requires-5 c κs = search needs
+queued-same-requires : tie.Need-queued-same-requires Inv-loop μ-loop
+queued-same-requires c κs = search needs
 
 same-length : tie.Need-same-length Inv-loop μ-loop
 same-length c = search needs
 
 returns : tie.Need-returns Inv-loop μ-loop
 returns c = search needs
-
-add-number-at-2 : tie.Need-add-number-at-2 Inv-loop μ-loop
-add-number-at-2 c = search needs
-
-number-at-requires-6 : tie.Need-number-at-requires-6 Inv-loop μ-loop
-number-at-requires-6 c κs = search needs
-
-same-length-2 : tie.Need-same-length-2 Inv-loop μ-loop
-same-length-2 c = search needs
-
-returns-2 : tie.Need-returns-2 Inv-loop μ-loop
-returns-2 c = search needs
-
-add-number-at-3 : tie.Need-add-number-at-3 Inv-loop μ-loop
-add-number-at-3 c = search needs
-
-number-at-requires-7 : tie.Need-number-at-requires-7 Inv-loop μ-loop
-number-at-requires-7 c κs = search needs
-
-same-length-3 : tie.Need-same-length-3 Inv-loop μ-loop
-same-length-3 c = search needs
-
-returns-3 : tie.Need-returns-3 Inv-loop μ-loop
-returns-3 c = search needs
 
 add-at : tie.Need-add-at Inv-loop μ-loop
 add-at c = search needs
@@ -81,11 +51,11 @@ loop-less c = search needs
 loop-again : tie.Need-loop-again Inv-loop μ-loop
 loop-again c = search needs
 
-same-length-4 : tie.Need-same-length-4 Inv-loop μ-loop
-same-length-4 c = search needs
+same-length-2 : tie.Need-same-length-2 Inv-loop μ-loop
+same-length-2 c = search needs
 
-returns-4 : tie.Need-returns-4 Inv-loop μ-loop
-returns-4 c = search needs
+returns-2 : tie.Need-returns-2 Inv-loop μ-loop
+returns-2 c = search needs
 
 pub all-queued-spec : {M : Type 1} → statement M
 all-queued-spec =
@@ -100,21 +70,11 @@ all-queued-spec =
     number-at-requires-4
     float-of-requires
     add-requires
-    number-of-requires
-    add-number-at
-    number-at-requires-5
+    queued-same-requires
     same-length
     returns
-    add-number-at-2
-    number-at-requires-6
-    same-length-2
-    returns-2
-    add-number-at-3
-    number-at-requires-7
-    same-length-3
-    returns-3
     add-at
     loop-less
     loop-again
-    same-length-4
-    returns-4)
+    same-length-2
+    returns-2)

@@ -1,6 +1,5 @@
-//! The cases of the filter. NaN stands in one pattern only, since a
-//! proved program keeps no payload. The answers are document 01's words; where the Rust can be brought to
-//! a case, it has to answer the same.
+//! The cases of the filter. NaN stands in one pattern only, since a proved program keeps no payload. The
+//! answers are document 01's words; where the Rust can be brought to a case, it has to answer the same.
 
 use driver::filters;
 use driver::rng::{pick, Rng};
@@ -13,6 +12,9 @@ use super::SEED;
 const PHASES: usize = 256;
 const CALLS: usize = 128;
 const IMPULSES: usize = 32;
+
+/// The samples of the longest impulse.
+const LONGEST: usize = 1024;
 
 const CHANNELS: usize = 3;
 const SAMPLES: usize = 12;
@@ -75,30 +77,33 @@ pub fn calls() -> Vec<Vec<u8>> {
     let mut rng = Rng::new(SEED);
     (0..CALLS)
         .map(|i| match i % 2 {
-            0 => call::<i16>(i, 0, &mut rng),
-            _ => call::<f32>(i, 1, &mut rng),
+            0 => call::<i16>(i, &mut rng),
+            _ => call::<f32>(i, &mut rng),
         })
         .collect()
 }
 
 /// A sample in the list's four bytes.
 trait Listed: Kind {
+    const KIND: usize;
     fn pattern(self) -> u32;
 }
 
 impl Listed for i16 {
+    const KIND: usize = 0;
     fn pattern(self) -> u32 {
         u32::from(self as u16)
     }
 }
 
 impl Listed for f32 {
+    const KIND: usize = 1;
     fn pattern(self) -> u32 {
         if self.is_nan() { f32::NAN } else { self }.to_bits()
     }
 }
 
-fn call<T: Listed>(i: usize, kind: usize, rng: &mut Rng) -> Vec<u8> {
+fn call<T: Listed>(i: usize, rng: &mut Rng) -> Vec<u8> {
     let mut channels = 1 + rng.below(3) as usize;
     let seed = rng.below(4) == 0;
     let rate = pick(&[8_000, 44_100, 95_999, 96_000, 191_999, 192_000], rng);
@@ -148,24 +153,39 @@ fn call<T: Listed>(i: usize, kind: usize, rng: &mut Rng) -> Vec<u8> {
     if silent && number == 0 {
         rust_agrees(&call, seed, &after, &dest);
     }
-    dest.resize(PLACES, 0.0);
+    listed(&call, seed, places, &before, number, &after, &dest)
+}
 
+/// A call and its answers, in the list's form.
+fn listed<T: Listed>(
+    call: &Call<T>,
+    seed: bool,
+    places: usize,
+    before: &Kept,
+    number: u8,
+    after: &Kept,
+    dest: &[f64],
+) -> Vec<u8> {
     let mut case = Vec::new();
+    let on = usize::from(call.on);
+    put_short(&mut case, &[usize::from(seed), T::KIND, call.channels, on]);
+    case.extend(call.rate.to_le_bytes());
     put_short(
         &mut case,
-        &[usize::from(seed), kind, channels, usize::from(on)],
+        &[call.data.len(), call.map.len(), places, call.start],
     );
-    case.extend(rate.to_le_bytes());
-    put_short(&mut case, &[data.len(), map.len(), places, start]);
-    let mut patterns: Vec<u32> = data.iter().map(|sample| sample.pattern()).collect();
+    let mut patterns: Vec<u32> = call.data.iter().map(|sample| sample.pattern()).collect();
     patterns.resize(SAMPLES, 0);
     case.extend(patterns.iter().flat_map(|pattern| pattern.to_le_bytes()));
+    let mut map = call.map.to_vec();
     map.resize(MAP, 0);
     case.extend(map);
-    put_wide(&mut case, &[a, b].concat());
-    put_kept(&mut case, &before);
+    put_wide(&mut case, &[call.a, call.b].concat());
+    put_kept(&mut case, before);
     put_short(&mut case, &[usize::from(number)]);
-    put_kept(&mut case, &after);
+    put_kept(&mut case, after);
+    let mut dest = dest.to_vec();
+    dest.resize(PLACES, 0.0);
     put_wide(&mut case, &dest);
     case
 }
@@ -215,9 +235,10 @@ fn rust_agrees<T: Kind>(call: &Call<T>, seed: bool, after: &Kept, dest: &[f64]) 
     assert!(all(&written, dest));
 }
 
-/// `impulses`: one channel, one i16 sample and then zeros, from silence. u32 rate, u16 switches, u16
-/// sample, u16 zeros, of which there are at most 1,023; u64 patterns of a and b; then u64 patterns of the
-/// last output and of the five states, u32 pattern of the true peak. Document 01's worked cases first.
+/// `impulses`: calls in the same form, of one channel from silence: one i16 sample and then zeros, at
+/// most 1,024 in all, of which the first 12 are listed. The destination has 1,024 places, and only the
+/// last output is listed, in the first of the 16; it goes to the last place. Document 01's worked cases
+/// first.
 pub fn impulses() -> Vec<Vec<u8>> {
     let mut rng = Rng::new(SEED);
     let worked = [
@@ -239,29 +260,21 @@ pub fn impulses() -> Vec<Vec<u8>> {
 }
 
 fn impulse((rate, on, sample, zeros): (u32, u8, i16, usize)) -> Vec<u8> {
-    let (a, b) = ([1.0, -0.5, 0.0, 0.0, 0.0], [1.0, 0.0, 0.0, 0.0, 0.0]);
     let mut data = vec![0; 1 + zeros];
     data[0] = sample;
-    let (mut kept, mut dest) = (Kept::new(1, 0.0), vec![0.0; data.len()]);
+    let before = Kept::new(1, MARK);
+    let (mut after, mut dest) = (before.clone(), vec![f64::from(MARK); LONGEST]);
     let call = Call {
         channels: 1,
         rate,
         on,
-        a,
-        b,
+        a: [1.0, -0.5, 0.0, 0.0, 0.0],
+        b: [1.0, 0.0, 0.0, 0.0, 0.0],
         data: &data,
         map: &[1],
-        start: 0,
+        start: LONGEST - data.len(),
     };
-    assert_eq!(call.process(&mut kept, &mut dest), 0);
-    let mut case = rate.to_le_bytes().to_vec();
-    put_short(
-        &mut case,
-        &[usize::from(on), usize::from(sample as u16), zeros],
-    );
-    put_wide(&mut case, &[a, b].concat());
-    put_wide(&mut case, &[dest[zeros]]);
-    put_wide(&mut case, &kept.state[..5]);
-    put_narrow(&mut case, &kept.true_peaks[..1]);
-    case
+    assert_eq!(call.process(&mut after, &mut dest), 0);
+    let last = &dest[LONGEST - 1..];
+    listed(&call, false, LONGEST, &before, 0, &after, last)
 }
