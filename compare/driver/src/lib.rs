@@ -4,10 +4,12 @@
 pub mod energies;
 pub mod filters;
 pub mod histories;
+pub mod libebur128;
 pub mod oracle;
 pub mod refusals;
 pub mod rng;
 pub mod sets;
 pub mod shown;
+pub mod signals;
 pub mod sounds;
 pub mod words;

@@ -16,6 +16,24 @@ pub const KIND: u8 = 13;
 pub const CONTENT: u8 = 14;
 pub const ROOM: u8 = 15;
 
+/// One of the checks of a refusal's number: document 01 gives most numbers for more than one reason.
+#[derive(Clone, Copy, Debug, PartialEq, Eq, PartialOrd, Ord)]
+pub struct Check {
+    pub number: u8,
+    pub why: &'static str,
+}
+
+impl Check {
+    pub const fn new(number: u8, why: &'static str) -> Self {
+        Check { number, why }
+    }
+}
+
+/// The number of the check that refuses, or 0.
+pub fn number(check: Option<Check>) -> u8 {
+    check.map_or(0, |check| check.number)
+}
+
 /// The name of a refusal.
 pub fn name(number: u8) -> &'static str {
     match number {

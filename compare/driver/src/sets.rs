@@ -4,11 +4,30 @@
 use ebur128::history::History;
 
 use crate::histories;
-use crate::refusals::{SET, STORE};
+use crate::oracle::ENERGIES;
+use crate::refusals::{self, Check, SET};
 use crate::words::{self, Queue};
 
 const HISTOGRAM: usize = 0;
 const QUEUE: usize = 1;
+
+/// The checks of SET. The first and the third are the header's: a set is five numbers an entry there.
+pub const UNEVEN: Check = Check::new(SET, "not five numbers an entry");
+pub const TOO_MANY: Check = Check::new(SET, "more than 16 histories");
+pub const NO_KIND: Check = Check::new(SET, "neither histogram nor queue");
+pub const OUTSIDE: Check = Check::new(SET, "reaches outside its slice");
+
+/// All that refuses a set. A queue cannot be unlike its store there: the store is as long as its maximum.
+pub const CHECKS: [Check; 8] = [
+    UNEVEN,
+    TOO_MANY,
+    NO_KIND,
+    OUTSIDE,
+    words::MAXIMUM,
+    words::HEAD,
+    words::HELD,
+    words::BELOW,
+];
 
 /// What a question is asked about on our side.
 #[derive(Clone, Debug, Default)]
@@ -49,37 +68,39 @@ impl Set {
         });
     }
 
-    /// The first refusal, or 0. Document 01: "SET comes first for every entry, then STORE entry by
-    /// entry."
+    /// The number of the first refusal, or 0.
     pub fn refusal(&self) -> u8 {
-        let entries = self.entries.chunks(5);
-        if self.entries.len() % 5 != 0 || entries.len() > 16 {
-            return SET;
-        }
-        if entries.clone().any(|entry| self.outside(entry)) {
-            return SET;
-        }
-        if entries.clone().all(|entry| self.sound(entry)) {
-            return 0;
-        }
-        STORE
+        refusals::number(self.check())
     }
 
-    fn outside(&self, entry: &[usize]) -> bool {
+    /// What refuses it. Document 01: "SET comes first for every entry, then STORE entry by entry."
+    pub fn check(&self) -> Option<Check> {
+        let mut entries = self.entries.chunks(5);
+        if self.entries.len() % 5 != 0 {
+            return Some(UNEVEN);
+        }
+        if entries.len() > 16 {
+            return Some(TOO_MANY);
+        }
+        let outside = entries.clone().find_map(|entry| self.outside(entry));
+        outside.or_else(|| entries.find_map(|entry| self.unsound(entry)))
+    }
+
+    fn outside(&self, entry: &[usize]) -> Option<Check> {
         let (length, reach) = match entry[0] {
             HISTOGRAM => (self.counters.len(), 1000),
             QUEUE => (self.energies.len(), entry[2]),
-            _ => return true,
+            _ => return Some(NO_KIND),
         };
-        entry[1].checked_add(reach).map_or(true, |end| end > length)
+        let end = entry[1].checked_add(reach);
+        end.map_or(true, |end| end > length).then_some(OUTSIDE)
     }
 
-    fn sound(&self, entry: &[usize]) -> bool {
-        if entry[0] == HISTOGRAM {
-            return true;
+    fn unsound(&self, entry: &[usize]) -> Option<Check> {
+        match entry[0] {
+            HISTOGRAM => None,
+            _ => self.queue(entry).check_held(),
         }
-        let queue = self.queue(entry);
-        queue.suits() && !queue.energies().into_iter().any(words::dropped)
     }
 
     fn queue(&self, entry: &[usize]) -> Queue {
@@ -108,6 +129,36 @@ impl Set {
             }
         }
         sums
+    }
+
+    /// Document 01's step 8: the relative threshold of all its histories, where they have blocks and their
+    /// sum is a number. "Each history gives count and sum (histogram: count times energy, bins upward; queue:
+    /// oldest first), added history by history from 0. Threshold = (sum / count) times the f64 nearest 1/10."
+    pub fn threshold(&self) -> Option<f64> {
+        let (mut count, mut sum) = (0, 0.0);
+        for entry in self.entries.chunks(5) {
+            let (more, energies) = match entry[0] {
+                HISTOGRAM => {
+                    let counters = &self.counters[entry[1]..entry[1] + 1000];
+                    let products = counters.iter().zip(&ENERGIES);
+                    let product = |(&count, energy): (&u32, &f64)| f64::from(count) * energy;
+                    let counted = counters.iter().map(|&count| u64::from(count)).sum();
+                    (counted, products.map(product).fold(0.0, |sum, x| sum + x))
+                }
+                _ => {
+                    let held = self.queue(entry).energies();
+                    (held.len() as u64, held.iter().fold(0.0, |sum, x| sum + x))
+                }
+            };
+            count += more;
+            sum += energies;
+        }
+        (count > 0 && !sum.is_nan()).then(|| sum / count as f64 * 0.1)
+    }
+
+    /// Whether it has a histogram.
+    pub fn has_histogram(&self) -> bool {
+        self.entries.chunks(5).any(|entry| entry[0] == HISTOGRAM)
     }
 
     /// Whether it has entries of both kinds.

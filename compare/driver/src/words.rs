@@ -6,7 +6,7 @@ pub mod range;
 pub mod records;
 
 use crate::oracle::{self, BOUNDARIES};
-use crate::refusals::{FULL, STORE};
+use crate::refusals::{Check, FULL, STORE};
 
 const LONGEST: usize = 36_000;
 
@@ -53,6 +53,13 @@ pub fn histogram_reset(counters: &mut [u32]) -> u8 {
     0
 }
 
+/// The checks of STORE on a queue.
+pub const MAXIMUM: Check = Check::new(STORE, "maximum outside 1..36,000");
+pub const UNLIKE: Check = Check::new(STORE, "maximum unlike its store");
+pub const HEAD: Check = Check::new(STORE, "head not below maximum");
+pub const HELD: Check = Check::new(STORE, "held above maximum");
+pub const BELOW: Check = Check::new(STORE, "a held energy below boundary 0");
+
 /// A queue over its store.
 #[derive(Clone, Debug)]
 pub struct Queue {
@@ -64,10 +71,28 @@ pub struct Queue {
 
 impl Queue {
     pub fn suits(&self) -> bool {
-        (1..=LONGEST).contains(&self.maximum)
-            && self.maximum == self.store.len()
-            && self.head < self.maximum
-            && self.held <= self.maximum
+        self.check().is_none()
+    }
+
+    /// Which of a queue's rules is broken.
+    pub fn check(&self) -> Option<Check> {
+        if !(1..=LONGEST).contains(&self.maximum) {
+            Some(MAXIMUM)
+        } else if self.maximum != self.store.len() {
+            Some(UNLIKE)
+        } else if self.head >= self.maximum {
+            Some(HEAD)
+        } else if self.held > self.maximum {
+            Some(HELD)
+        } else {
+            None
+        }
+    }
+
+    /// The same, and "in a question or writer, a held energy below boundary 0".
+    pub fn check_held(&self) -> Option<Check> {
+        let below = || self.energies().into_iter().any(dropped).then_some(BELOW);
+        self.check().or_else(below)
     }
 
     /// The held energies, oldest first.
@@ -79,8 +104,8 @@ impl Queue {
     /// "A new energy goes to place (head + held) mod maximum; a full queue drops its oldest, and head
     /// moves on by one, mod maximum. Other places stay."
     pub fn add(&mut self, energy: f64) -> u8 {
-        if !self.suits() {
-            return STORE;
+        if let Some(check) = self.check() {
+            return check.number;
         }
         if dropped(energy) {
             return 0;

@@ -4,7 +4,7 @@
 
 use std::sync::OnceLock;
 
-use crate::refusals::{CHANNELS, DEST, MAP, SAMPLES};
+use crate::refusals::{self, Check, CHANNELS, DEST, MAP, SAMPLES};
 
 /// "Steps 3, 4 and 6 are switched on separately": the switches of a call, added up.
 pub const LOUDNESS: u8 = 1;
@@ -12,6 +12,20 @@ pub const SAMPLE_PEAK: u8 = 2;
 pub const TRUE_PEAK: u8 = 4;
 
 pub const MOST_CHANNELS: usize = 8;
+
+/// The checks of both calls, and those of `process` alone.
+pub const CHECKS: [Check; 5] = [
+    Check::new(CHANNELS, "none"),
+    Check::new(CHANNELS, "above 8"),
+    Check::new(SAMPLES, "not whole frames"),
+    Check::new(MAP, "another length"),
+    Check::new(MAP, "a byte neither 0 nor 1"),
+];
+pub const DEST_CHECKS: [Check; 3] = [
+    Check::new(DEST, "empty"),
+    Check::new(DEST, "not a multiple of channels"),
+    Check::new(DEST, "start + frames past its part"),
+];
 
 /// The samples before a frame's own that 24 taps reach.
 pub const PAST: usize = 23;
@@ -99,10 +113,9 @@ impl<T: Sample> Call<'_, T> {
 
     /// The numbers of `process`, and all that it alters.
     pub fn process(&self, kept: &mut Kept, dest: &mut [f64]) -> u8 {
-        match self.refusal() {
-            0 if self.is_on(LOUDNESS) && self.lacks_room(dest.len()) => return DEST,
-            0 => {}
-            number => return number,
+        let number = refusals::number(self.check_process(dest.len()));
+        if number != 0 {
+            return number;
         }
         if self.is_on(SAMPLE_PEAK) {
             self.sample_peak(&mut kept.peaks);
@@ -121,7 +134,7 @@ impl<T: Sample> Call<'_, T> {
 
     /// "`seed` moves filter and interpolator state and writes no peak and no destination."
     pub fn seed(&self, kept: &mut Kept) -> u8 {
-        let number = self.refusal();
+        let number = refusals::number(self.check_seed());
         if number != 0 {
             return number;
         }
@@ -134,23 +147,42 @@ impl<T: Sample> Call<'_, T> {
         0
     }
 
-    fn refusal(&self) -> u8 {
-        if self.channels == 0 || self.channels > MOST_CHANNELS {
-            CHANNELS
-        } else if self.data.len() % self.channels != 0 {
-            SAMPLES
-        } else if self.map.len() != self.channels || self.map.iter().any(|&byte| byte > 1) {
-            MAP
-        } else {
+    /// What refuses `seed`: the first of the checks that holds.
+    pub fn check_seed(&self) -> Option<Check> {
+        let first = if self.channels == 0 {
             0
-        }
+        } else if self.channels > MOST_CHANNELS {
+            1
+        } else if self.data.len() % self.channels != 0 {
+            2
+        } else if self.map.len() != self.channels {
+            3
+        } else if self.map.iter().any(|&byte| byte > 1) {
+            4
+        } else {
+            return None;
+        };
+        Some(CHECKS[first])
     }
 
-    /// "The destination is empty, not a multiple of channels, or start + frames exceeds its per-channel
-    /// part."
-    fn lacks_room(&self, places: usize) -> bool {
-        let end = self.start as u128 + self.frames() as u128;
-        places == 0 || places % self.channels != 0 || end > (places / self.channels) as u128
+    /// What refuses `process` with a destination of so many places: with loudness on, "the destination is
+    /// empty, not a multiple of channels, or start + frames exceeds its per-channel part."
+    pub fn check_process(&self, places: usize) -> Option<Check> {
+        self.check_seed().or_else(|| {
+            let end = || self.start as u128 + self.frames() as u128;
+            let first = if !self.is_on(LOUDNESS) {
+                return None;
+            } else if places == 0 {
+                0
+            } else if places % self.channels != 0 {
+                1
+            } else if end() > (places / self.channels) as u128 {
+                2
+            } else {
+                return None;
+            };
+            Some(DEST_CHECKS[first])
+        })
     }
 
     /// Step 3: "Per channel, unused ones too: start at 0, take the largest absolute value; NaN never

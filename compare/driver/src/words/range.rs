@@ -24,22 +24,48 @@ pub fn of_counters(counters: &[u64; 1000]) -> Option<(f64, f64)> {
     if blocks == 0 {
         return None;
     }
-    let bins = counters.iter().zip(&ENERGIES);
-    let sum = bins.fold(0.0, |sum, (&count, energy)| sum + count as f64 * energy);
-    let below: u64 = counters[..start(0.01 * (sum / blocks as f64))].iter().sum();
+    let below: u64 = counters[..start(gate_of_counters(counters))].iter().sum();
     let (low, high) = ranks((blocks - below).checked_sub(1)?);
     let energy = |rank| ENERGIES[first_past(counters, rank + below)];
     Some((energy(low), energy(high)))
 }
 
-/// Where a gate starts in a histogram.
+/// Where a gate starts in a histogram: "from the threshold's bin, or the next if the threshold is above that
+/// bin's energy; below boundary 0 from bin 0; the start may be 1000."
 fn start(gate: f64) -> usize {
     let bin = oracle::bin(gate);
-    if gate < BOUNDARIES[0] {
-        0
-    } else {
-        bin + usize::from(gate > ENERGIES[bin])
+    match starting(gate) {
+        BELOW => 0,
+        NEXT | LAST => bin + 1,
+        _ => bin,
     }
+}
+
+/// Which of these it is.
+pub const BELOW: &str = "gate below boundary 0, from bin 0";
+pub const OWN: &str = "gate not above its bin's energy, from that bin";
+pub const NEXT: &str = "gate above its bin's energy, from the next bin";
+pub const LAST: &str = "gate above the last energy, from 1000";
+
+pub fn starting(gate: f64) -> &'static str {
+    let bin = oracle::bin(gate);
+    if gate < BOUNDARIES[0] {
+        BELOW
+    } else if gate <= ENERGIES[bin] {
+        OWN
+    } else if bin < 999 {
+        NEXT
+    } else {
+        LAST
+    }
+}
+
+/// The gate of a range of histograms with blocks, which a mean of their energies keeps below 1000.
+pub fn gate_of_counters(counters: &[u64; 1000]) -> f64 {
+    let blocks: u64 = counters.iter().sum();
+    let bins = counters.iter().zip(&ENERGIES);
+    let sum = bins.fold(0.0, |sum, (&count, energy)| sum + count as f64 * energy);
+    0.01 * (sum / blocks as f64)
 }
 
 /// The first bin whose running count passes the rank.

@@ -8,6 +8,7 @@ mod histories;
 mod questions;
 mod records;
 
+use std::hint::black_box;
 use std::time::Instant;
 
 use driver::energies;
@@ -15,15 +16,17 @@ use driver::rng::Rng;
 
 const ROUNDS: usize = 41;
 
+/// One round of so many has libebur128 in it: its true peak takes longer than all the rest.
+const IN_C: usize = 4;
+
 /// The energies of a round.
 const ITEMS: usize = 100_000;
 
 pub fn run(seed: u64) {
-    println!("the best of {ROUNDS} rounds, sides alternating");
-    println!(
-        "{:<54} {:>12} {:>12} {:>9}",
-        "nanoseconds an item", "ours", "the Rust", "ours/Rust"
-    );
+    let in_c = (ROUNDS + IN_C - 1) / IN_C;
+    println!("the best of {ROUNDS} rounds, {in_c} of libebur128's, sides alternating\n");
+    println!("| nanoseconds an item | ours | the Rust | libebur128 | ours/Rust |");
+    println!("|---|---:|---:|---:|---:|");
     let mut rng = Rng::new(seed);
     let spread: Vec<f64> = (0..ITEMS)
         .map(|_| energies::log_uniform(&mut rng))
@@ -41,15 +44,42 @@ pub fn run(seed: u64) {
     filter::run(&mut rng);
 }
 
-/// Times both sides, which each do `items` items a call, and prints the row.
-fn row(name: &str, items: usize, mut ours: impl FnMut(), mut rust: impl FnMut()) {
-    let mut best = [f64::INFINITY; 2];
-    for _ in 0..ROUNDS {
+/// As `row_in_c`, where libebur128 has no such function.
+fn row(name: &str, items: usize, ours: impl FnMut(), rust: impl FnMut()) {
+    row_in_c(name, items, ours, rust, None::<fn()>);
+}
+
+/// Times all sides, which each do `items` items a call, and prints the row; a dash where there is no third
+/// side.
+fn row_in_c(
+    name: &str,
+    items: usize,
+    mut ours: impl FnMut(),
+    mut rust: impl FnMut(),
+    mut c: Option<impl FnMut()>,
+) {
+    let mut best = [f64::INFINITY; 3];
+    for round in 0..ROUNDS {
         best[0] = best[0].min(timed(&mut ours));
         best[1] = best[1].min(timed(&mut rust));
+        match &mut c {
+            Some(c) if round % IN_C == 0 => best[2] = best[2].min(timed(c)),
+            _ => {}
+        }
     }
-    let [ours, rust] = best.map(|time| time / items as f64);
-    println!("{name:<54} {ours:>12.2} {rust:>12.2} {:>9.2}", ours / rust);
+    let [ours, rust, in_c] = best.map(|time| time / items as f64);
+    let in_c = c.map_or("-".to_string(), |_| format!("{in_c:.2}"));
+    println!(
+        "| {name} | {ours:.2} | {rust:.2} | {in_c} | {:.2} |",
+        ours / rust
+    );
+}
+
+/// Asks so many times.
+fn asked<T>(times: usize, question: impl Fn() -> T) {
+    for _ in 0..times {
+        black_box(question());
+    }
 }
 
 /// Nanoseconds of one round.

@@ -1,5 +1,6 @@
 //! The comparison: one function an operation, each a stream of cases that ends at the first difference.
 
+mod audio;
 mod bins;
 mod filter;
 mod gate;
@@ -10,114 +11,134 @@ mod queue;
 mod range;
 mod records;
 mod sets;
+mod tally;
 mod true_peak;
 
-use std::fmt::{self, Debug};
+use std::panic;
+use std::sync::atomic::{AtomicUsize, Ordering};
+use std::sync::Mutex;
+use std::thread;
+use std::time::{Duration, Instant};
 
 use driver::energies;
-use driver::refusals;
 use driver::rng::Rng;
 
-/// The first case on which the two sides part, or a comparison that did not reach what it should.
-pub struct Difference(String);
+use tally::{Difference, Operation};
 
-impl fmt::Display for Difference {
-    fn fmt(&self, f: &mut fmt::Formatter<'_>) -> fmt::Result {
-        f.write_str(&self.0)
+/// One operation, or several that are asked about the same inputs, with its name for the command line.
+type Job = (&'static str, fn(u64) -> Result<(), Difference>);
+
+/// The longest first, so that the threads of a round end at about the same time.
+const CHECKS: &[Job] = &[
+    ("audio", audio::run),
+    ("filter", filter::run),
+    ("queue", queue::run),
+    ("gate", gate::run),
+    ("true_peak", true_peak::run),
+    ("range", range::run),
+    ("histogram", histogram::run),
+    ("interp", interp::run),
+    ("interleaved", interleaved::run),
+    ("bins", bins::run),
+    ("records", records::run),
+];
+
+/// How long to compare: so much time, as near as whole rounds come to it, or until so many inputs were the
+/// same.
+pub enum Length {
+    Time(Duration),
+    Cases(u64),
+}
+
+pub struct Plan {
+    /// The checks of a round, by their places; all of them where this is empty.
+    only: Vec<usize>,
+    pub length: Length,
+    pub seed: u64,
+}
+
+impl Plan {
+    /// A minute of all checks.
+    pub fn new(seed: u64) -> Self {
+        Plan {
+            only: Vec::new(),
+            length: Length::Time(Duration::from_secs(60)),
+            seed,
+        }
+    }
+
+    /// Adds a check by its name, if there is one of that name.
+    pub fn add(&mut self, name: &str) -> bool {
+        let place = CHECKS.iter().position(|(check, _)| *check == name);
+        self.only.extend(place);
+        place.is_some()
+    }
+
+    fn checks(&self) -> Vec<Job> {
+        match self.only.is_empty() {
+            true => CHECKS.to_vec(),
+            false => self.only.iter().map(|&place| CHECKS[place]).collect(),
+        }
     }
 }
 
-pub fn run(seed: u64) -> Result<(), Difference> {
-    bins::run(seed)?;
-    histogram::run(seed)?;
-    queue::run(seed)?;
-    gate::run(seed)?;
-    range::run(seed)?;
-    records::run(seed)?;
-    interleaved::run(seed)?;
-    interp::run(seed)?;
-    true_peak::run(seed)?;
-    filter::run(seed)
+/// The names that `Plan::add` knows.
+pub fn names() -> String {
+    let names: Vec<&str> = CHECKS.iter().map(|(name, _)| *name).collect();
+    names.join(" ")
 }
 
-/// An operation under comparison, the cases that were the same so far, and how often each refusal
-/// was given.
-struct Operation {
-    name: &'static str,
-    cases: usize,
-    refused: [usize; 16],
+/// Rounds of all checks, each with a seed of its own: a round that differs is run again by its seed. At
+/// least one is run, and all are run to their end, so a number of cases gives the same run every time.
+pub fn run(plan: &Plan) -> Result<(), Difference> {
+    let (start, checks) = (Instant::now(), plan.checks());
+    for number in 0.. {
+        let seed = plan.seed.wrapping_add(number);
+        let began = Instant::now();
+        let before = tally::cases();
+        round(&checks, seed, number == 0)?;
+        let (all, seconds) = (tally::cases(), began.elapsed().as_secs_f64());
+        let cases = tally::grouped(all - before);
+        println!(
+            "round {}, seed {seed}: {cases} same, {seconds:.0} s",
+            number + 1
+        );
+        let done = match plan.length {
+            Length::Time(time) => start.elapsed() + began.elapsed() / 2 >= time,
+            Length::Cases(cases) => all >= cases,
+        };
+        if done {
+            break;
+        }
+    }
+    tally::table()
 }
 
-impl Operation {
-    fn new(name: &'static str) -> Self {
-        Operation {
-            name,
-            cases: 0,
-            refused: [0; 16],
-        }
-    }
-
-    fn case<T: PartialEq + Debug>(
-        &mut self,
-        input: impl FnOnce() -> String,
-        ours: T,
-        expected: T,
-    ) -> Result<(), Difference> {
-        if ours != expected {
-            return self.differs(input(), format!("ours {ours:?}, expected {expected:?}"));
-        }
-        self.cases += 1;
-        Ok(())
-    }
-
-    /// As `case`, of a code; a refusal's number is counted.
-    fn answer(
-        &mut self,
-        input: impl FnOnce() -> String,
-        ours: u8,
-        expected: u8,
-    ) -> Result<(), Difference> {
-        self.case(input, ours, expected)?;
-        if let Some(times) = self.refused.get_mut(usize::from(ours)) {
-            *times += 1;
-        }
-        Ok(())
-    }
-
-    /// A fact about the case at hand, which is not counted as another.
-    fn also(
-        &mut self,
-        input: impl FnOnce() -> String,
-        what: &str,
-        holds: bool,
-    ) -> Result<(), Difference> {
-        if holds {
-            return Ok(());
-        }
-        self.differs(input(), format!("not as expected: {what}"))
-    }
-
-    fn differs(&self, input: String, how: String) -> Result<(), Difference> {
-        let (name, cases) = (self.name, self.cases);
-        Err(Difference(format!(
-            "{name} DIFFERS after {cases} same, at {input}: {how}"
-        )))
-    }
-
-    /// Prints the operation's line; each of these refusals has to have been seen.
-    fn same(self, remark: &str, refusals: &[u8]) -> Result<(), Difference> {
-        let mut remarks = vec![remark.to_string()];
-        for &number in refusals {
-            let times = self.refused[usize::from(number)];
-            if times == 0 {
-                let name = refusals::name(number);
-                return Err(Difference(format!("{} never saw {name}", self.name)));
+/// Every check once, as many side by side as there are processors.
+fn round(checks: &[Job], seed: u64, shown: bool) -> Result<(), Difference> {
+    let next = AtomicUsize::new(0);
+    let first: Mutex<Option<Difference>> = Mutex::new(None);
+    let work = || {
+        while let Some((name, check)) = checks.get(next.fetch_add(1, Ordering::Relaxed)) {
+            let began = Instant::now();
+            let answer = panic::catch_unwind(|| check(seed));
+            let answer = answer.unwrap_or_else(|_| Err(Difference("it panicked".to_string())));
+            if let Err(difference) = answer {
+                let again = format!("\nrun it again: compare/run {name} 1 --seed {seed}");
+                let mut first = first.lock().expect("no thread panics");
+                first.get_or_insert(Difference(format!("{name}: {difference}{again}")));
+                next.store(checks.len(), Ordering::Relaxed);
+            } else if shown {
+                println!("{name}: same, {:.1} s", began.elapsed().as_secs_f64());
             }
-            remarks.push(format!("{} {times}", refusals::name(number)));
         }
-        println!("{} {} same ({})", self.name, self.cases, remarks.join(", "));
-        Ok(())
-    }
+    };
+    let threads = thread::available_parallelism().map_or(1, usize::from);
+    thread::scope(|scope| (0..threads).for_each(|_| drop(scope.spawn(work))));
+    first
+        .into_inner()
+        .expect("no thread panics")
+        .map_or(Ok(()), Err)
 }
 
 fn shown(energy: f64) -> String {

@@ -4,12 +4,13 @@
 use std::hint::black_box;
 
 use driver::filters;
+use driver::libebur128::{self, Frames, MODE_M, MODE_SAMPLE_PEAK, MODE_TRUE_PEAK};
 use driver::rng::Rng;
 use driver::sounds::{self, Kind, Sound};
 use driver::words::filter::{Call, Kept, LOUDNESS, SAMPLE_PEAK, TRUE_PEAK};
-use ebur128::Interleaved;
+use ebur128::{Channel, Interleaved};
 
-use super::row;
+use super::row_in_c;
 use crate::ours::filter::Lent;
 
 /// What is measured, with which switches, and at which rates: only the true peak has another factor at
@@ -44,9 +45,19 @@ pub fn run(rng: &mut Rng) {
     }
 }
 
-/// A row of so many calls to a second, nanoseconds a sample. Nothing of it is known to either side before.
+/// libebur128's mode for these switches. Its peaks have the weighting in them, and its true peak the sample
+/// peak.
+fn mode(on: u8) -> std::ffi::c_int {
+    match on {
+        LOUDNESS => MODE_M,
+        SAMPLE_PEAK => MODE_SAMPLE_PEAK,
+        _ => MODE_TRUE_PEAK,
+    }
+}
+
+/// A row of so many calls to a second, nanoseconds a sample. Nothing of it is known to any side before.
 #[inline(never)]
-fn second<T: Kind + Lent>(
+fn second<T: Kind + Lent + Frames>(
     name: &str,
     on: u8,
     rate: u32,
@@ -63,8 +74,12 @@ fn second<T: Kind + Lent>(
     let mut dest = vec![0.0; data.len()];
     let mut rust_dest = dest.clone();
     let rust_map = filters::map(&map);
+    let mut in_c = libebur128::Meter::new(channels, rate, mode(on));
+    if let Some(in_c) = &mut in_c {
+        (0..channels).for_each(|c| in_c.set_channel(c, Channel::Center));
+    }
     let parts = || data.chunks(data.len() / calls).enumerate();
-    row(
+    row_in_c(
         name,
         data.len(),
         || {
@@ -94,5 +109,12 @@ fn second<T: Kind + Lent>(
                 );
             }
         },
+        in_c.as_mut().map(|in_c| {
+            || {
+                for (_, data) in parts() {
+                    T::add(in_c, black_box(data));
+                }
+            }
+        }),
     );
 }

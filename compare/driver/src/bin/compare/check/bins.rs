@@ -1,15 +1,15 @@
 //! Tables, bins and readings.
 
 use driver::oracle::{self, BOUNDARIES, ENERGIES};
-use driver::refusals::SCALE;
+use driver::refusals::{Check, SCALE};
 use driver::rng::Rng;
 
 use super::{inputs, shown, Difference, Operation};
 use crate::ours;
 
-const RANDOM_SEARCHES: usize = 10_000_000;
-const RANDOM_HISTORIES: usize = 50_000;
-const RANDOM_READINGS: usize = 500_000;
+const RANDOM_SEARCHES: usize = 3_300_000;
+const RANDOM_HISTORIES: usize = 17_000;
+const RANDOM_READINGS: usize = 170_000;
 
 pub fn run(seed: u64) -> Result<(), Difference> {
     tables()?;
@@ -25,33 +25,55 @@ fn tables() -> Result<(), Difference> {
     for (i, boundary) in BOUNDARIES.iter().enumerate() {
         let ours = ours::boundary(i).to_bits();
         op.case(|| format!("boundary {i}"), ours, boundary.to_bits())?;
+        op.saw("a boundary");
     }
     for (i, energy) in ENERGIES.iter().enumerate() {
         let ours = ours::energy(i).to_bits();
         op.case(|| format!("energy {i}"), ours, energy.to_bits())?;
+        op.saw("an energy");
     }
-    op.same("bit for bit", &[])
+    op.same("the Rust's, bit for bit", &[])
 }
 
 /// Past its end a table answers NaN, where the Rust would panic: the header's word, not the Rust's.
 fn past_the_end() -> Result<(), Difference> {
-    let mut op = Operation::new("tables past their end");
+    let mut op = Operation::new("tables").can(&["past the end"]);
     let far = [1002, 1 << 16, 1 << 32, usize::MAX / 8, usize::MAX];
     for i in [1001].into_iter().chain(far) {
         op.case(|| format!("boundary {i}"), ours::boundary(i).is_nan(), true)?;
+        op.saw("past the end");
     }
     for i in [1000, 1001].into_iter().chain(far) {
         op.case(|| format!("energy {i}"), ours::energy(i).is_nan(), true)?;
+        op.saw("past the end");
     }
-    op.same("all NaN", &[])
+    op.same("the header's NaN", &[])
+}
+
+/// Where an energy lies; none of these is left out.
+const WITHIN: &str = "within the table";
+const OUTSIDE: [&str; 3] = ["NaN", "below boundary 0", "at or above boundary 1000"];
+
+fn place(energy: f64) -> &'static str {
+    if energy.is_nan() {
+        OUTSIDE[0]
+    } else if energy < BOUNDARIES[0] {
+        OUTSIDE[1]
+    } else if energy >= BOUNDARIES[1000] {
+        OUTSIDE[2]
+    } else {
+        WITHIN
+    }
 }
 
 fn find_histogram_index(rng: &mut Rng) -> Result<(), Difference> {
-    let mut op = Operation::new("find_histogram_index");
+    let mut op = Operation::new("find_histogram_index").can(&[WITHIN]);
+    op = op.can(&OUTSIDE);
     let mut hit = [false; 1000];
     for energy in inputs(RANDOM_SEARCHES, rng) {
         let rust = oracle::bin(energy);
         op.case(|| shown(energy), ours::find_histogram_index(energy), rust)?;
+        op.saw(place(energy));
         hit[rust] = true;
     }
     let hit = hit.iter().filter(|&&hit| hit).count();
@@ -59,7 +81,7 @@ fn find_histogram_index(rng: &mut Rng) -> Result<(), Difference> {
         return Err(Difference(format!("only {hit} of 1000 bins were hit")));
     }
     op.same(
-        "the Rust's own loop, cut from history.rs; all 1000 bins hit",
+        "the Rust's own loop, cut from history.rs; all 1000 bins hit each round",
         &[],
     )
 }
@@ -73,13 +95,14 @@ fn find_histogram_index_through_history(rng: &mut Rng) -> Result<(), Difference>
         let ours = (!dropped).then(|| ours::find_histogram_index(energy));
         op.case(|| shown(energy), ours, history.bin(energy))?;
     }
-    op.same("through the Rust's History, one block each", &[])
+    op.same("the Rust's History, one block each", &[])
 }
 
 /// On a refusal `tenths` stays as it was.
 fn reading(rng: &mut Rng) -> Result<(), Difference> {
     const UNTOUCHED: i32 = 0x5E17_1E55;
-    let mut op = Operation::new("reading");
+    let scale = OUTSIDE.map(|why| Check::new(SCALE, why));
+    let mut op = Operation::new("reading").can(&scale);
     for energy in inputs(RANDOM_READINGS, rng) {
         let mut tenths = UNTOUCHED;
         let number = ours::reading(energy, &mut tenths);
@@ -89,6 +112,9 @@ fn reading(rng: &mut Rng) -> Result<(), Difference> {
         };
         op.answer(|| shown(energy), number, expected)?;
         op.also(|| shown(energy), "the tenths", tenths == written)?;
+        if number != 0 {
+            op.saw(Check::new(number, place(energy)));
+        }
     }
     op.same("document 01 over the Rust's own loop and tables", &[SCALE])
 }

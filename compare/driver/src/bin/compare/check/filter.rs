@@ -6,14 +6,52 @@ mod pair;
 mod runs;
 mod worked;
 
-use driver::words::filter::{Call, Kept, Sample};
+use std::any::type_name;
 
-use super::{same_floats, same_narrow, Difference};
+use driver::words::filter::{self, Call, Kept, Sample, LOUDNESS, SAMPLE_PEAK, TRUE_PEAK};
+
+use super::{same_floats, same_narrow, Difference, Operation};
 
 pub fn run(seed: u64) -> Result<(), Difference> {
     worked::run()?;
     runs::run(seed)?;
     any::run(seed)
+}
+
+/// What a rate is to the true peak.
+pub const FACTORS: [&str; 3] = ["factor 4", "factor 2", "no true peak at the rate"];
+
+pub fn factor(rate: u32) -> &'static str {
+    match filter::factor(rate) {
+        Some(4) => FACTORS[0],
+        Some(_) => FACTORS[1],
+        None => FACTORS[2],
+    }
+}
+
+/// How many samples there were in all calls.
+pub const SAMPLES: &str = "samples";
+
+/// A call that was not refused: its kind of sample, its factor, and each switch that is off.
+fn saw<T: Sample>(op: &mut Operation, call: &Call<T>) {
+    op.saw(type_name::<T>());
+    op.saw(factor(call.rate));
+    op.saw_times(SAMPLES, call.data.len() as u64);
+    for (switch, name) in OFF {
+        op.saw_times(name, u64::from(call.on & switch == 0));
+    }
+}
+
+const OFF: [(u8, &str); 3] = [
+    (LOUDNESS, "loudness off"),
+    (SAMPLE_PEAK, "sample peak off"),
+    (TRUE_PEAK, "true peak off"),
+];
+
+/// One of the two calls, with all that `saw` can see.
+fn operation(name: &'static str) -> Operation {
+    let op = Operation::new(name).can(&["i16", "f32"]).can(&FACTORS);
+    op.can(&OFF.map(|(_, name)| name))
 }
 
 /// What of all that passes from call to call is not the same on both sides, if anything.

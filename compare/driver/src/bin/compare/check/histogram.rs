@@ -4,7 +4,7 @@
 use driver::energies;
 use driver::histories;
 use driver::oracle::ENERGIES;
-use driver::refusals::{FULL, STORE};
+use driver::refusals::{Check, FULL, STORE};
 use driver::rng::Rng;
 use driver::words;
 use ebur128::history::History;
@@ -12,10 +12,10 @@ use ebur128::history::History;
 use super::{inputs, shown, Difference, Operation};
 use crate::ours;
 
-const RANDOM_ADDS: usize = 1_500_000;
-const RANDOM_MERGES: usize = 50_000;
-const RANDOM_RESETS: usize = 10_000;
-const DEALT: usize = 2_000;
+const RANDOM_ADDS: usize = 500_000;
+const RANDOM_MERGES: usize = 17_000;
+const RANDOM_RESETS: usize = 3_000;
+const DEALT: usize = 700;
 const OTHER_LENGTHS: [usize; 6] = [0, 1, 999, 1001, 2000, 36_000];
 
 pub fn run(seed: u64) -> Result<(), Difference> {
@@ -54,25 +54,46 @@ fn view(rng: &mut Rng) -> Result<(), Difference> {
         let expected = Some((count, count as f64 * energy));
         op.case(|| format!("{count} blocks in bin {bin}"), answer, expected)?;
     }
-    op.same("what it writes, History answers", &[])
+    op.same("what it writes, the Rust's History answers", &[])
+}
+
+/// What an add comes to that is not refused.
+const ADDED: [&str; 4] = [
+    "counted",
+    "dropped, below boundary 0",
+    "NaN, counted in bin 0",
+    "infinity, counted in bin 999",
+];
+
+fn added(energy: f64) -> &'static str {
+    ADDED[if energy.is_nan() {
+        2
+    } else if words::dropped(energy) {
+        1
+    } else if energy == f64::INFINITY {
+        3
+    } else {
+        0
+    }]
 }
 
 /// One long run of adds: after each, all counters are those of the Rust's histogram.
 fn adds(rng: &mut Rng) -> Result<(), Difference> {
-    let mut op = Operation::new("histogram_add");
+    let mut op = Operation::new("histogram_add").can(&ADDED);
     let mut counters = [0; 1000];
     let mut history = History::new(true, 0);
     for energy in inputs(RANDOM_ADDS, rng) {
         let number = ours::histogram_add(&mut counters, energy);
         history.add(energy);
         op.answer(|| shown(energy), number, 0)?;
+        op.saw(added(energy));
         let same = same_counters(&counters, &mut history);
         op.also(|| shown(energy), "the counters", same)?;
     }
     let hit = counters.iter().filter(|&&count| count > 0).count();
     op.also(String::new, "all bins hit", hit == 1000)?;
     op.same(
-        "all counters as the Rust's after each; all 1000 bins hit",
+        "the Rust's histogram, all counters after each; all 1000 bins hit each round",
         &[],
     )
 }
@@ -87,6 +108,7 @@ fn adds_to_full(rng: &mut Rng) -> Result<(), Difference> {
         op.answer(input, number, words::histogram_add(&mut expected, energy))?;
         op.also(input, "the counters", counters == expected)?;
         if number == 0 {
+            op.saw(added(energy));
             let mut history = histories::histogram(&given);
             history.add(energy);
             let same = same_counters(&counters, &mut history);
@@ -117,10 +139,14 @@ fn adds_to_full(rng: &mut Rng) -> Result<(), Difference> {
         try_one(random_counters(rng, length), energies::in_table(rng))?;
     }
     op.same(
-        "counters at 0, 1 and the last three; other lengths",
+        "document 01 and the Rust: counters at 0, 1 and the last three; other lengths",
         &[STORE, FULL],
     )
 }
+
+/// The checks of STORE in a merge.
+const INTO: Check = Check::new(STORE, "into is not 1,000 counters");
+const FROM: Check = Check::new(STORE, "from is not 1,000 counters");
 
 /// Merges one pair, and looks at all counters of both.
 fn merge_one(op: &mut Operation, into: &[u32], from: &[u32]) -> Result<(), Difference> {
@@ -128,11 +154,14 @@ fn merge_one(op: &mut Operation, into: &[u32], from: &[u32]) -> Result<(), Diffe
     let number = ours::histogram_merge(&mut counters, &lent);
     let input = || format!("into {into:?}, from {from:?}");
     op.answer(input, number, words::histogram_merge(&mut expected, from))?;
+    if number == STORE {
+        op.saw(if into.len() == 1000 { FROM } else { INTO });
+    }
     op.also(input, "the counters", counters == expected && lent == from)
 }
 
 fn merges(rng: &mut Rng) -> Result<(), Difference> {
-    let mut op = Operation::new("histogram_merge");
+    let mut op = Operation::new("histogram_merge").can(&[INTO, FROM]);
     for _ in 0..RANDOM_MERGES {
         let (into, from) = (random_counters(rng, 1000), random_counters(rng, 1000));
         merge_one(&mut op, &into, &from)?;
@@ -169,7 +198,7 @@ fn merges(rng: &mut Rng) -> Result<(), Difference> {
             merge_one(&mut op, &two, &one)?;
         }
     }
-    op.same("document 01; all counters of both", &[STORE, FULL])
+    op.same("document 01, all counters of both", &[STORE, FULL])
 }
 
 /// Energies dealt to two histograms that are then merged: the counters are those of the Rust's
@@ -194,7 +223,7 @@ fn merges_of_dealt(rng: &mut Rng) -> Result<(), Difference> {
         op.also(|| format!("deal {i}"), "the counters", same)?;
     }
     op.same(
-        "500 energies dealt to two, as the Rust's histogram of all",
+        "the Rust's histogram of all, 500 energies dealt to two",
         &[],
     )
 }
@@ -220,5 +249,5 @@ fn resets(rng: &mut Rng) -> Result<(), Difference> {
             op.also(input, "the Rust's counters", same)?;
         }
     }
-    op.same("all counters as the Rust's", &[STORE])
+    op.same("document 01 and the Rust, all counters", &[STORE])
 }

@@ -52,46 +52,31 @@ fn each<T: Kind + Shown>(asked: &mut Asked, rng: &mut Rng) -> Result<(), Differe
     Ok(())
 }
 
+/// What is seen beside answers and refusals: a split, an answer past the end, and what the Rust panics at.
+const SPLIT: &str = "a split";
+const PAST: &str = "past the end";
+const ASSERTED: &str = "an assert of the Rust";
+
 struct Asked {
     frames: Operation,
     samples: Operation,
-    /// Numbers of frames, and samples, that both sides answered.
-    counted: usize,
-    read: usize,
-    splits: usize,
-    past: usize,
-    /// What the Rust panics at.
-    asserted: usize,
 }
 
 impl Default for Asked {
     fn default() -> Self {
         Asked {
-            frames: Operation::new("interleaved frames"),
-            samples: Operation::new("interleaved sample"),
-            counted: 0,
-            read: 0,
-            splits: 0,
-            past: 0,
-            asserted: 0,
+            frames: Operation::new("interleaved frames").can(&[SPLIT]),
+            samples: Operation::new("interleaved sample").can(&[PAST, ASSERTED]),
         }
     }
 }
 
 impl Asked {
-    fn same(mut self) -> Result<(), Difference> {
-        let (splits, counted, read) = (self.splits, self.counted, self.read);
-        let (past, asserted) = (self.past, self.asserted);
-        let remark =
-            format!("as the Rust's frames and channels, {splits} splits; answered {counted}");
-        self.frames.same(&remark, &[CHANNELS, SAMPLES])?;
-        let also = "past the end was seen, and the Rust's asserts";
-        self.samples
-            .also(String::new, also, past > 0 && asserted > 0)?;
-        let remark = format!(
-            "{read} samples, as foreach_sample visits them; past the end {past}, {asserted} asserts of the Rust"
-        );
-        self.samples.same(&remark, &[CHANNELS, SAMPLES])
+    fn same(self) -> Result<(), Difference> {
+        let refusals = [CHANNELS, SAMPLES];
+        self.frames
+            .same("the Rust's frames and channels", &refusals)?;
+        self.samples.same("the Rust's foreach_sample", &refusals)
     }
 
     /// All that the whole shows, and both parts at every frame, the end and past it.
@@ -118,7 +103,7 @@ impl Asked {
             let (before, after) = taken(data, channels).split_at(at);
             self.same_part(&part(0, at), &before)?;
             self.same_part(&part(at, usize::MAX), &after)?;
-            self.splits += 1;
+            self.frames.saw(SPLIT);
         }
         // Past the end the Rust asserts; here the first part is the whole, and the second is empty.
         for at in [frames + 1, frames + 7, usize::MAX / channels] {
@@ -164,7 +149,7 @@ impl Asked {
         };
         let (before, _) = taken(data, channels).split_at(end.min(frames));
         let (_, rust) = before.split_at(first.min(end).min(frames));
-        self.splits += 1;
+        self.frames.saw(SPLIT);
         self.same_part(&part, &rust)
     }
 
@@ -182,7 +167,6 @@ impl Asked {
         self.frames.answer(input, number, 0)?;
         self.frames
             .also(input, "the number of frames", frames == rust.frames())?;
-        self.counted += 1;
         for channel in 0..rust.channels() {
             let mut visited = Vec::with_capacity(frames);
             rust.foreach_sample(channel, |&sample| visited.push(sample));
@@ -197,7 +181,6 @@ impl Asked {
                     sample.as_f64_raw() / T::MAX_AMPLITUDE,
                 )?;
             }
-            self.read += frames;
             for frame in [frames, usize::MAX] {
                 self.sample(part, channel, frame, PAST_THE_END, UNTOUCHED)?;
             }
@@ -237,7 +220,8 @@ impl Asked {
         let answer = T::sample_at(part, channel, frame, &mut ours);
         let input = || format!("channel {channel} of frame {frame} of {}", shown(part));
         self.samples.answer(input, answer, number)?;
-        self.past += usize::from(answer == PAST_THE_END);
+        self.samples
+            .saw_times(PAST, u64::from(answer == PAST_THE_END));
         self.samples
             .also(input, "the sample", same_float(ours, sample))
     }
@@ -249,7 +233,7 @@ impl Asked {
         rust: impl FnOnce() -> R,
     ) -> Result<(), Difference> {
         let panicked = panic::catch_unwind(AssertUnwindSafe(rust)).is_err();
-        self.asserted += usize::from(panicked);
+        self.samples.saw_times(ASSERTED, u64::from(panicked));
         self.samples.also(input, "the Rust asserts", panicked)
     }
 }

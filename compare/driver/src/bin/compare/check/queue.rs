@@ -3,21 +3,45 @@
 
 use driver::energies;
 use driver::histories::{self, Ballast};
-use driver::refusals::STORE;
+use driver::refusals::{Check, STORE};
 use driver::rng::Rng;
-use driver::words::Queue;
+use driver::words::{self, Queue};
 
 use super::{inputs, shown, Difference, Operation};
 use crate::ours;
 
-const RANDOM_RUNS: usize = 100_000;
-const RANDOM_STATES: usize = 300_000;
-const RANDOM_RULES: usize = 200_000;
+const RANDOM_RUNS: usize = 30_000;
+const RANDOM_STATES: usize = 100_000;
+const RANDOM_RULES: usize = 70_000;
 
 pub fn run(seed: u64) -> Result<(), Difference> {
     runs(&mut Rng::new(seed))?;
     states(&mut Rng::new(seed))?;
     rules(&mut Rng::new(seed))
+}
+
+/// What an add comes to that is not refused, and the checks that refuse one. A held energy below
+/// boundary 0 does not: an add looks at none.
+const ADDED: [&str; 4] = [
+    "put behind the newest",
+    "put, the oldest dropped",
+    "dropped, below boundary 0",
+    "NaN, put",
+];
+const CHECKS: [Check; 4] = [words::MAXIMUM, words::UNLIKE, words::HEAD, words::HELD];
+
+fn added(queue: &Queue, energy: f64) -> &'static str {
+    ADDED[if energy.is_nan() {
+        3
+    } else if words::dropped(energy) {
+        2
+    } else {
+        usize::from(queue.held == queue.maximum)
+    }]
+}
+
+fn operation() -> Operation {
+    Operation::new("queue_add").can(&ADDED).can(&CHECKS)
 }
 
 /// Adds on our side and in document 01's words, and looks at the numbers and the whole store.
@@ -32,6 +56,10 @@ fn add_both(op: &mut Operation, queue: &mut Queue, energy: f64) -> Result<(), Di
     );
     let given = (queue.maximum, queue.head, queue.held, queue.store.len());
     let input = || format!("(maximum, head, held, store) {given:?}, {}", shown(energy));
+    op.saw_check(queue.check());
+    if queue.suits() {
+        op.saw(added(queue, energy));
+    }
     op.answer(input, number, queue.add(energy))?;
     let numbers = (ours.head, ours.held) == (queue.head, queue.held);
     op.also(input, "head and held", numbers)?;
@@ -49,7 +77,7 @@ fn marked(maximum: usize) -> Vec<f64> {
 /// From an empty queue on, with energies of every kind.
 fn runs(rng: &mut Rng) -> Result<(), Difference> {
     let ballast = Ballast::new();
-    let mut op = Operation::new("queue_add");
+    let mut op = operation();
     for (maximum, random, look) in [
         (1, RANDOM_RUNS, 1),
         (2, RANDOM_RUNS, 1),
@@ -78,14 +106,17 @@ fn runs(rng: &mut Rng) -> Result<(), Difference> {
             }
         }
     }
-    op.same("maximum 1, 2, 3, 7, 100 and 36,000, from empty", &[])
+    op.same(
+        "document 01 and the Rust's queue: maximum 1, 2, 3, 7, 100 and 36,000, from empty",
+        &[],
+    )
 }
 
 /// One energy into a queue with any head and any number held: the Rust's is filled with the same
 /// energies first. These all lie within the table, so that it shows them all.
 fn states(rng: &mut Rng) -> Result<(), Difference> {
     let ballast = Ballast::new();
-    let mut op = Operation::new("queue_add");
+    let mut op = operation();
     for i in 0..RANDOM_STATES {
         let maximum = 1 + rng.below([1, 2, 3, 8, 40][i % 5]) as usize;
         let held = match rng.below(3) {
@@ -108,12 +139,15 @@ fn states(rng: &mut Rng) -> Result<(), Difference> {
         let same = ballast.shown(&rust) == Ballast::expected(&queue.energies());
         op.also(|| shown(energy), "what the Rust's queue shows", same)?;
     }
-    op.same("any head, any number held, one energy more", &[])
+    op.same(
+        "document 01 and the Rust's queue: any head, any number held, one energy more",
+        &[],
+    )
 }
 
 /// Numbers on both sides of each rule, with stores of every length.
 fn rules(rng: &mut Rng) -> Result<(), Difference> {
-    let mut op = Operation::new("queue_add");
+    let mut op = operation();
     let stores = [0, 1, 2, 7, 35_999, 36_000, 36_001];
     let pick = |rng: &mut Rng, near: usize| {
         let numbers = [
@@ -149,5 +183,8 @@ fn rules(rng: &mut Rng) -> Result<(), Difference> {
         let energy = specials[rng.below(specials.len() as u64) as usize];
         add_both(&mut op, &mut queue, energy)?;
     }
-    op.same("numbers around each rule, stores of 0 to 36,001", &[STORE])
+    op.same(
+        "document 01: numbers around each rule, stores of 0 to 36,001",
+        &[STORE],
+    )
 }

@@ -3,9 +3,9 @@
 //! logarithm, is the Rust's.
 
 use driver::energies;
-use driver::refusals::{MODE, ROOM, SET, STORE};
+use driver::refusals::{self, MODE, ROOM, SET, STORE};
 use driver::rng::Rng;
-use driver::sets::Set;
+use driver::sets::{self as histories, Set};
 use driver::words;
 use ebur128::energy_to_loudness;
 use ebur128::history::History;
@@ -13,9 +13,9 @@ use ebur128::history::History;
 use super::{same_float, sets, Difference, Operation, UNTOUCHED};
 use crate::ours::{self, NOTHING, NOT_A_NUMBER};
 
-const SO_MANY: usize = 6_000;
-const EDGES: usize = 50_000;
-const EXACT: usize = 200_000;
+const SO_MANY: usize = 2_100;
+const EDGES: usize = 17_000;
+const EXACT: usize = 70_000;
 
 pub fn run(seed: u64) -> Result<(), Difference> {
     let mut asked = Asked::new();
@@ -31,17 +31,24 @@ pub fn run(seed: u64) -> Result<(), Difference> {
     for _ in 0..EXACT {
         let (set, exact) = sets::range_gate_on_an_energy(rng);
         asked.range(&set, rng)?;
-        asked.exact += usize::from(exact);
+        asked.op.saw_times(EXACT_GATE, u64::from(exact));
     }
     asked.same()
 }
 
+/// What a range answers, and why it is nothing.
+const FOUND: &str = "Found";
+const NO_HISTORIES: &str = "Nothing: no histories";
+const NO_BLOCKS: &str = "Nothing: no blocks";
+const NONE_LEFT: &str = "Nothing: all energies below the gate";
+const NAN_HELD: &str = "NotANumber";
+/// Where the gate of histograms starts. From 1000 on it cannot: it is a hundredth of a mean of bins.
+const STARTS: [&str; 3] = [words::range::BELOW, words::range::OWN, words::range::NEXT];
+/// Sets whose gate falls on an energy.
+const EXACT_GATE: &str = "gate on an energy";
+
 struct Asked {
     op: Operation,
-    nothing: usize,
-    not_a_number: usize,
-    /// Sets whose gate falls on an energy.
-    exact: usize,
 }
 
 /// The number, the two energies, and what the work slice holds afterwards.
@@ -55,23 +62,24 @@ struct Answer {
 impl Asked {
     fn new() -> Self {
         Asked {
-            op: Operation::new("loudness_range"),
-            nothing: 0,
-            not_a_number: 0,
-            exact: 0,
+            op: Operation::new("loudness_range")
+                .can(&[FOUND, NO_HISTORIES, NO_BLOCKS, NONE_LEFT, NAN_HELD])
+                .can(&[EXACT_GATE])
+                .can(&STARTS)
+                .can(&histories::CHECKS),
         }
     }
 
     fn same(self) -> Result<(), Difference> {
-        let (nothing, nan, exact) = (self.nothing, self.not_a_number, self.exact);
-        let remark = format!(
-            "as the Rust's range; {exact} gates on an energy, nothing {nothing}, not a number {nan}"
-        );
-        self.op.same(&remark, &[SET, STORE, MODE, ROOM])
+        self.op.same(
+            "document 01's two energies, and the Rust's range of them",
+            &[SET, STORE, MODE, ROOM],
+        )
     }
 
     fn range(&mut self, set: &Set, rng: &mut Rng) -> Result<(), Difference> {
-        let refusal = set.refusal();
+        let check = set.check();
+        let refusal = refusals::number(check);
         let held = if refusal == 0 { set.held() } else { Vec::new() };
         // The work slice: as long as it has to be, longer, or now and then too short.
         let length = match rng.below(8) {
@@ -88,7 +96,20 @@ impl Asked {
         let expected = expected(set, refusal, held, ours.work.clone());
         ours.number = ours::loudness_range(set, &mut ours.work, &mut ours.low, &mut ours.high);
         let input = || format!("{set:?} with {length} places to work in");
-        self.op.answer(input, ours.number, expected.number)?;
+        self.op.case(input, ours.number, expected.number)?;
+        self.op.saw_check(check);
+        match ours.number {
+            0 => {
+                self.op.saw(FOUND);
+                if set.has_histogram() {
+                    let gate = words::range::gate_of_counters(&set.counted());
+                    self.op.saw(words::range::starting(gate));
+                }
+            }
+            NOTHING => self.op.saw(nothing(set)),
+            NOT_A_NUMBER => self.op.saw(NAN_HELD),
+            number => self.op.saw(number),
+        }
         self.op
             .also(input, "low", same_float(ours.low, expected.low))?;
         self.op
@@ -96,13 +117,23 @@ impl Asked {
         let mut places = ours.work.iter().zip(&expected.work);
         let same = places.all(|(a, b)| a.to_bits() == b.to_bits());
         self.op.also(input, "the work slice", same)?;
-        self.nothing += usize::from(ours.number == NOTHING);
-        self.not_a_number += usize::from(ours.number == NOT_A_NUMBER);
         let rust = match refusal {
             0 => rust_agrees(set, &ours),
             _ => true,
         };
         self.op.also(input, "the Rust's range", rust)
+    }
+}
+
+/// Why there is nothing.
+fn nothing(set: &Set) -> &'static str {
+    let counted = || set.counted().iter().any(|&count| count > 0);
+    if set.entries.is_empty() {
+        NO_HISTORIES
+    } else if counted() || !set.held().is_empty() {
+        NONE_LEFT
+    } else {
+        NO_BLOCKS
     }
 }
 

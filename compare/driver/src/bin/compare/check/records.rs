@@ -2,18 +2,51 @@
 //! good one, every single-byte change of a head, and lengths around each edge.
 
 use driver::energies;
-use driver::refusals::{CONTENT, KIND, LENGTH, ROOM, STORE};
-use driver::rng::Rng;
-use driver::words::records::{self, HISTOGRAM_RECORD};
-use driver::words::Queue;
+use driver::refusals::{Check, CONTENT, KIND, LENGTH, ROOM, STORE};
+use driver::rng::{pick, Rng};
+use driver::words::records::{self, HISTOGRAM_RECORD, NAN_PATTERN};
+use driver::words::{self, Queue};
 
 use super::{Difference, Operation};
 use crate::ours::records as ours;
 
-const RANDOM: usize = 20_000;
+const RANDOM: usize = 10_000;
+
+const READ: &str = "document 01's own reader; every prefix, every byte of the head";
+const WRITTEN: &str = "document 01's own writer; all places of the output";
 
 /// What stands in a place that a call does not write.
 const UNTOUCHED: usize = 987_654_321;
+
+/// What refuses a record of each kind. Counters have no rule that CONTENT could say was broken.
+const HISTOGRAM_CHECKS: [Check; 5] = [
+    records::SHORT,
+    records::OTHER_KIND,
+    records::UNLIKE_BYTES,
+    records::UNLIKE_4002,
+    records::PLACES,
+];
+const QUEUE_CHECKS: [Check; 10] = [
+    records::SHORT,
+    records::OTHER_KIND,
+    records::UNLIKE_BYTES,
+    records::UNDER_10,
+    records::MAXIMUM,
+    records::HELD,
+    records::UNLIKE_HELD,
+    records::BELOW,
+    records::OTHER_NAN,
+    records::PLACES,
+];
+const HELD_CHECKS: [Check; 5] = [
+    words::MAXIMUM,
+    words::UNLIKE,
+    words::HEAD,
+    words::HELD,
+    words::BELOW,
+];
+/// A queue's record with a NaN in it, in the one pattern.
+const NAN_HELD: &str = "NaN among the energies";
 
 pub fn run(seed: u64) -> Result<(), Difference> {
     let mut rng = Rng::new(seed);
@@ -23,6 +56,14 @@ pub fn run(seed: u64) -> Result<(), Difference> {
 
 fn number<T>(answer: &Result<T, u8>) -> u8 {
     answer.as_ref().err().copied().unwrap_or(0)
+}
+
+/// The record with so many bytes, six or more, and a length field that says so.
+fn of_length(record: &[u8], bytes: usize) -> Vec<u8> {
+    let mut other = record.to_vec();
+    other.resize(bytes, 0);
+    other[..4].copy_from_slice(&(bytes as u32 - 4).to_le_bytes());
+    other
 }
 
 fn read_histogram(op: &mut Operation, bytes: &[u8], places: usize) -> Result<(), Difference> {
@@ -35,6 +76,7 @@ fn read_histogram(op: &mut Operation, bytes: &[u8], places: usize) -> Result<(),
         ours::histogram_read(bytes, &mut ours),
         number(&answer),
     )?;
+    op.saw_check(records::check_histogram(bytes, places));
     op.also(input, "the counters", ours == expected)
 }
 
@@ -56,7 +98,7 @@ fn write_histogram(
 }
 
 fn histograms(rng: &mut Rng) -> Result<(), Difference> {
-    let mut reads = Operation::new("histogram_read");
+    let mut reads = Operation::new("histogram_read").can(&HISTOGRAM_CHECKS);
     let mut writes = Operation::new("histogram_write");
     let any = |rng: &mut Rng| match rng.below(4) {
         0 => rng.bits() as u32,
@@ -85,6 +127,7 @@ fn histograms(rng: &mut Rng) -> Result<(), Difference> {
     let good = write_histogram(&mut writes, &[7; 1000], HISTOGRAM_RECORD)?;
     for end in 0..=good.len() {
         read_histogram(&mut reads, &good[..end], 1000)?;
+        read_histogram(&mut reads, &of_length(&good, 6 + end), 1000)?;
     }
     for at in 0..6 {
         for byte in 0..=255 {
@@ -93,12 +136,8 @@ fn histograms(rng: &mut Rng) -> Result<(), Difference> {
             read_histogram(&mut reads, &changed, 1000)?;
         }
     }
-    let remark = "document 01's own; every prefix, every byte of the head";
-    reads.same(remark, &[LENGTH, KIND, STORE])?;
-    writes.same(
-        "document 01's own; all places of the output",
-        &[STORE, ROOM],
-    )
+    reads.same(READ, &[LENGTH, KIND, STORE])?;
+    writes.same(WRITTEN, &[STORE, ROOM])
 }
 
 fn read_queue(op: &mut Operation, bytes: &[u8], places: usize) -> Result<(), Difference> {
@@ -119,6 +158,13 @@ fn read_queue(op: &mut Operation, bytes: &[u8], places: usize) -> Result<(), Dif
     };
     let numbers = (ours.maximum, ours.head, ours.held) == expected;
     op.also(input, "maximum, head and held", numbers)?;
+    op.saw_check(records::check_queue(bytes, places));
+    if ours.store[..ours.held.min(places)]
+        .iter()
+        .any(|energy| energy.to_bits() == NAN_PATTERN)
+    {
+        op.saw(NAN_HELD);
+    }
     let mut places = ours.store.iter().zip(&store);
     let places = places.all(|(a, b)| super::same_float(*a, *b));
     op.also(input, "the store", places)
@@ -132,6 +178,10 @@ fn write_queue(op: &mut Operation, queue: &Queue, room: usize) -> Result<Vec<u8>
     let answer = records::write_queue(queue, &mut expected);
     let code = ours::queue_write(queue, &mut ours, &mut written);
     op.answer(input, code, number(&answer))?;
+    op.saw_check(queue.check_held());
+    if code == 0 && queue.energies().iter().any(|energy| energy.is_nan()) {
+        op.saw(NAN_HELD);
+    }
     op.also(input, "the length", written == answer.unwrap_or(UNTOUCHED))?;
     op.also(input, "the output", ours == expected)?;
     Ok(ours)
@@ -149,8 +199,10 @@ fn energy(rng: &mut Rng) -> f64 {
 }
 
 fn queues(rng: &mut Rng) -> Result<(), Difference> {
-    let mut reads = Operation::new("queue_read");
-    let mut writes = Operation::new("queue_write");
+    let mut reads = Operation::new("queue_read").can(&[NAN_HELD]);
+    reads = reads.can(&QUEUE_CHECKS);
+    let mut writes = Operation::new("queue_write").can(&[NAN_HELD]);
+    writes = writes.can(&HELD_CHECKS);
     for i in 0..10 * RANDOM {
         let maximum = 1 + rng.below([1, 2, 3, 8, 40][i % 5]) as usize;
         let mut queue = Queue {
@@ -179,16 +231,22 @@ fn queues(rng: &mut Rng) -> Result<(), Difference> {
             _ => maximum,
         };
         read_queue(&mut reads, &record, places)?;
-        // damaged: a byte of the head, or a pattern
-        match rng.below(3) {
+        // damaged: a byte of the head, a pattern, or the length
+        match rng.below(4) {
             0 => {
                 let at = rng.below(record.len().min(14) as u64) as usize;
                 record[at] = rng.bits() as u8;
             }
             1 if record.len() >= 22 => {
                 let at = 14 + 8 * rng.below((record.len() as u64 - 14) / 8) as usize;
-                let pattern = energies::any(rng).to_bits().to_le_bytes();
-                record[at..at + 8].copy_from_slice(&pattern);
+                let pattern = match rng.below(2) {
+                    0 => energies::any(rng),
+                    _ => pick(&energies::specials(), rng),
+                };
+                record[at..at + 8].copy_from_slice(&pattern.to_bits().to_le_bytes());
+            }
+            2 if record.len() >= 6 => {
+                record = of_length(&record, 6 + rng.below(record.len() as u64 + 9) as usize)
             }
             _ => record.truncate(rng.below(record.len() as u64 + 1) as usize),
         }
@@ -203,6 +261,7 @@ fn queues(rng: &mut Rng) -> Result<(), Difference> {
     let good = write_queue(&mut writes, &queue, 46)?;
     for end in 0..=good.len() {
         read_queue(&mut reads, &good[..end], 5)?;
+        read_queue(&mut reads, &of_length(&good, 6 + end), 5)?;
     }
     for at in 0..14 {
         for byte in 0..=255 {
@@ -232,10 +291,6 @@ fn queues(rng: &mut Rng) -> Result<(), Difference> {
         }
         read_queue(&mut reads, &record, maximum)?;
     }
-    let remark = "document 01's own; every prefix, every byte of the head";
-    reads.same(remark, &[LENGTH, KIND, CONTENT, STORE])?;
-    writes.same(
-        "document 01's own; all places of the output",
-        &[STORE, ROOM],
-    )
+    reads.same(READ, &[LENGTH, KIND, CONTENT, STORE])?;
+    writes.same(WRITTEN, &[STORE, ROOM])
 }

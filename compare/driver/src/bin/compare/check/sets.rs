@@ -10,10 +10,10 @@ use super::Difference;
 
 const LONGEST: usize = 36_000;
 
-const SMALL_QUEUES: usize = 1_500_000;
-const SPARSE: usize = 150_000;
-const MIXED: usize = 20_000;
-const REFUSED: usize = 300_000;
+const SMALL_QUEUES: usize = 500_000;
+const SPARSE: usize = 50_000;
+const MIXED: usize = 7_000;
+const REFUSED: usize = 100_000;
 
 /// Asks about each set that every question is asked about.
 pub fn each(

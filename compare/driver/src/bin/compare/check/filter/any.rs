@@ -2,17 +2,17 @@
 //! and numbers on both sides of each refusal's edge.
 
 use driver::energies;
-use driver::refusals::{CHANNELS, DEST, MAP, SAMPLES};
+use driver::refusals::{Check, CHANNELS, DEST, MAP, SAMPLES};
 use driver::rng::{pick, Rng};
 use driver::sounds::{self, Kind};
-use driver::words::filter::{Call, Kept, MOST_CHANNELS};
+use driver::words::filter::{Call, Kept, CHECKS, DEST_CHECKS, MOST_CHANNELS};
 
-use super::{parted, shown};
+use super::{operation, parted, saw, shown};
 use crate::check::{same_floats, Difference, Operation};
 use crate::ours::filter::Lent;
 
-const CALLS: usize = 400_000;
-const BROKEN: usize = 400_000;
+const CALLS: usize = 130_000;
+const BROKEN: usize = 130_000;
 
 pub fn run(seed: u64) -> Result<(), Difference> {
     let mut asked = Asked::new();
@@ -46,32 +46,28 @@ fn every_byte(asked: &mut Asked, rng: &mut Rng) -> Result<(), Difference> {
 struct Asked {
     process: Operation,
     seed: Operation,
-    samples: usize,
 }
 
 impl Asked {
     fn new() -> Self {
         Asked {
-            process: Operation::new("filter process"),
-            seed: Operation::new("filter seed"),
-            samples: 0,
+            process: operation("filter process").can(&CHECKS).can(&DEST_CHECKS),
+            // DEST is no case of it: it has no destination
+            seed: operation("filter seed").can(&CHECKS),
         }
     }
 
     fn same(self) -> Result<(), Difference> {
-        let remark = format!(
-            "document 01, any coefficients and states; {} samples",
-            self.samples
-        );
-        self.process
-            .same(&remark, &[CHANNELS, SAMPLES, MAP, DEST])?;
-        self.seed.same("the same calls", &[CHANNELS, SAMPLES, MAP])
+        let beside = "document 01: any coefficients, states and numbers";
+        self.process.same(beside, &[CHANNELS, SAMPLES, MAP, DEST])?;
+        self.seed.same(beside, &[CHANNELS, SAMPLES, MAP])
     }
 
-    /// The samples of a call that was not refused.
-    fn count<T>(&mut self, number: u8, call: &Call<T>) {
-        if number == 0 {
-            self.samples += call.data.len();
+    /// A call and what refused it.
+    fn count<T: Kind>(op: &mut Operation, check: Option<Check>, call: &Call<T>) {
+        match check {
+            None => saw(op, call),
+            Some(check) => op.saw(check),
         }
     }
 
@@ -83,7 +79,7 @@ impl Asked {
         let (mut ours, mut words) = (before.clone(), before.clone());
         let number = T::seed(&call, &mut ours);
         self.seed.answer(input, number, call.seed(&mut words))?;
-        self.count(number, &call);
+        Asked::count(&mut self.seed, call.check_seed(), &call);
         let seeded = parted(&ours, &words);
         self.seed
             .also(input, seeded.unwrap_or_default(), seeded.is_none())?;
@@ -94,7 +90,7 @@ impl Asked {
         let number = T::process(&call, &mut ours, &mut dest);
         let refusal = call.process(&mut words, &mut expected);
         self.process.answer(input, number, refusal)?;
-        self.count(number, &call);
+        Asked::count(&mut self.process, call.check_process(given.places), &call);
         let parted = parted(&ours, &words);
         self.process
             .also(input, parted.unwrap_or_default(), parted.is_none())?;

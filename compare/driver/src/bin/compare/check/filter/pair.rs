@@ -6,34 +6,32 @@ use driver::words::filter::{self, Call, Kept, LOUDNESS, PAST, TRUE_PEAK};
 use ebur128::filter::Filter;
 use ebur128::Interleaved;
 
-use super::{parted, shown};
+use super::{operation, parted, saw, shown};
 use crate::check::{same_floats, Difference, Operation, UNTOUCHED};
 use crate::ours::filter::Lent;
 
-/// Both operations, the samples that they had, and how many outputs were subnormal.
+/// Both operations, and how many outputs were subnormal.
 pub struct Asked {
     process: Operation,
     seed: Operation,
-    samples: usize,
     pub subnormal: usize,
 }
+
+const SUBNORMAL: &str = "outputs subnormal";
 
 impl Asked {
     pub fn new() -> Self {
         Asked {
-            process: Operation::new("filter process"),
-            seed: Operation::new("filter seed"),
-            samples: 0,
+            process: operation("filter process").can(&[SUBNORMAL]),
+            seed: operation("filter seed"),
             subnormal: 0,
         }
     }
 
-    /// Prints both lines.
-    pub fn same(self, remark: &str) -> Result<(), Difference> {
-        let (samples, subnormal) = (self.samples, self.subnormal);
-        let counts = format!("{samples} samples in both operations, {subnormal} outputs subnormal");
-        self.process.same(&format!("{remark}; {counts}"), &[])?;
-        self.seed.same("in the same runs", &[])
+    pub fn same(mut self, beside: &str) -> Result<(), Difference> {
+        self.process.saw_times(SUBNORMAL, self.subnormal as u64);
+        self.process.same(beside, &[])?;
+        self.seed.same(beside, &[])
     }
 }
 
@@ -96,7 +94,7 @@ impl Pair {
         asked.process.answer(input, number, 0)?;
         let same = same_floats(&ours, &rust);
         asked.process.also(input, "the destination", same)?;
-        asked.samples += data.len();
+        saw(&mut asked.process, &call);
         asked.subnormal += rust.iter().filter(|y| y.is_subnormal()).count();
         self.look(&mut asked.process, input, data)
     }
@@ -112,7 +110,7 @@ impl Pair {
         self.rust.seed(self.frames(data), &filters::map(map));
         let input = || format!("seed: {}", shown(&call));
         asked.seed.answer(input, number, 0)?;
-        asked.samples += data.len();
+        saw(&mut asked.seed, &call);
         self.look(&mut asked.seed, input, data)
     }
 

@@ -9,9 +9,9 @@ use super::pair::{Asked, Pair};
 use crate::check::Difference;
 use crate::ours::filter::Lent;
 
-const RANDOM: usize = 40_000;
-const LONG: usize = 150;
-const TAILS: usize = 6;
+const RANDOM: usize = 12_000;
+const LONG: usize = 50;
+const TAILS: usize = 2;
 
 /// Of all three classes, at their edges, and odd ones.
 const RATES: [u32; 20] = [
@@ -61,7 +61,7 @@ fn every_map(rng: &mut Rng) -> Result<(), Difference> {
             }
         }
     }
-    asked.same("all 510 maps, with all switches")
+    asked.same("the Rust's Filter: all 510 maps, with all switches")
 }
 
 /// Sound, a few samples more that only move states, and sound again.
@@ -94,7 +94,7 @@ fn random(rng: &mut Rng) -> Result<(), Difference> {
             any_call(&mut asked, &mut pair, frames as usize, sounds, rng)?;
         }
     }
-    asked.same("any rate, calls of 0 to 5,000 frames")
+    asked.same("the Rust's Filter: any rate, calls of 0 to 5,000 frames")
 }
 
 /// Up to a second and a half at the usual rates.
@@ -107,7 +107,7 @@ fn long(rng: &mut Rng) -> Result<(), Difference> {
             any_call(&mut asked, &mut pair, frames, &sounds::TAME, rng)?;
         }
     }
-    asked.same("calls of up to 72,000 frames")
+    asked.same("the Rust's Filter: calls of up to 72,000 frames")
 }
 
 /// Any number of channels, and any switches with any bits above them, which mean nothing.
@@ -193,7 +193,7 @@ fn tails(rng: &mut Rng) -> Result<(), Difference> {
     if asked.subnormal == 0 {
         return Err(Difference("no tail went subnormal".to_string()));
     }
-    asked.same("silence after sound until all states are 0")
+    asked.same("the Rust's Filter: silence after sound until all states are 0")
 }
 
 /// Sound, and then calls of so many frames of silence until all states are 0.

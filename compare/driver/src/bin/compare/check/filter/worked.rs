@@ -10,7 +10,7 @@ pub fn run() -> Result<(), Difference> {
     halves(&mut op)?;
     tail(&mut op)?;
     true_peaks(&mut op)?;
-    op.same("as document 01 writes them", &[])
+    op.same("document 01, as it writes them", &[])
 }
 
 /// 2 to the power -n, subnormal or not.
