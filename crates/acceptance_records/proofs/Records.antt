@@ -32,7 +32,7 @@ use Rattle.acceptance_outcomes.proofs.Fixed.{fixes, answer-back, answer-there}
 use Rattle.acceptance_records.specs.Records.{readHistogramRows, readQueueRows, writeHistogramRows, writeQueueRows, RecordCalls}
 
 -- what comes behind the frame's rows
-behind-frame : {Kept Values : Type 0} (kind : Kind) (bytes : List ℕ) (next : Outcome Kept Values)
+pub behind-frame : {Kept Values : Type 0} (kind : Kind) (bytes : List ℕ) (next : Outcome Kept Values)
     → andThen (frameOf kind bytes) next
     ≡ cond (ltb (length bytes) headWidth) (refused LENGTH)
     (cond (not (eqb (kindIn bytes) (numberOf kind))) (refused KIND)

@@ -1,5 +1,6 @@
 -- Demand 3 as the report tells it, proved: "The block total reported is the length of the list less the dropped energies". What is read is what was written,
--- and the report asks the range of the store alone. Assumes nothing.
+-- and the report asks the range of the store alone. And what refuses a report
+-- is what refuses its record. Assumes nothing.
 use mathlib.Core.Path.{_≡_, refl, sym, ap, _∙_}
 use mathlib.Core.Bool.{Bool, true, false}
 use mathlib.Core.List.{List, [], _∷_, _++_, append-nil}
@@ -9,18 +10,23 @@ use borrow.Author.Tests.{leb-true, leb-false}
 use lib.Dec.{leb}
 use lib.ListN.{length, getD, length-replicate, List·getD-eq-default}
 use lib.Ieee.{Float}
-use Rattle.refusals.specs.Outcome.{Outcome, went, NoValues, done}
+use Rattle.refusals.specs.Outcome.{Outcome, went, answers, NoValues, done}
 use Rattle.histogram_bins.specs.Bin.{bins}
 use Rattle.histogram.specs.Histogram.{largestCount, empty}
 use Rattle.spans.specs.Span.{Span}
 use Rattle.histogram_range.specs.Counted.{blocksIn}
 use Rattle.range.specs.Range.{rangeOf}
+use Rattle.layout.specs.declared.Kind.the-variants.{Histogram}
 use Rattle.records.specs.Record.{histogramRecord, readHistogram}
 use Rattle.records.proofs.Again.{Counting, read-what-was-written}
 use Rattle.summary.specs.Summary.{Figures, alone, figuresBy, figuresOf, figuresRead, summaryOf}
+use Rattle.summary.proofs.Alone.{figuresFrom, summary-is}
+use Rattle.acceptance_refusals.proofs.Rows.{by-rows}
 use Rattle.acceptance_dealing.specs.Dealing.{countIn, Plan, Dealt, storeOf, droppedOf, Asks, rangeOfBins, Met}
 use Rattle.acceptance_dealing.proofs.Dealing.{demand-3}
-use Rattle.acceptance_records.specs.Report.{ReportTells}
+use Rattle.acceptance_records.specs.Records.{frameRows}
+use Rattle.acceptance_records.specs.Report.{ReportTells, ReportRefused}
+use Rattle.acceptance_records.proofs.Records.{behind-frame}
 
 empty-length : length empty ≡ bins
 unfolding empty
@@ -48,3 +54,7 @@ module _ (whole : List Float) (dealt : List (List Float)) (plan : Plan) (d : Dea
 
 pub report-tells : ReportTells
 report-tells whole dealt plan d = tells whole dealt plan d (demand-3 whole dealt plan d)
+
+pub report-refused : ReportRefused
+report-refused bytes =
+    by-rows (frameRows Histogram bytes) (summaryOf bytes) tt (figuresFrom bytes) (summary-is bytes ∙ behind-frame Histogram bytes (answers (figuresFrom bytes)))

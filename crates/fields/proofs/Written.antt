@@ -3,13 +3,13 @@
 use mathlib.Core.Path.{_≡_, refl, sym, ap, _∙_}
 use mathlib.Core.List.{List, [], _∷_, _++_, append-assoc, append-nil}
 use Prim.Native.Nat.{ℕ, zero, suc, _+_, _-_, _*_, _/_, _%_, _^_, _<_, _≤_}
-use native.Mathlib.Nat.{mod-add-div, mod-lt, mul-add-div, add-mul-mod-self-left, mod-eq-of-lt, add-mul-div-left, div-eq-of-lt}
+use native.Mathlib.Nat.{mod-add-div, add-mul-mod-self-left, mod-eq-of-lt, add-mul-div-left, div-eq-of-lt}
 use native.Mathlib.Numerals.{add-one}
 use native.Mathlib.Omega.{arith}
-use lib.Pow.{pow-add}
-use lib.ListN.{length, getD, take, drop, set, length-set}
-use lib.Seq.{drop-cons, getD-drop, take-suc-set, take-all}
+use lib.ListN.{length, getD, take, drop, set}
+use lib.Seq.{drop-cons, getD-drop, getD-take, take-suc-set, take-all}
 use Rattle.fields.specs.Field.{fieldAt, lowBytes}
+use Rattle.fields.proofs.Fields.{times-256}
 
 pub low-length : (width number : ℕ) → length (lowBytes width number) ≡ width
 unfolding lowBytes
@@ -25,9 +25,15 @@ field-from bytes from at place (suc width) e =
     let rest : fieldAt bytes (suc at) width ≡ fieldAt (drop from bytes) (suc place) width = field-from bytes from (suc at) (suc place) width (omega arith) in
     rw (here, rest)
 
--- how many numbers a field one byte wider tells apart
-wider : (width : ℕ) → 2 ^ (8 * suc width) ≡ 256 * 2 ^ (8 * width)
-wider width = let e : 8 * suc width ≡ 8 + 8 * width = omega arith in ap (λ (n : ℕ). 2 ^ n) e ∙ pow-add 2 8 (8 * width)
+-- a field that lies in a part of the bytes
+pub field-within : (bytes : List ℕ) (n at place from width : ℕ) → from ≡ at + place → place + width ≤ n
+    → fieldAt (take n (drop at bytes)) place width ≡ fieldAt bytes from width
+unfolding fieldAt
+field-within bytes n at place from zero e h = refl
+field-within bytes n at place from (suc width) e h =
+    let here : getD (take n (drop at bytes)) place 0 ≡ getD bytes from 0 =
+    getD-take n (drop at bytes) place 0 (omega arith) ∙ getD-drop at bytes place 0 ∙ ap (λ (p : ℕ). getD bytes p 0) (sym e) in
+    rw (here, field-within bytes n at (suc place) (suc from) width (omega arith) (omega arith))
 
 -- the field of a number's bytes is the number
 pub read-low : (width number : ℕ) (rest : List ℕ) → number < 2 ^ (8 * width) → fieldAt (lowBytes width number ++ rest) 0 width ≡ number
@@ -36,7 +42,7 @@ read-low zero number rest h = omega arith
 read-low (suc width) number rest h =
     let others = lowBytes width (number / 256) ++ rest in
     let next : fieldAt (number % 256 ∷ others) 1 width ≡ fieldAt others 0 width = field-from (number % 256 ∷ others) 1 1 0 width (omega arith) in
-    let again : fieldAt others 0 width ≡ number / 256 = read-low width (number / 256) rest (omega (arith, wider width, mod-add-div number 256)) in
+    let again : fieldAt others 0 width ≡ number / 256 = read-low width (number / 256) rest (omega (arith, times-256 width, mod-add-div number 256)) in
     omega (arith, mod-add-div number 256)
 
 -- the bytes of a field's number are the field's bytes

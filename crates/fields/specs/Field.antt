@@ -5,7 +5,10 @@ use mathlib.Core.Bool.{cond}
 use lib.Dec.{ltb}
 use lib.ListN.{getD}
 
--- the widest field, in bytes: a number of 64 bits
+-- the bytes of a number of 32 bits, and of one of 64, the widest field
+abbrev pub wordWidth : ℕ
+wordWidth = 4
+
 abbrev pub widest : ℕ
 widest = 8
 

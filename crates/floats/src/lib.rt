@@ -9,16 +9,11 @@ pub fn is_nan(x: f64) -> bool
     x != x
 }
 
-// The float that a pattern stands for. Every NaN pattern stands for NaN.
+// The float that a pattern stands for. Every NaN pattern stands for NaN: but for the sign they are those past infinity's.
 pub fn float_of(pattern: u64) -> f64
     ensures { λ r. ⌜ r ≡ ofBits binary64 pattern ⌝ }
 {
-    let field = pattern % 0x8000_0000_0000_0000 / 0x0010_0000_0000_0000;
-    if field != 2047 {
-        return f64::from_bits(pattern);
-    }
-    let digits = pattern % 0x0010_0000_0000_0000;
-    if digits == 0 {
+    if pattern % 0x8000_0000_0000_0000 <= 0x7FF0_0000_0000_0000 {
         return f64::from_bits(pattern);
     }
     0.0 / 0.0

@@ -7,6 +7,7 @@ ghost use Prim.Native.Nat.{_+_, _-_, _*_, _≤_};
 ghost use lib.ListN.{length, drop};
 ghost use lib.Seq.{sets};
 ghost use Rattle.refusals.specs.Outcome.{saidBy, keptBy};
+ghost use Rattle.fields.specs.Field.{fieldAt};
 ghost use Rattle.layout.specs.Layout.{lowFirst, numbersIn, lengthIn};
 ghost use Rattle.queue_reader.specs.QueueRecord.{
   energyWidth,
@@ -59,29 +60,29 @@ fn numbers_fit(maximum: usize, held: usize) -> bool
 fn pattern_fits(pattern: u64) -> bool
     ensures { λ r. ⌜ r ≡ patternFits pattern ⌝ }
 {
-    let energy = floats::float_of(pattern);
-    if energy < histogram_bins::lowest_boundary() {
-        return false;
-    }
-    if floats::is_nan(energy) {
-        return pattern == NAN_PATTERN;
-    }
-    true
+    (floats::float_of(pattern) >= histogram_bins::lowest_boundary()) | (pattern == NAN_PATTERN)
 }
 
+fn pattern_at(bytes: &[u8], at: usize) -> u64
+    requires { ⌜ at + energyWidth ≤ length (now bytes) ⌝ }
+    ensures { λ r. ⌜ r ≡ fieldAt (now (bytes .entry)) at energyWidth ⌝ }
+{
+    let end = at + ENERGY;
+    fields::double_word(&bytes[at..end])
+}
+
+// Every pattern is looked at, also past one that does not fit: without a way out the compiler tests several at once.
 fn all_fit(bytes: &[u8], at: usize, count: usize) -> bool
     requires { ⌜ at + energyWidth * count ≤ length (now bytes) ⌝ }
     ensures { λ r. ⌜ r ≡ allFit (numbersIn lowFirst energyWidth count (drop at (now (bytes .entry)))) ⌝ }
 {
+    let mut fit = true;
     let mut i = 0;
     while i < count {
-        if pattern_fits(fields::number_at(bytes, at + ENERGY * i, ENERGY)) {
-            i += 1;
-        } else {
-            return false;
-        }
+        fit = fit & pattern_fits(pattern_at(bytes, at + ENERGY * i));
+        i += 1;
     }
-    true
+    fit
 }
 
 fn read_energies(bytes: &[u8], at: usize, count: usize, store: &mut [f64])
@@ -90,7 +91,7 @@ fn read_energies(bytes: &[u8], at: usize, count: usize, store: &mut [f64])
 {
     let mut i = 0;
     while i < count {
-        store[i] = floats::float_of(fields::number_at(bytes, at + ENERGY * i, ENERGY));
+        store[i] = floats::float_of(pattern_at(bytes, at + ENERGY * i));
         i += 1;
     }
 }

@@ -16,11 +16,7 @@ use Rattle.layout.specs.Layout.{orderOf, allBytes, lengthIn, frameOf, writtenTo
 use Rattle.layout.proofs.Frames.{framed, went-on, then-went, then-refused, then-kept}
 use Rattle.layout.proofs.Heads.{record-length, no-room, with-room}
 use Rattle.layout.proofs.Runs.{all-length}
-use Rattle.records.specs.Record.{countWidth, countersIn, histogramRecord, readHistogram, writeHistogram}
-
--- the bytes of a whole record
-abbrev pub recordLength : ℕ
-recordLength = 4006
+use Rattle.records.specs.Record.{countWidth, recordLength, countersIn, histogramRecord, readHistogram, writeHistogram}
 
 -- what comes after the frame
 abbrev stored : List ℕ → List ℕ → Outcome (List ℕ) NoValues

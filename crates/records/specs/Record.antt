@@ -13,6 +13,10 @@ use Rattle.layout.specs.Layout.{orderOf, bodyIn, numbersIn, allBytes, frameOf, 
 abbrev pub countWidth : ℕ
 countWidth = 4
 
+-- the bytes of a whole record
+abbrev pub recordLength : ℕ
+recordLength = 4006
+
 -- the counters in a record
 unfoldable pub countersIn : List ℕ → List ℕ
 countersIn bytes = numbersIn (orderOf Histogram) countWidth bins (bodyIn bytes)

@@ -3,15 +3,16 @@ use layout::Kind;
 use layout::Written;
 use refusals::Answer;
 ghost use mathlib.Core.Path.{_≡_};
-ghost use Prim.Native.Nat.{_+_, _*_, _≤_, _<_};
+ghost use Prim.Native.Nat.{_+_, _*_, _≤_};
 ghost use lib.ListN.{length, drop};
 ghost use lib.Seq.{sets};
 ghost use Rattle.refusals.specs.Outcome.{saidBy, keptBy};
 ghost use Rattle.refusals.specs.Answer.{said};
 ghost use Rattle.fields.specs.Field.{fieldAt, lowBytes};
-ghost use Rattle.layout.specs.Layout.{lowFirst, numbersIn, allBytes};
+ghost use Rattle.histogram_bins.specs.Bin.{bins};
+ghost use Rattle.layout.specs.Layout.{lowFirst, headWidth, numbersIn, allBytes};
 ghost use Rattle.layout.specs.Written.{said as says-written};
-ghost use Rattle.records.specs.Record.{countWidth, readHistogram, writeHistogram};
+ghost use Rattle.records.specs.Record.{countWidth, recordLength, countersIn, readHistogram, writeHistogram};
 
 // Where the counters start, after the length and the kind.
 const BODY: usize = 6;
@@ -23,20 +24,12 @@ const FOLLOWING: u64 = 4002;
 
 const RECORD: usize = 4006;
 
-fn wide(byte: u8) -> u32
-    ensures { λ r. ⌜ (r ≡ byte) × (r < 256) ⌝ }
-{
-    byte as u32
-}
-
-// The number in four bytes, low byte first.
 fn word_at(bytes: &[u8], at: usize) -> u32
     requires { ⌜ at + countWidth ≤ length (now bytes) ⌝ }
     ensures { λ r. ⌜ r ≡ fieldAt (now (bytes .entry)) at countWidth ⌝ }
 {
-    let low = wide(bytes[at]) + 256 * wide(bytes[at + 1]);
-    let high = wide(bytes[at + 2]) + 256 * wide(bytes[at + 3]);
-    low + 65536 * high
+    let end = at + COUNT;
+    fields::word(&bytes[at..end])
 }
 
 // Each word becomes the number in its four bytes.
@@ -51,6 +44,27 @@ fn read_words(bytes: &[u8], at: usize, words: &mut [u32])
     }
 }
 
+fn copy(from: &[u32], to: &mut [u32])
+    requires { ⌜ length (now to) ≡ length (now from) ⌝ }
+    ensures { λ _. ⌜ now (to .exit) ≡ now (from .entry) ⌝ }
+{
+    let mut i = 0;
+    while i < to.len() {
+        to[i] = from[i];
+        i += 1;
+    }
+}
+
+// By way of places of its own, which no lent slice overlaps: the compiler then moves all the bytes in one call.
+fn read_counters(bytes: &[u8], counters: &mut [u32])
+    requires { ⌜ (length (now bytes) ≡ recordLength) × (length (now counters) ≡ bins) ⌝ }
+    ensures { λ _. ⌜ now (counters .exit) ≡ countersIn (now (bytes .entry)) ⌝ }
+{
+    let mut places = [0u32; histogram_bins::BINS];
+    read_words(bytes, BODY, &mut places);
+    copy(&places, counters);
+}
+
 // The counters of a record, or the refusal that comes first. Every check is made before a counter is written.
 pub fn read_histogram(bytes: &[u8], counters: &mut [u32]) -> Answer
     ensures { λ r. ⌜ (said r ≡ saidBy (readHistogram (now (bytes .entry)) (now (counters .entry))))
@@ -61,7 +75,7 @@ pub fn read_histogram(bytes: &[u8], counters: &mut [u32]) -> Answer
             if counters.len() != histogram_bins::BINS {
                 return Answer::Refused(refusals::STORE);
             }
-            read_words(bytes, BODY, counters);
+            read_counters(bytes, counters);
             Answer::Done
         }
         Answer::Refused(number) => Answer::Refused(number),
@@ -93,6 +107,16 @@ fn write_words(words: &[u32], out: &mut [u8], at: usize)
     }
 }
 
+// By way of places of its own, as in reading.
+fn write_counters(counters: &[u32], out: &mut [u8])
+    requires { ⌜ (length (now counters) ≡ bins) × (recordLength ≤ length (now out)) ⌝ }
+    ensures { λ _. ⌜ now (out .exit) ≡ sets (now (out .entry)) headWidth (allBytes lowFirst countWidth (now (counters .entry))) ⌝ }
+{
+    let mut places = [0u32; histogram_bins::BINS];
+    copy(counters, &mut places);
+    write_words(&places, out, BODY);
+}
+
 // The record of a histogram, at the output's first places.
 pub fn write_histogram(counters: &[u32], out: &mut [u8]) -> Written
     ensures { λ r. ⌜ (says-written r ≡ saidBy (writeHistogram (now (counters .entry)) (now (out .entry))))
@@ -105,6 +129,6 @@ pub fn write_histogram(counters: &[u32], out: &mut [u8]) -> Written
         return Written::Refused(refusals::ROOM);
     }
     layout::put_head(Kind::Histogram, FOLLOWING, out);
-    write_words(counters, out, BODY);
+    write_counters(counters, out);
     Written::Bytes(RECORD)
 }

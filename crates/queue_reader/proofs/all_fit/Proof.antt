@@ -1,22 +1,24 @@
--- `queue_reader::all_fit` meets its contract. The invariant: the patterns left fit where all do. Assumes nothing.
+-- `queue_reader::all_fit` meets its contract. The invariant: what was found, with what the patterns left give, is what all give. Assumes nothing.
 use mathlib.Core.Path.{_≡_, sym, ap, _∙_}
+use mathlib.Core.Bool.{Bool, _&&_}
 use Prim.Native.Nat.{ℕ, _+_, _-_, _*_, _≤_}
 use native.Mathlib.Omega.{arith}
 use borrow.Author.Needs.{needs}
 use denote.Ref.{now}
 use lib.ListN.{drop}
 use Rattle.fields.proofs.Written.{field-from}
-use Rattle.layout.specs.Layout.{lowFirst, numberIn, numbersIn}
+use Rattle.layout.specs.Layout.{lowFirst, numbersIn}
 use Rattle.queue_reader.specs.QueueRecord.{allFit}
-use Rattle.queue_reader.proofs.Patterns.{fit-first, unfit-first, fit-end}
+use Rattle.queue_reader.proofs.Patterns.{fit-turn, fit-end}
 use Rattle.queue_reader.proofs.all_fit.Statement.{statement}
 use Rattle.queue_reader.proofs.all_fit.Tie as tie
 
 abbrev Inv-loop : tie.InvT-loop
-Inv-loop bytes at count i₀ i = (i ≤ count) × (allFit (numbersIn lowFirst 8 (count - i) (drop (at + 8 * i) bytes)) ≡ allFit (numbersIn lowFirst 8 count (drop at bytes)))
+Inv-loop bytes at count fit₀ i₀ fit i =
+    (i ≤ count) × (fit && allFit (numbersIn lowFirst 8 (count - i) (drop (at + 8 * i) bytes)) ≡ allFit (numbersIn lowFirst 8 count (drop at bytes)))
 
 abbrev μ-loop : tie.MeasureT-loop
-μ-loop bytes at count i₀ i = count - i
+μ-loop bytes at count fit₀ i₀ fit i = count - i
 
 loop-holds : tie.Need-loop-holds Inv-loop μ-loop
 loop-holds c =
@@ -26,14 +28,14 @@ loop-holds c =
           ∙ ap (λ (n : ℕ). allFit (numbersIn lowFirst 8 (a .count) (drop n (now (a .bytes))))) {x = a .at + 0} {y = a .at} (omega arith),
     )
 
-mul-number-at : tie.Need-mul-number-at Inv-loop μ-loop
-mul-number-at c = search needs
+mul-pattern-at : tie.Need-mul-pattern-at Inv-loop μ-loop
+mul-pattern-at c = search needs
 
-add-number-at : tie.Need-add-number-at Inv-loop μ-loop
-add-number-at c = search needs
+add-pattern-at : tie.Need-add-pattern-at Inv-loop μ-loop
+add-pattern-at c = search needs
 
-number-at-requires : tie.Need-number-at-requires Inv-loop μ-loop
-number-at-requires c κs = search needs
+pattern-at-requires : tie.Need-pattern-at-requires Inv-loop μ-loop
+pattern-at-requires c κs = omega arith
 
 pattern-fits-requires : tie.Need-pattern-fits-requires Inv-loop μ-loop
 pattern-fits-requires c κs = search needs
@@ -44,58 +46,26 @@ add-i c = search needs
 loop-less : tie.Need-loop-less Inv-loop μ-loop
 loop-less c = search needs
 
--- the pattern that is looked at is the next
-pattern-is : (c : tie.After-number-at Inv-loop μ-loop)
-    → let l = c .before .before in
-    let a = l .before .before .args in
-    c .number-at .result ≡ numberIn lowFirst 8 (drop (a .at + 8 * l .loop .i) (now (a .bytes)))
-pattern-is c =
-    let l = c .before .before in
-    let a = l .before .before .args in
-    let at = a .at + 8 * l .loop .i in
-    c .number-at .ensures ∙ field-from (now (a .bytes)) at at 0 8 (omega arith)
-
 loop-again : tie.Need-loop-again Inv-loop μ-loop
 loop-again c =
-    let d = c .before .before in
+    let d = c .before in
     let l = d .before .before in
     let a = l .before .before .args in
-    let i = l .loop .i in (
+    let i = l .loop .i in
+    let at = a .at + 8 * i in (
       omega arith,
-      sym (fit-first lowFirst 8 (now (a .bytes)) (a .at + 8 * i) (a .at + 8 * (i + 1)) (a .count - i) (a .count - (i + 1)) (d .number-at .result) (omega arith) (omega arith)
-          (pattern-is d) (sym (c .before .pattern-fits .ensures) ∙ c .if1 .taken))
+      ap (λ (b : Bool). (l .loop .fit && b) && allFit (numbersIn lowFirst 8 (a .count - (i + 1)) (drop (a .at + 8 * (i + 1)) (now (a .bytes))))) (c .pattern-fits .ensures)
+          ∙ fit-turn lowFirst 8 (now (a .bytes)) at (a .at + 8 * (i + 1)) (a .count - i) (a .count - (i + 1)) (d .pattern-at .result) (omega arith) (omega arith)
+          (d .pattern-at .ensures ∙ field-from (now (a .bytes)) at at 0 8 (omega arith)) (l .loop .fit)
           ∙ l .loop .inv .1,
     )
 
 returns : tie.Need-returns Inv-loop μ-loop
 returns c =
-    let d = c .before .before in
-    let l = d .before .before in
-    let a = l .before .before .args in
-    let i = l .loop .i in
-    sym (unfit-first lowFirst 8 (now (a .bytes)) (a .at + 8 * i) (a .at + 8 * (i + 1)) (a .count - i) (a .count - (i + 1)) (d .number-at .result) (omega arith) (omega arith)
-    (pattern-is d) (sym (c .before .pattern-fits .ensures) ∙ c .if1 .left))
-    ∙ l .loop .inv .1
-
-returns-2 : tie.Need-returns-2 Inv-loop μ-loop
-returns-2 c =
     let l = c .before in
     let a = l .before .before .args in
-    sym (fit-end lowFirst 8 (a .count - l .loop .i) (drop (a .at + 8 * l .loop .i) (now (a .bytes))) (omega arith)) ∙ l .loop .inv .1
+    sym (fit-end lowFirst 8 (a .count - l .loop .i) (drop (a .at + 8 * l .loop .i) (now (a .bytes))) (l .loop .fit) (omega arith)) ∙ l .loop .inv .1
 
 pub all-fit-spec : {M : Type 1} → statement M
 all-fit-spec =
-    tie.close
-    (tie.spec
-    Inv-loop
-    μ-loop
-    loop-holds
-    mul-number-at
-    add-number-at
-    number-at-requires
-    pattern-fits-requires
-    add-i
-    loop-less
-    loop-again
-    returns
-    returns-2)
+    tie.close (tie.spec Inv-loop μ-loop loop-holds mul-pattern-at add-pattern-at pattern-at-requires pattern-fits-requires add-i loop-less loop-again returns)

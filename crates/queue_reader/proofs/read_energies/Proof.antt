@@ -28,14 +28,14 @@ loop-holds c =
           ∙ ap (λ (n : ℕ). sets (now (a .store)) 0 (energiesOf (numbersIn lowFirst 8 (a .count) (drop n (now (a .bytes)))))) {x = a .at + 0} {y = a .at} (omega arith),
     )
 
-mul-number-at : tie.Need-mul-number-at Inv-loop μ-loop
-mul-number-at c = search needs
+mul-pattern-at : tie.Need-mul-pattern-at Inv-loop μ-loop
+mul-pattern-at c = search needs
 
-add-number-at : tie.Need-add-number-at Inv-loop μ-loop
-add-number-at c = search needs
+add-pattern-at : tie.Need-add-pattern-at Inv-loop μ-loop
+add-pattern-at c = search needs
 
-number-at-requires : tie.Need-number-at-requires Inv-loop μ-loop
-number-at-requires c κs = search needs
+pattern-at-requires : tie.Need-pattern-at-requires Inv-loop μ-loop
+pattern-at-requires c κs = omega arith
 
 float-of-requires : tie.Need-float-of-requires Inv-loop μ-loop
 float-of-requires c κs = search needs
@@ -60,8 +60,8 @@ loop-again c =
     let at = a .at + 8 * i in (
       omega arith,
       simp length-set (l .loop .inv .1),
-      store-turn lowFirst 8 (now (a .bytes)) at (a .at + 8 * (i + 1)) (a .count - i) (a .count - (i + 1)) (c .before .number-at .result) (omega arith) (omega arith)
-          (c .before .number-at .ensures ∙ field-from (now (a .bytes)) at at 0 8 (omega arith)) (l .loop .store) i (c .float-of .result) (c .float-of .ensures)
+      store-turn lowFirst 8 (now (a .bytes)) at (a .at + 8 * (i + 1)) (a .count - i) (a .count - (i + 1)) (c .before .pattern-at .result) (omega arith) (omega arith)
+          (c .before .pattern-at .ensures ∙ field-from (now (a .bytes)) at at 0 8 (omega arith)) (l .loop .store) i (c .float-of .result) (c .float-of .ensures)
           ∙ l .loop .inv .2,
     )
 
@@ -81,9 +81,9 @@ read-energies-spec =
     Inv-loop
     μ-loop
     loop-holds
-    mul-number-at
-    add-number-at
-    number-at-requires
+    mul-pattern-at
+    add-pattern-at
+    pattern-at-requires
     float-of-requires
     mul-store
     slice-write-store

@@ -1,15 +1,11 @@
 -- `records::read_histogram` meets its contract: bytes that pass the frame are as many as a record has, so every counter has its four. Assumes nothing.
 use mathlib.Core.Path.{_≡_, refl, sym, ap, _∙_}
-use Prim.Native.Nat.{ℕ}
-use native.Mathlib.Omega.{arith}
 use borrow.Author.Needs.{needs}
 use denote.Ref.{now}
-use lib.ListN.{drop}
 use Rattle.refusals.specs.Outcome.{says, done, refusal, saidBy}
 use Rattle.refusals.specs.Answer.{said}
 use Rattle.layout.specs.declared.Kind.the-variants.{Histogram}
-use Rattle.layout.specs.Layout.{lowFirst, numbersIn, frameOf}
-use Rattle.records.specs.Record.{countersIn}
+use Rattle.layout.specs.Layout.{frameOf}
 use Rattle.records.proofs.Cases.{framed-length, read-refused, read-kept, read-store, read-went}
 use Rattle.records.proofs.read_histogram.Statement.{statement}
 use Rattle.records.proofs.read_histogram.Tie as tie
@@ -28,10 +24,10 @@ returns c =
     let a = c .before .before .before .before .before .before .args in
     rw (read-store (now (a .bytes)) (now (a .counters)) (passed (c .before)) (c .if1 .taken)) (refl, refl)
 
-read-words-requires : tie.Need-read-words-requires
-read-words-requires c κs =
+read-counters-requires : tie.Need-read-counters-requires
+read-counters-requires c κs =
     let a = c .before .before .before .before .before .before .before .args in
-    omega (arith, framed-length (now (a .bytes)) (passed (c .before .before)), c .before .if1 .left)
+    (framed-length (now (a .bytes)) (passed (c .before .before)), c .before .if1 .left)
 
 enum-known-number : tie.Need-enum-known-number
 enum-known-number c = search needs
@@ -40,12 +36,10 @@ same-length : tie.Need-same-length
 same-length c = search needs
 
 returns-2 : tie.Need-returns-2
-unfolding countersIn
 returns-2 c =
     let d = c .before .before .before .before in
     let a = d .before .before .before .before .before .before .args in
-    rw (read-went (now (a .bytes)) (now (a .counters)) (passed (d .before)) (d .if1 .left))
-    (refl, c .before .before .read-words .ensures ∙ ap (λ (n : ℕ). numbersIn lowFirst 4 n (drop 6 (now (a .bytes)))) (d .if1 .left))
+    rw (read-went (now (a .bytes)) (now (a .counters)) (passed (d .before)) (d .if1 .left)) (refl, c .before .before .read-counters .ensures)
 
 returns-3 : tie.Need-returns-3
 returns-3 c =
@@ -56,4 +50,4 @@ returns-3 c =
 
 pub read-histogram-spec : {M : Type 1} → statement M
 read-histogram-spec =
-    tie.close (tie.spec frame-requires enum-told returns read-words-requires enum-known-number same-length returns-2 returns-3)
+    tie.close (tie.spec frame-requires enum-told returns read-counters-requires enum-known-number same-length returns-2 returns-3)

@@ -26,8 +26,10 @@ returns-2 c =
 put-head-requires : tie.Need-put-head-requires
 put-head-requires c κs = search needs
 
-write-words-requires : tie.Need-write-words-requires
-write-words-requires c κs = omega (arith, c .before .before .before .before .before .if2 .left, c .before .before .before .before .before .before .if1 .left)
+write-counters-requires : tie.Need-write-counters-requires
+write-counters-requires c κs =
+    let d = c .before .before .before .before .before in
+    (d .before .if1 .left, omega (arith, d .if2 .left))
 
 same-length : tie.Need-same-length
 same-length c = search needs
@@ -42,10 +44,10 @@ returns-3 c =
     let l = body-length (now (a .counters)) (d .before .if1 .left) in
     rw (write-went (now (a .counters)) out (d .before .if1 .left) (d .if2 .left)) (
       refl,
-      c .before .before .write-words .ensures
+      c .before .before .write-counters .ensures
           ∙ ap (λ (o : List ℕ). sets o 6 body) (c .before .before .before .before .before .before .put-head .ensures)
           ∙ record-put Histogram 4002 out body (omega (arith, l)) (omega (arith, l, d .if2 .left)),
     )
 
 pub write-histogram-spec : {M : Type 1} → statement M
-write-histogram-spec = tie.close (tie.spec returns returns-2 put-head-requires write-words-requires same-length returns-3)
+write-histogram-spec = tie.close (tie.spec returns returns-2 put-head-requires write-counters-requires same-length returns-3)

@@ -1,0 +1,91 @@
+-- Nothing refuses the question over 1,000 counters alone, so what refuses a report is what refuses its record; and the figures of a report are in order.
+-- Assumes nothing.
+use mathlib.Core.Path.{_≡_, refl, sym, ap, subst, _∙_}
+use mathlib.Core.List.{List, []}
+use Prim.Native.Nat.{ℕ, _+_, _-_, _≤_}
+use native.Mathlib.Omega.{arith}
+use borrow.Author.Tests.{le-ltb, eq-eqb}
+use lib.ListN.{length, length-replicate}
+use Rattle.refusals.specs.Outcome.{went, refused, Question, answers, NoValues, done}
+use Rattle.histogram_bins.specs.Bin.{bins, binOf}
+use Rattle.histogram.specs.Histogram.{empty, sums}
+use Rattle.history.specs.Set.{blockAt, anyOutside, allSound, allShow, refusalOf}
+use Rattle.spans.specs.Span.{Span, found, nothing, notANumber}
+use Rattle.histogram_range.specs.Counted.{addedTo, blocksIn, countedSpan}
+use Rattle.histogram_range.proofs.Adding.{sums-length}
+use Rattle.range.specs.Range.{queuesIn, rangeOver, rangeOf}
+use Rattle.layout.specs.declared.Kind.the-variants.{Histogram}
+use Rattle.layout.specs.Layout.{orderOf, bodyIn, frameOf, andThen}
+use Rattle.layout.proofs.Runs.{numbers-length}
+use Rattle.records.specs.Record.{countWidth, countersIn, readHistogram}
+use Rattle.summary.specs.Summary.{Figures, ranged, rangeless, figuresBy, alone, figuresOf, figuresRead, summaryOf}
+use Rattle.summary.proofs.Rising.{Rising, counted-rises}
+
+-- ---- counters alone
+-- their range: that of the counters added to none
+abbrev pub spanOf : List ℕ → Span
+spanOf counters = countedSpan (sums empty (blockAt counters 0))
+
+range-alone : (counters : List ℕ) → length counters ≡ bins → rangeOf (alone counters) [] ≡ went [] (spanOf counters)
+unfolding alone rangeOf rangeOver refusalOf anyOutside allSound allShow queuesIn addedTo
+range-alone counters h = rw (le-ltb (length counters) bins (omega (arith, h)))
+
+-- the figures of a span
+abbrev pub figuresIn : ℕ → Span → Figures
+figuresIn blocks (found low high) = ranged blocks (binOf low) (binOf high) (binOf high - binOf low)
+figuresIn blocks nothing = rangeless blocks
+figuresIn blocks notANumber = rangeless blocks
+
+by-span : (blocks : ℕ) (span : Span) → figuresBy blocks (went [] span) ≡ answers (figuresIn blocks span)
+by-span blocks (found low high) = refl
+by-span blocks nothing = refl
+by-span blocks notANumber = refl
+
+pub figures-alone : (counters : List ℕ) → length counters ≡ bins → figuresOf counters ≡ answers (figuresIn (blocksIn counters) (spanOf counters))
+unfolding figuresOf
+figures-alone counters h = ap (figuresBy (blocksIn counters)) (range-alone counters h) ∙ by-span (blocksIn counters) (spanOf counters)
+
+-- ---- a record's
+empty-length : length empty ≡ bins
+unfolding empty
+empty-length = length-replicate {A = ℕ} bins 0
+
+counters-length : (bytes : List ℕ) → length (countersIn bytes) ≡ bins
+unfolding countersIn
+counters-length bytes = numbers-length (orderOf Histogram) countWidth bins (bodyIn bytes)
+
+-- the figures in a record that passes
+abbrev pub figuresFrom : List ℕ → Figures
+figuresFrom bytes = figuresIn (blocksIn (countersIn bytes)) (spanOf (countersIn bytes))
+
+read-then : (bytes : List ℕ) (test : Question NoValues) → figuresRead (andThen test (went (countersIn bytes) done)) ≡ andThen test (answers (figuresFrom bytes))
+read-then bytes (went kept values) = figures-alone (countersIn bytes) (counters-length bytes)
+read-then bytes (refused r) = refl
+
+-- nothing but the record refuses the report
+pub summary-is : (bytes : List ℕ) → summaryOf bytes ≡ andThen (frameOf Histogram bytes) (answers (figuresFrom bytes))
+unfolding summaryOf readHistogram
+summary-is bytes = rw (eq-eqb (length empty) bins empty-length) (read-then bytes (frameOf Histogram bytes))
+
+-- ---- in order
+-- the low bin is not above the high bin, and the range is how far they are apart
+abbrev pub InOrder : Figures → Type 0
+InOrder (ranged blocks low high range) = (low ≤ high) × (low + range ≡ high)
+InOrder (rangeless blocks) = Unit
+
+in-order : (blocks : ℕ) (span : Span) → Rising span → InOrder (figuresIn blocks span)
+in-order blocks (found low high) h = (h, omega (arith, h))
+in-order blocks nothing h = tt
+in-order blocks notANumber h = tt
+
+pub record-in-order : (bytes : List ℕ) → InOrder (figuresFrom bytes)
+record-in-order bytes =
+    in-order (blocksIn (countersIn bytes)) (spanOf (countersIn bytes))
+    (counted-rises (sums empty (blockAt (countersIn bytes) 0)) (sums-length empty (blockAt (countersIn bytes) 0) ∙ empty-length))
+
+out-of : (test : Question NoValues) (mine figures : Figures) → InOrder mine → andThen test (answers mine) ≡ answers figures → InOrder figures
+out-of (went kept values) mine figures h e = let same : mine ≡ figures = cc in subst InOrder same h
+out-of (refused r) mine figures h e = let z : _≡_ {A = ℕ} 0 1 = cc in absurd (omega arith)
+
+pub report-in-order : (bytes : List ℕ) (figures : Figures) → summaryOf bytes ≡ answers figures → InOrder figures
+report-in-order bytes figures e = out-of (frameOf Histogram bytes) (figuresFrom bytes) figures (record-in-order bytes) (sym (summary-is bytes) ∙ e)
