@@ -11,8 +11,8 @@ use codes::number_of;
 use filter::Filter;
 use filter::Switches;
 use recurrence::Coefficients;
-use recurrence::State;
 use sample_peak::Peaks;
+use states::State;
 use true_peak::TruePeak;
 
 fn switches_of(on: u8) -> Switches

@@ -1,6 +1,6 @@
 -- Two filters moved to the same are the same. Assumes nothing.
 use mathlib.Core.Path.{_≡_, ap, _∙_}
-use Rattle.recurrence.specs.declared.State.{State}
+use Rattle.states.specs.declared.State.{State}
 use Rattle.sample_peak.specs.declared.Peaks.{Peaks}
 use Rattle.true_peak.specs.declared.TruePeak.{TruePeak}
 use Rattle.filter.specs.declared.Filter.{Filter}

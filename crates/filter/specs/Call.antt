@@ -4,8 +4,8 @@ use mathlib.Core.Bool.{cond}
 use mathlib.Core.List.{List, []}
 use lib.Ieee.{Float}
 use Rattle.refusals.specs.Outcome.{Outcome, keptBy, NoValues}
-use Rattle.recurrence.specs.declared.State.{State}
-use Rattle.recurrence.specs.Channels as recurrence
+use Rattle.states.specs.declared.State.{State}
+use Rattle.states.specs.Channels as recurrence
 use Rattle.true_peak.specs.TruePeak.{Block}
 use Rattle.filter.specs.declared.Filter.{Filter}
 

@@ -6,7 +6,7 @@ use lib.Dec.{ltb}
 use lib.ListN.{getD}
 use lib.Ieee.{Float}
 use Rattle.samples.specs.Frames.{silence}
-use Rattle.recurrence.specs.declared.State.{State}
+use Rattle.states.specs.declared.State.{State}
 use Rattle.sample_peak.specs.declared.Peaks.{Peaks}
 use Rattle.true_peak.specs.declared.TruePeak.{TruePeak}
 use Rattle.filter.specs.declared.Filter.{Filter}

@@ -3,12 +3,12 @@ ghost use mathlib.Core.Path.{_≡_};
 ghost use lib.ListN.{getD, replicate};
 ghost use Rattle.samples.specs.Frames.{silence};
 ghost use Rattle.calls.specs.Calls.{mostChannels};
-ghost use Rattle.recurrence.specs.Channels.{statePlaces};
+ghost use Rattle.states.specs.Channels.{statePlaces};
 ghost use Rattle.true_peak.specs.TruePeak.{silent};
 ghost use Rattle.filter.specs.Filter.{moved, peakOf};
 use recurrence::Coefficients;
-use recurrence::State;
 use sample_peak::Peaks;
+use states::State;
 use true_peak::TruePeak;
 
 // What a call works out. What is off alters nothing.

@@ -9,7 +9,7 @@ use Rattle.refusals.specs.Outcome.{keptBy, went, done}
 use Rattle.calls.specs.Check.{Check, passes, unless}
 use Rattle.calls.specs.Calls.{checkFrames, checkProcess}
 use Rattle.calls.proofs.Checking.{seeds, processes}
-use Rattle.recurrence.specs.Channels as recurrence
+use Rattle.states.specs.Channels as recurrence
 use Rattle.weighting.specs.Weighting as weighting
 use Rattle.sample_peak.specs.declared.Peaks.{Peaks}
 use Rattle.sample_peak.specs.Peak.{peaksAfter, raised}

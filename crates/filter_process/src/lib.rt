@@ -5,7 +5,7 @@ ghost use Rattle.refusals.specs.Answer.{said};
 ghost use Rattle.refusals.specs.Outcome.{saidBy, keptBy};
 ghost use Rattle.samples.specs.Sample.{samplesOf16, samplesOfF32};
 ghost use Rattle.sources.specs.Source.{sourceOf};
-ghost use Rattle.recurrence.specs.Channels as recurrence;
+ghost use Rattle.states.specs.Channels as recurrence;
 ghost use Rattle.weighting.specs.Weighting as weighting;
 ghost use Rattle.sample_peak.specs.Peak.{raised};
 ghost use Rattle.true_peak.specs.TruePeak as trues;
@@ -14,9 +14,9 @@ ghost use Rattle.filter_process.specs.Process.{processed};
 use filter::Filter;
 use filter::Filtered;
 use recurrence::Coefficients;
-use recurrence::State;
 use refusals::Answer;
 use sample_peak::Peaks;
+use states::State;
 use true_peak::TruePeak;
 
 // The sample peaks after the call, or the stored ones where the sample peak is off.

@@ -7,7 +7,7 @@ use Rattle.refusals.specs.Outcome.{keptBy, went, done}
 use Rattle.calls.specs.Check.{Check, passes, unless}
 use Rattle.calls.specs.Calls.{checkFrames, checkSeed}
 use Rattle.calls.proofs.Checking.{seeds}
-use Rattle.recurrence.specs.Channels as recurrence
+use Rattle.states.specs.Channels as recurrence
 use Rattle.seeding.specs.Seeding as seeding
 use Rattle.interp.specs.Interp.{kindOf}
 use Rattle.true_peak.specs.declared.TruePeak.{TruePeak}

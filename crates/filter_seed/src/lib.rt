@@ -5,7 +5,7 @@ ghost use Rattle.refusals.specs.Answer.{said};
 ghost use Rattle.refusals.specs.Outcome.{saidBy, keptBy};
 ghost use Rattle.samples.specs.Sample.{samplesOf16, samplesOfF32};
 ghost use Rattle.sources.specs.Source.{sourceOf};
-ghost use Rattle.recurrence.specs.Channels as recurrence;
+ghost use Rattle.states.specs.Channels as recurrence;
 ghost use Rattle.seeding.specs.Seeding as seeding;
 ghost use Rattle.true_peak.specs.TruePeak as trues;
 ghost use Rattle.filter.specs.Call.{seedOf, kept};
@@ -13,8 +13,8 @@ ghost use Rattle.filter_seed.specs.Seed.{seeded};
 use filter::Filter;
 use filter::Filtered;
 use recurrence::Coefficients;
-use recurrence::State;
 use refusals::Answer;
+use states::State;
 use true_peak::TruePeak;
 
 // The interpolator's memory after the call, and its peaks as they are; or all as it is where the true peak is off.

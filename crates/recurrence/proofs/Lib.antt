@@ -1,4 +1,1 @@
 pub mod Moving
-pub mod Memories
-pub mod Cutting
-pub mod Alone

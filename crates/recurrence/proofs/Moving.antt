@@ -12,14 +12,10 @@ use Rattle.samples.proofs.Columns.{within}
 use Rattle.sources.proofs.Reaching.{one-less}
 use Rattle.recurrence.specs.declared.Memory.{Memory}
 use Rattle.recurrence.specs.Recurrence.{head, output, shift, next, out, after, outs}
-use Rattle.recurrence.specs.Channels.{memoryOf}
 
--- what the frames of a block do to channel k's memory, and the outputs that they give it, from the flat state `values`
+-- what the frames of a block do to channel k's memory
 abbrev pub moves : List Float → List Float → ℕ → ℕ → ℕ → Memory → Memory
 moves a block channels count k m = after a m (column block k channels count)
-
-abbrev pub writes : List Float → List Float → List Float → List Float → ℕ → ℕ → ℕ → List Float
-writes a b values block channels count k = outs a b (memoryOf values k) (column block k channels count)
 
 -- ---- one turn: x is the sample, g the new s0, y the output and m′ the memory after it
 

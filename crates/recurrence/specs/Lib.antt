@@ -1,2 +1,1 @@
 pub mod Recurrence
-pub mod Channels

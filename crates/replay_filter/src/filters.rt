@@ -4,9 +4,9 @@ use filter::Filtered;
 use filter::Switches;
 use interp::Twelve;
 use recurrence::Coefficients;
-use recurrence::State;
 use refusals::Answer;
 use sample_peak::Peaks;
+use states::State;
 use true_peak::TruePeak;
 
 // 0, or the refusal's number.

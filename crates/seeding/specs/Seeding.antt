@@ -3,8 +3,8 @@ use lib.ListN.{length}
 use Rattle.refusals.specs.Outcome.{Outcome, went, NoValues, done}
 use Rattle.calls.specs.Check.{unless}
 use Rattle.calls.specs.Calls.{checkSeed}
-use Rattle.recurrence.specs.declared.State.{State}
-use Rattle.recurrence.specs.Channels.{Call, stateAfter}
+use Rattle.states.specs.declared.State.{State}
+use Rattle.states.specs.Channels.{Call, stateAfter}
 
 -- what a call comes to
 unfoldable pub moved : Call → Outcome State NoValues

@@ -7,9 +7,9 @@ ghost use Rattle.samples.specs.Frames.{column};
 ghost use Rattle.calls.specs.Calls.{mostChannels, used};
 ghost use Rattle.sources.specs.Blocks.{Reach};
 ghost use Rattle.recurrence.specs.Recurrence.{after};
-ghost use Rattle.recurrence.specs.Channels.{memoryOf, withMemory, overUsed};
+ghost use Rattle.states.specs.Channels.{memoryOf, withMemory, overUsed};
 use recurrence::Memory;
-use recurrence::State;
+use states::State;
 
 // One channel's frames of a block: its memory after them.
 fn advance(a: [f64; 5], m: Memory, block: &[f64], first: usize, step: usize, count: usize) -> Memory
@@ -43,8 +43,8 @@ fn advance_channel(
     if byte == 0 {
         return s;
     }
-    let m = advance(a, recurrence::load(s, k), block, k, channels, count);
-    recurrence::store(s, k, m)
+    let m = advance(a, states::load(s, k), block, k, channels, count);
+    states::store(s, k, m)
 }
 
 // Every channel's memory after the frames of a block, with no outputs.

@@ -7,10 +7,10 @@ ghost use Rattle.samples.specs.Frames.{column};
 ghost use Rattle.sources.specs.Source.{sourceOf};
 ghost use Rattle.sources.specs.Blocks.{Whole};
 ghost use Rattle.recurrence.specs.Recurrence.{after, flushed};
-ghost use Rattle.recurrence.specs.Channels.{callOf, overUsed};
+ghost use Rattle.states.specs.Channels.{callOf, overUsed};
 ghost use Rattle.seeding.specs.Seeding.{moved};
 use recurrence::Coefficients;
-use recurrence::State;
+use states::State;
 
 mod block;
 
@@ -40,7 +40,7 @@ fn advance_all(
     let mut block: [f64; BLOCK] = [0.0; BLOCK];
     let most = BLOCK / channels;
     let values = s.values;
-    let mut w = recurrence::state_of(values);
+    let mut w = states::state_of(values);
     let mut done = 0;
     while done < frames {
         let count = sources::shorter(frames - done, most);
@@ -48,7 +48,7 @@ fn advance_all(
         w = block::advance_block(a, w, channels, count, &block, map);
         done += count;
     }
-    recurrence::flush_used(w, map)
+    states::flush_used(w, map)
 }
 
 // One call over interleaved samples, of one kind: integers, or floats where there are no integers. A map byte of 0 is an unused channel, 1 a used one.

@@ -12,7 +12,7 @@ use Rattle.samples.specs.Frames.{framesOf, channelOf}
 use Rattle.samples.proofs.Columns.{length-column}
 use Rattle.calls.specs.Calls.{used}
 use Rattle.recurrence.specs.Recurrence.{outs}
-use Rattle.recurrence.specs.Channels.{Call, heard, memoryOf}
+use Rattle.states.specs.Channels.{Call, heard, memoryOf}
 use Rattle.recurrence.proofs.Moving.{length-outs}
 use Rattle.weighting.specs.Weighting.{destAfter}
 use Rattle.weighting.proofs.Destinations.{parts-own, parts-stay}

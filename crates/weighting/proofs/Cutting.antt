@@ -11,9 +11,10 @@ use Rattle.calls.specs.Calls.{mostChannels}
 use Rattle.sources.proofs.Cutting.{Next, joined, frames-are}
 use Rattle.recurrence.specs.declared.Memory.{Memory}
 use Rattle.recurrence.specs.Recurrence.{outs}
-use Rattle.recurrence.specs.Channels.{Call, statePlaces, memoryOf, overUsed}
-use Rattle.recurrence.proofs.Moving.{moves, writes, outs-append, length-outs}
-use Rattle.recurrence.proofs.Cutting.{own-memory}
+use Rattle.states.specs.Channels.{Call, statePlaces, memoryOf, overUsed}
+use Rattle.recurrence.proofs.Moving.{moves, outs-append, length-outs}
+use Rattle.states.proofs.Memories.{writes}
+use Rattle.states.proofs.Cutting.{own-memory}
 use Rattle.weighting.specs.Weighting.{overParts, destAfter}
 use Rattle.weighting.proofs.Destinations.{parts-same, parts-append, parts-none}
 

@@ -15,12 +15,12 @@ use Rattle.recurrence.specs.declared.Memory.{Memory}
 use Rattle.calls.specs.Calls.{mostChannels, used}
 use Rattle.sources.specs.Blocks.{Reach}
 use Rattle.recurrence.specs.Recurrence.{head, output, next, out, after, outs}
-use Rattle.recurrence.specs.Channels.{memoryOf, withMemory, overUsed}
+use Rattle.states.specs.Channels.{memoryOf, withMemory, overUsed}
 use Rattle.weighting.specs.Weighting.{overParts}
 use Rattle.sources.proofs.Reaching.{reach-here, reach-rest}
 use Rattle.recurrence.proofs.Moving.{turn-after, turn-outs, none-after, none-outs, length-outs}
 use Rattle.sources.proofs.Stores.{sets-comm}
-use Rattle.recurrence.proofs.Memories.{changed, changed-above, over-again}
+use Rattle.states.proofs.Memories.{changed, changed-above, over-again}
 use Rattle.weighting.proofs.Destinations.{stored, parts-again}
 
 -- from memories m and n and a destination, `left` frames of two neighbouring channels give these memories and this destination

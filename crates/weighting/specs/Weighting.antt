@@ -9,9 +9,9 @@ use lib.Ieee.{Float}
 use Rattle.refusals.specs.Outcome.{Outcome, went, keptBy, NoValues, done}
 use Rattle.calls.specs.Check.{unless}
 use Rattle.calls.specs.Calls.{used, checkProcess}
-use Rattle.recurrence.specs.declared.State.{State}
+use Rattle.states.specs.declared.State.{State}
 use Rattle.recurrence.specs.Recurrence.{outs}
-use Rattle.recurrence.specs.Channels.{Call, heard, memoryOf, stateAfter}
+use Rattle.states.specs.Channels.{Call, heard, memoryOf, stateAfter}
 
 -- each used channel's outputs stored in its own equal part of the destination, from the start index
 unfoldable pub overParts : (ℕ → List Float) → ℕ → ℕ → List ℕ → ℕ → List Float → List Float

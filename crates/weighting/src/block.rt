@@ -10,12 +10,12 @@ ghost use Rattle.samples.specs.Frames.{column};
 ghost use Rattle.calls.specs.Calls.{mostChannels, used};
 ghost use Rattle.sources.specs.Blocks.{Reach};
 ghost use Rattle.recurrence.specs.Recurrence.{next, out, after, outs};
-ghost use Rattle.recurrence.specs.Channels.{memoryOf, withMemory, overUsed};
+ghost use Rattle.states.specs.Channels.{memoryOf, withMemory, overUsed};
 ghost use Rattle.weighting.specs.Parts.{Parts};
 ghost use Rattle.weighting.specs.Weighting.{overParts};
 use recurrence::Coefficients;
 use recurrence::Memory;
-use recurrence::State;
+use states::State;
 
 // One channel's frames of a block: its memory after them, and their outputs in dest from place `to` on.
 fn weigh(
@@ -143,17 +143,8 @@ fn weigh_channel(
     if byte == 0 {
         return s;
     }
-    let m = weigh(
-        c,
-        recurrence::load(s, k),
-        block,
-        k,
-        channels,
-        count,
-        dest,
-        to,
-    );
-    recurrence::store(s, k, m)
+    let m = weigh(c, states::load(s, k), block, k, channels, count, dest, to);
+    states::store(s, k, m)
 }
 
 // Channels k and k + 1 of a block, both used.
@@ -177,8 +168,8 @@ fn weigh_pair(
     let p = weigh_two(
         c,
         Pair {
-            one: recurrence::load(s, k),
-            two: recurrence::load(s, k + 1),
+            one: states::load(s, k),
+            two: states::load(s, k + 1),
         },
         block,
         k,
@@ -190,7 +181,7 @@ fn weigh_pair(
     );
     let m = p.one;
     let n = p.two;
-    recurrence::store(recurrence::store(s, k, m), k + 1, n)
+    states::store(states::store(s, k, m), k + 1, n)
 }
 
 // Whether channel k and the one after it are both used.

@@ -7,11 +7,11 @@ ghost use Rattle.samples.specs.Frames.{column};
 ghost use Rattle.sources.specs.Source.{sourceOf};
 ghost use Rattle.sources.specs.Blocks.{Whole};
 ghost use Rattle.recurrence.specs.Recurrence.{after, outs, flushed};
-ghost use Rattle.recurrence.specs.Channels.{callOf, memoryOf, overUsed};
+ghost use Rattle.states.specs.Channels.{callOf, memoryOf, overUsed};
 ghost use Rattle.weighting.specs.Parts.{Parts};
 ghost use Rattle.weighting.specs.Weighting.{overParts, weighed, kept};
 use recurrence::Coefficients;
-use recurrence::State;
+use states::State;
 
 mod block;
 
@@ -45,7 +45,7 @@ fn weigh_all(
     let mut block: [f64; BLOCK] = [0.0; BLOCK];
     let most = BLOCK / channels;
     let values = s.values;
-    let mut w = recurrence::state_of(values);
+    let mut w = states::state_of(values);
     let mut done = 0;
     while done < frames {
         let count = sources::shorter(frames - done, most);
@@ -53,7 +53,7 @@ fn weigh_all(
         w = block::weigh_block(c, w, channels, count, &block, map, dest, part, start + done);
         done += count;
     }
-    recurrence::flush_used(w, map)
+    states::flush_used(w, map)
 }
 
 // One call over interleaved samples, of one kind: integers, or floats where there are no integers. Each used channel's outputs go to

@@ -5,7 +5,7 @@ use lib.ListN.{replicate}
 use lib.Ieee.{ofBits}
 use Rattle.samples.specs.Frames.{silence}
 use Rattle.calls.specs.Calls.{mostChannels}
-use Rattle.recurrence.specs.Channels.{statePlaces}
+use Rattle.states.specs.Channels.{statePlaces}
 use Rattle.true_peak.specs.declared.TruePeak.{TruePeak}
 use Rattle.filter.specs.declared.Filter.{Filter}
 use Rattle.filter.proofs.new.Statement.{statement}

@@ -7,13 +7,13 @@ use mathlib.Core.List.{List}
 use lib.ListN.{length, getD}
 use lib.Ieee.{Float, nan}
 use Rattle.sources.specs.Blocks.{blockPlaces}
-use Rattle.recurrence.specs.Channels.{statePlaces}
+use Rattle.states.specs.Channels.{statePlaces}
 use Rattle.sources.specs.Source.{sourceOf}
 use Rattle.recurrence.specs.Recurrence.{flushed}
-use Rattle.recurrence.specs.Channels.{overUsed}
+use Rattle.states.specs.Channels.{overUsed}
 use Rattle.recurrence.proofs.Moving.{moves}
 use Rattle.sources.proofs.Cutting.{Next, Step, step, filled}
-use Rattle.recurrence.proofs.Cutting.{cut-state, start-state, end-state}
+use Rattle.states.proofs.Cutting.{cut-state, start-state, end-state}
 use Rattle.seeding.proofs.advance_all.Statement.{statement}
 use Rattle.seeding.proofs.advance_all.Tie as tie
 

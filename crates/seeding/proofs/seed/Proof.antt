@@ -13,9 +13,9 @@ use Rattle.calls.proofs.Checking.{passed, framed, Framed, mapped, Seeds, seeds}
 use Rattle.calls.proofs.Stopping.{stopped, goes}
 use Rattle.sources.specs.Source.{sourceOf}
 use Rattle.sources.proofs.Cutting.{all-frames}
-use Rattle.recurrence.specs.declared.State.{State}
-use Rattle.recurrence.specs.Channels.{Call, callOf, stateAfter}
-use Rattle.recurrence.proofs.Cutting.{state-is}
+use Rattle.states.specs.declared.State.{State}
+use Rattle.states.specs.Channels.{Call, callOf, stateAfter}
+use Rattle.states.proofs.Cutting.{state-is}
 use Rattle.seeding.specs.Seeding.{moved}
 use Rattle.seeding.proofs.seed.Statement.{statement}
 use Rattle.seeding.proofs.seed.Tie as tie

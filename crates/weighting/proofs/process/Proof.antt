@@ -14,9 +14,9 @@ use Rattle.calls.proofs.Checking.{passed, Framed, framed, mapped, seeds, Proces
 use Rattle.calls.proofs.Stopping.{Refuses, stopped, goes}
 use Rattle.sources.specs.Source.{sourceOf}
 use Rattle.sources.proofs.Cutting.{all-frames}
-use Rattle.recurrence.specs.declared.State.{State}
-use Rattle.recurrence.specs.Channels.{Call, callOf, stateAfter}
-use Rattle.recurrence.proofs.Cutting.{state-is}
+use Rattle.states.specs.declared.State.{State}
+use Rattle.states.specs.Channels.{Call, callOf, stateAfter}
+use Rattle.states.proofs.Cutting.{state-is}
 use Rattle.weighting.specs.Weighting.{Kept, destAfter, weighed}
 use Rattle.weighting.proofs.Cutting.{dest-is}
 use Rattle.weighting.proofs.process.Statement.{statement}

@@ -6,16 +6,17 @@ use mathlib.Core.Path.{_≡_, refl, sym, ap, _∙_}
 use mathlib.Core.List.{List}
 use lib.ListN.{length, getD}
 use lib.Ieee.{Float, nan}
-use Rattle.recurrence.specs.Channels.{statePlaces}
+use Rattle.states.specs.Channels.{statePlaces}
 use Rattle.sources.specs.Source.{sourceOf}
 use Rattle.sources.specs.Blocks.{blockPlaces}
 use Rattle.weighting.specs.Parts.{Parts}
 use Rattle.recurrence.specs.Recurrence.{flushed}
-use Rattle.recurrence.specs.Channels.{overUsed}
+use Rattle.states.specs.Channels.{overUsed}
 use Rattle.weighting.specs.Weighting.{overParts}
-use Rattle.recurrence.proofs.Moving.{moves, writes}
+use Rattle.recurrence.proofs.Moving.{moves}
+use Rattle.states.proofs.Memories.{writes}
 use Rattle.sources.proofs.Cutting.{Next, Step, step, filled}
-use Rattle.recurrence.proofs.Cutting.{cut-state, start-state, end-state}
+use Rattle.states.proofs.Cutting.{cut-state, start-state, end-state}
 use Rattle.weighting.proofs.Cutting.{cut-dest, start-dest}
 use Rattle.weighting.proofs.weigh_all.Statement.{statement}
 use Rattle.weighting.proofs.weigh_all.Tie as tie

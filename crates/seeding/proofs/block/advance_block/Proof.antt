@@ -6,10 +6,10 @@ use mathlib.Core.Path.{_≡_, refl, sym, _∙_}
 use mathlib.Core.List.{List}
 use lib.ListN.{length, drop}
 use lib.Ieee.{Float}
-use Rattle.recurrence.specs.Channels.{overUsed}
+use Rattle.states.specs.Channels.{overUsed}
 use Rattle.recurrence.proofs.Moving.{moves}
 use Rattle.sources.proofs.Reaching.{reach-start}
-use Rattle.recurrence.proofs.Memories.{over-again, over-end}
+use Rattle.states.proofs.Memories.{over-again, over-end}
 use Rattle.seeding.proofs.block.advance_block.Statement.{statement}
 use Rattle.seeding.proofs.block.advance_block.Tie as tie
 

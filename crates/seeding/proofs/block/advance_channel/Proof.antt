@@ -5,7 +5,7 @@ use mathlib.Core.Path.{refl, ap, _∙_}
 use Rattle.samples.specs.Frames.{column}
 use Rattle.recurrence.specs.declared.Memory.{Memory}
 use Rattle.recurrence.specs.Recurrence.{after}
-use Rattle.recurrence.specs.Channels.{withMemory}
+use Rattle.states.specs.Channels.{withMemory}
 use Rattle.seeding.proofs.block.advance_channel.Statement.{statement}
 use Rattle.seeding.proofs.block.advance_channel.Tie as tie
 

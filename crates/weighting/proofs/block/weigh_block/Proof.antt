@@ -7,10 +7,10 @@ use mathlib.Core.Path.{_≡_, refl, sym, ap, _∙_}
 use mathlib.Core.List.{List}
 use lib.ListN.{length, drop}
 use lib.Ieee.{Float}
-use Rattle.recurrence.specs.Channels.{memoryOf, overUsed}
+use Rattle.states.specs.Channels.{memoryOf, overUsed}
 use Rattle.weighting.specs.Weighting.{overParts}
-use Rattle.recurrence.proofs.Moving.{moves, writes}
-use Rattle.recurrence.proofs.Memories.{over-end}
+use Rattle.recurrence.proofs.Moving.{moves}
+use Rattle.states.proofs.Memories.{writes, over-end}
 use Rattle.weighting.proofs.Destinations.{parts-end}
 use Rattle.weighting.proofs.block.weigh_block.Statement.{statement}
 use Rattle.weighting.proofs.block.weigh_block.Tie as tie

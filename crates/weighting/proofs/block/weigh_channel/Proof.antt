@@ -6,7 +6,7 @@ use Rattle.samples.specs.Frames.{column}
 use lib.Seq.{sets}
 use Rattle.recurrence.specs.declared.Memory.{Memory}
 use Rattle.recurrence.specs.Recurrence.{after, outs}
-use Rattle.recurrence.specs.Channels.{withMemory}
+use Rattle.states.specs.Channels.{withMemory}
 use Rattle.weighting.proofs.block.weigh_channel.Statement.{statement}
 use Rattle.weighting.proofs.block.weigh_channel.Tie as tie
 

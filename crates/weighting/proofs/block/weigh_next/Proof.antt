@@ -13,10 +13,10 @@ use Rattle.samples.specs.Frames.{column}
 use Rattle.recurrence.specs.declared.Memory.{Memory}
 use Rattle.calls.specs.Calls.{used}
 use Rattle.recurrence.specs.Recurrence.{outs}
-use Rattle.recurrence.specs.Channels.{memoryOf}
-use Rattle.recurrence.proofs.Moving.{moves, writes}
+use Rattle.states.specs.Channels.{memoryOf}
+use Rattle.recurrence.proofs.Moving.{moves}
+use Rattle.states.proofs.Memories.{writes, changed-above, over-again}
 use Rattle.sources.proofs.Reaching.{reach-start}
-use Rattle.recurrence.proofs.Memories.{changed-above, over-again}
 use Rattle.weighting.proofs.Destinations.{parts-again, part-ends}
 use Rattle.weighting.proofs.Pairs.{over-two, parts-two, above-two}
 use Rattle.weighting.proofs.block.weigh_next.Statement.{statement}

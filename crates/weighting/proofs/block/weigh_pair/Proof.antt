@@ -6,7 +6,7 @@ use lib.Seq.{sets}
 use Rattle.samples.specs.Frames.{column}
 use Rattle.recurrence.specs.declared.Memory.{Memory}
 use Rattle.recurrence.specs.Recurrence.{after, outs}
-use Rattle.recurrence.specs.Channels.{memoryOf, withMemory}
+use Rattle.states.specs.Channels.{memoryOf, withMemory}
 use Rattle.weighting.proofs.block.weigh_pair.Statement.{statement}
 use Rattle.weighting.proofs.block.weigh_pair.Tie as tie
 

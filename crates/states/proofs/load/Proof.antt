@@ -1,12 +1,12 @@
--- `recurrence::load` meets its contract: five places next to each other, or none. Assumes nothing.
+-- `states::load` meets its contract: five places next to each other, or none. Assumes nothing.
 use borrow.Author.Needs.{needs}
 use mathlib.Core.Path.{ap, sym, _∙_}
 use mathlib.Core.List.{List}
 use lib.Ieee.{Float}
-use Rattle.recurrence.specs.Channels.{memoryOf}
-use Rattle.recurrence.proofs.Memories.{memory-nowhere}
-use Rattle.recurrence.proofs.load.Statement.{statement}
-use Rattle.recurrence.proofs.load.Tie as tie
+use Rattle.states.specs.Channels.{memoryOf}
+use Rattle.states.proofs.Memories.{memory-nowhere}
+use Rattle.states.proofs.load.Statement.{statement}
+use Rattle.states.proofs.load.Tie as tie
 
 state-of-requires : tie.Need-state-of-requires
 state-of-requires c κs = search needs

@@ -1,11 +1,11 @@
--- `recurrence::flush_channel` meets its contract: a byte of 0 leaves all as it is, and any other has the channel's memory flushed. Assumes nothing.
+-- `states::flush_channel` meets its contract: a byte of 0 leaves all as it is, and any other has the channel's memory flushed. Assumes nothing.
 use borrow.Author.Needs.{needs}
 use borrow.Author.Tests.{eq-eqb, ne-eqb}
 use mathlib.Core.Path.{refl, ap, _∙_}
 use Rattle.recurrence.specs.Recurrence.{flushed}
-use Rattle.recurrence.specs.Channels.{withMemory}
-use Rattle.recurrence.proofs.flush_channel.Statement.{statement}
-use Rattle.recurrence.proofs.flush_channel.Tie as tie
+use Rattle.states.specs.Channels.{withMemory}
+use Rattle.states.proofs.flush_channel.Statement.{statement}
+use Rattle.states.proofs.flush_channel.Tie as tie
 
 returns : tie.Need-returns
 returns c = simp (eq-eqb _ _ (c .if1 .taken)) refl

@@ -1,14 +1,14 @@
--- `recurrence::flush_used` meets its contract: the channels left, from the state as it is, give what all of them give. Assumes nothing.
+-- `states::flush_used` meets its contract: the channels left, from the state as it is, give what all of them give. Assumes nothing.
 use borrow.Author.Needs.{needs}
 use Prim.Native.Nat.{_-_, _≤_}
 use native.Mathlib.Omega.{arith}
 use mathlib.Core.Path.{_≡_, refl, sym, _∙_}
 use lib.ListN.{length, drop}
 use Rattle.recurrence.specs.Recurrence.{flushed}
-use Rattle.recurrence.specs.Channels.{overUsed}
-use Rattle.recurrence.proofs.Memories.{over-again, over-end}
-use Rattle.recurrence.proofs.flush_used.Statement.{statement}
-use Rattle.recurrence.proofs.flush_used.Tie as tie
+use Rattle.states.specs.Channels.{overUsed}
+use Rattle.states.proofs.Memories.{over-again, over-end}
+use Rattle.states.proofs.flush_used.Statement.{statement}
+use Rattle.states.proofs.flush_used.Tie as tie
 
 abbrev Inv-loop : tie.InvT-loop
 Inv-loop map w₀ k₀ w k =

@@ -10,11 +10,11 @@ use lib.Ieee.{Float}
 use Rattle.samples.specs.Frames.{framesOf, column, channelOf}
 use Rattle.calls.specs.Calls.{mostChannels, used}
 use Rattle.sources.proofs.Cutting.{Next, joined, frames-are}
 use Rattle.recurrence.specs.declared.Memory.{Memory}
 use Rattle.recurrence.specs.Recurrence.{after, flushed}
-use Rattle.recurrence.specs.Channels.{Call, statePlaces, memoryOf, overUsed, stateAfter}
+use Rattle.states.specs.Channels.{Call, statePlaces, memoryOf, overUsed, stateAfter}
 use Rattle.recurrence.proofs.Moving.{moves, after-append}
-use Rattle.recurrence.proofs.Memories.{over-same, over-over, over-own, over-none}
+use Rattle.states.proofs.Memories.{over-same, over-over, over-own, over-none}
 
 -- the next block, of a state of forty values and a map of so many bytes
 module _ (src block : List Float) (channels done count : ℕ) (next : Next src block channels done count) (a values : List Float) (map : List ℕ) (fits : length map ≡ channels) (few : channels ≤ mostChannels) (size : length values ≡ statePlaces) where

@@ -14,9 +14,14 @@ use lib.Ieee.{Float, nan}
 use Rattle.samples.proofs.Fill.{past-end}
 use Rattle.calls.specs.Calls.{mostChannels, used}
 use Rattle.sources.proofs.Stores.{sets-comm, sets-again, at-before, at-after, at-within}
 use Rattle.recurrence.specs.declared.Memory.{Memory}
-use Rattle.recurrence.specs.Recurrence.{at}
-use Rattle.recurrence.specs.Channels.{statePlaces, memoryOf, withMemory, overUsed}
+use Rattle.samples.specs.Frames.{column}
+use Rattle.recurrence.specs.Recurrence.{at, outs}
+use Rattle.states.specs.Channels.{statePlaces, memoryOf, withMemory, overUsed}
+
+-- the outputs that the frames of a block give channel k, from the flat state `values`
+abbrev pub writes : List Float → List Float → List Float → List Float → ℕ → ℕ → ℕ → List Float
+writes a b values block channels count k = outs a b (memoryOf values k) (column block k channels count)
 
 abbrev five : Memory → List Float
 five m = m .s0 ∷ m .s1 ∷ m .s2 ∷ m .s3 ∷ m .s4 ∷ []

@@ -1,8 +1,8 @@
 -- `recurrence::nowhere` meets its contract: 0 / 0 is NaN. Assumes nothing.
 use mathlib.Core.Path.{refl}
 use lib.Ieee.{ofBits, div}
-use Rattle.recurrence.proofs.nowhere.Statement.{statement}
-use Rattle.recurrence.proofs.nowhere.Tie as tie
+use Rattle.states.proofs.nowhere.Statement.{statement}
+use Rattle.states.proofs.nowhere.Tie as tie
 
 returns : tie.Need-returns
 unfolding ofBits div

@@ -1,14 +1,14 @@
--- `recurrence::store` meets its contract: five stores at places next to each other are a run of stores, and past the end there is no place. Assumes nothing.
+-- `states::store` meets its contract: five stores at places next to each other are a run of stores, and past the end there is no place. Assumes nothing.
 use borrow.Author.Needs.{needs}
 use Prim.Native.Nat.{_*_}
 use mathlib.Core.Path.{ap, sym, _∙_}
 use mathlib.Core.List.{List}
 use lib.Ieee.{Float}
 use Rattle.sources.proofs.Stores.{five-stores}
-use Rattle.recurrence.specs.Channels.{withMemory}
-use Rattle.recurrence.proofs.Memories.{with-nowhere}
-use Rattle.recurrence.proofs.store.Statement.{statement}
-use Rattle.recurrence.proofs.store.Tie as tie
+use Rattle.states.specs.Channels.{withMemory}
+use Rattle.states.proofs.Memories.{with-nowhere}
+use Rattle.states.proofs.store.Statement.{statement}
+use Rattle.states.proofs.store.Tie as tie
 
 state-of-requires : tie.Need-state-of-requires
 state-of-requires c κs = search needs

@@ -7,10 +7,10 @@ use lib.Seq.{sets}
 use lib.Ieee.{Float}
 use Rattle.samples.specs.Frames.{channelOf}
 use Rattle.calls.specs.Calls.{used}
 use Rattle.recurrence.specs.declared.Memory.{Memory}
 use Rattle.recurrence.specs.declared.Coefficients.{Coefficients}
-use Rattle.recurrence.specs.declared.State.{State}
+use Rattle.states.specs.declared.State.{State}
 use Rattle.recurrence.specs.Recurrence.{at, after, flushed}
 
 -- five places of the flat state a channel
 abbrev pub statePlaces : ℕ
