@@ -2,20 +2,20 @@
 -- The definitions go by recursion on the list, so each law is one step of it. Assumes nothing.
 use mathlib.Core.Path.{_≡_, refl, sym, ap, _∙_}
 use mathlib.Core.List.{List, [], _∷_, _++_}
-use Prim.Native.Nat.{ℕ, suc, _+_, _*_, _/_, _%_, _≤_, _<_}
+use Prim.Native.Nat.{ℕ, suc, _+_, _*_, _≤_, _<_}
 use native.Mathlib.Numerals.{add-one}
 use native.Mathlib.Omega.{arith}
 use borrow.Author.Tests.{lt-ltb, le-ltb}
 use lib.IntN.{pos}
 use lib.ListN.{length, getD, drop, drop-of-length-le}
 use lib.Seq.{drop-cons}
-use lib.Ieee.{Float, binary64, mul, ofInt}
+use lib.Ieee.{Float, binary64, add, mul, ofInt}
 use Rattle.tables.specs.Tables.{energyAt}
 use Rattle.histogram_bins.specs.Bin.{bins}
 use Rattle.tables.specs.Rows.{energiesARow}
 use Rattle.history.specs.Set.{blockAt}
 use Rattle.blocks.specs.declared.Totals.{Totals}
-use Rattle.blocks.specs.Totals.{onTopOf, withBlocks, binsFrom, placesFrom, rowsFrom, energiesFrom, fromBin}
+use Rattle.blocks.specs.Totals.{onTopOf, withBlocks, binsFrom, placesFrom, rowsFrom, blocksIn, sumFrom, blocksAbove, sumAbove, energiesFrom, fromBin}
 
 module _ (counters : List ℕ) (totals : Totals) (bin : ℕ) where
   pub bins-turn : bin < length counters
@@ -45,11 +45,43 @@ module _ (counters : List ℕ) (totals : Totals) (row place : ℕ) where
   row-end e =
       ap (λ (n : ℕ). binsFrom totals n (drop n counters)) {x = energiesARow * row + place} {y = energiesARow * (row + 1) + 0} (omega (arith, e))
 
--- from the row and the place of a bin
-pub at-bin : (counters : List ℕ) (totals : Totals) (bin : ℕ)
-    → placesFrom totals (bin / energiesARow) (bin % energiesARow) counters ≡ binsFrom totals bin (drop bin counters)
-at-bin counters totals bin =
-    ap (λ (n : ℕ). binsFrom totals n (drop n counters)) {x = energiesARow * (bin / energiesARow) + bin % energiesARow} {y = bin} (omega arith)
+-- ---- count and sum apart
+pub bins-split : (count : ℕ) (sum : Float) (bin : ℕ) (l : List ℕ)
+    → binsFrom (record { count = count; sum = sum }) bin l ≡ record { count = count + blocksIn l; sum = sumFrom sum bin l }
+unfolding binsFrom blocksIn sumFrom
+bins-split count sum bin [] = ap {B = Totals} (λ (n : ℕ). record { count = n; sum = sum }) {x = count} {y = count + 0} (omega arith)
+bins-split count sum bin (x ∷ l) =
+    let next = add binary64 sum (mul binary64 (ofInt binary64 (pos x)) (energyAt bin)) in
+    bins-split (count + x) next (suc bin) l
+    ∙ ap {B = Totals} (λ (n : ℕ). record { count = n; sum = sumFrom next (suc bin) l }) {x = count + x + blocksIn l} {y = count + (x + blocksIn l)} (omega arith)
+
+module _ (counters : List ℕ) where
+  pub blocks-turn : (bin : ℕ) → bin < length counters → blocksAbove bin counters ≡ getD counters bin 0 + blocksAbove (bin + 1) counters
+  unfolding blocksIn
+  blocks-turn bin h = rw (add-one bin, drop-cons counters bin 0 h)
+
+  pub blocks-end : (bin : ℕ) → length counters ≤ bin → blocksAbove bin counters ≡ 0
+  unfolding blocksIn
+  blocks-end bin h = rw (drop-of-length-le counters h)
+
+  pub sum-end : (sum : Float) (bin : ℕ) → length counters ≤ bin → sumAbove sum bin counters ≡ sum
+  unfolding sumFrom
+  sum-end sum bin h = rw (drop-of-length-le counters h)
+
+  -- a bin's energy added
+  abbrev pub plus : Float → ℕ → Float → Float
+  plus sum bin energy = add binary64 sum (mul binary64 (ofInt binary64 (pos (getD counters bin 0))) energy)
+
+  at-next : (sum : Float) (bin : ℕ) → bin < length counters → sumAbove (plus sum bin (energyAt bin)) (bin + 1) counters ≡ sumAbove sum bin counters
+  unfolding sumFrom
+  at-next sum bin h = rw (add-one bin, drop-cons counters bin 0 h)
+
+  pub sum-turn : (sum : Float) (bin next : ℕ) (energy : Float) → bin < length counters → energy ≡ energyAt bin → next ≡ bin + 1
+      → sumAbove (plus sum bin energy) next counters ≡ sumAbove sum bin counters
+  sum-turn sum bin next energy h e n =
+      ap (λ (x : Float). sumAbove (plus sum bin x) next counters) e
+      ∙ ap (λ (k : ℕ). sumAbove (plus sum bin (energyAt bin)) k counters) n
+      ∙ at-next sum bin h
 
 -- ---- energies
 module _ (energies : List Float) (totals : Totals) (i : ℕ) where

@@ -41,6 +41,25 @@ placesFrom totals row place counters = binsFrom totals (energiesARow * row + pla
 abbrev pub rowsFrom : Totals → ℕ → List ℕ → Totals
 rowsFrom totals row counters = placesFrom totals row 0 counters
 
+-- ---- its two parts
+-- how many blocks some bins have
+unfoldable pub blocksIn : List ℕ → ℕ
+blocksIn [] = 0
+blocksIn (count ∷ rest) = count + blocksIn rest
+
+-- the sum, from a bin upward
+unfoldable pub sumFrom : Float → ℕ → List ℕ → Float
+sumFrom sum bin [] = sum
+sumFrom sum bin (count ∷ rest) = sumFrom (add binary64 sum (mul binary64 (ofInt binary64 (pos count)) (energyAt bin))) (suc bin) rest
+
+-- those of the counters from a bin on
+abbrev pub blocksAbove : ℕ → List ℕ → ℕ
+blocksAbove bin counters = blocksIn (drop bin counters)
+
+abbrev pub sumAbove : Float → ℕ → List ℕ → Float
+sumAbove sum bin counters = sumFrom sum bin (drop bin counters)
+
+-- ---- queues
 -- energies one after the other, each a block
 unfoldable pub energiesFrom : Totals → List Float → Totals
 energiesFrom totals [] = totals

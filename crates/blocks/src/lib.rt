@@ -5,7 +5,7 @@ ghost use lib.ListN.{length, drop};
 ghost use Rattle.histogram_bins.specs.Bin.{bins};
 ghost use Rattle.tables.specs.Rows.{energiesARow, energyRows};
 ghost use Rattle.histogram.specs.Histogram.{largestCount};
-ghost use Rattle.blocks.specs.Totals.{mostBlocks, onTopOf, binsFrom, placesFrom, rowsFrom, fromBin};
+ghost use Rattle.blocks.specs.Totals.{mostBlocks, onTopOf, binsFrom, blocksAbove, sumAbove, fromBin};
 ghost use Rattle.blocks.specs.Start.{startBin};
 
 // A running count of blocks and the sum of their energies.
@@ -20,40 +20,91 @@ fn wide(x: u32) -> u64
     x as u64
 }
 
-// A row of bins, from a place of it on, on top of running totals.
-fn row_from(totals: Totals, block: &[u32], row: usize, place: usize) -> Totals
-    requires { ⌜ (length (now block) ≡ bins) × (row < energyRows) × (place ≤ energiesARow) × (totals .count ≤ (energiesARow * row + place) * largestCount) ⌝ }
-    ensures { λ r. ⌜ (rowsFrom r (row + 1) (now (block .entry)) ≡ placesFrom totals row place (now (block .entry)))
-        × (r .count ≤ energiesARow * (row + 1) * largestCount) ⌝ }
+// How many blocks the bins of a row have, from a place of it on, on top of a count.
+fn row_count(count: u64, block: &[u32], row: usize, place: usize) -> u64
+    requires { ⌜ (length (now block) ≡ bins) × (row < energyRows) × (place ≤ energiesARow) × (count ≤ (energiesARow * row + place) * largestCount) ⌝ }
+    ensures { λ r. ⌜ (r + blocksAbove (energiesARow * (row + 1)) (now (block .entry)) ≡ count + blocksAbove (energiesARow * row + place) (now (block .entry)))
+        × (r ≤ energiesARow * (row + 1) * largestCount) ⌝ }
+{
+    let first = tables::ENERGIES_A_ROW * row;
+    let mut count = count;
+    let mut i = place;
+    while i < tables::ENERGIES_A_ROW {
+        count = count + wide(block[first + i]);
+        i += 1;
+    }
+    count
+}
+
+// The energies of a row's blocks, from a place of it on, on top of a sum.
+fn part_sum(sum: f64, block: &[u32], row: usize, place: usize) -> f64
+    requires { ⌜ (length (now block) ≡ bins) × (row < energyRows) × (place ≤ energiesARow) ⌝ }
+    ensures { λ r. ⌜ sumAbove r (energiesARow * (row + 1)) (now (block .entry)) ≡ sumAbove sum (energiesARow * row + place) (now (block .entry)) ⌝ }
 {
     let energies = tables::energy_row(row);
     let first = tables::ENERGIES_A_ROW * row;
-    let mut count = totals.count;
-    let mut sum = totals.sum;
+    let mut sum = sum;
     let mut i = place;
     while i < tables::ENERGIES_A_ROW {
-        let blocks = block[first + i];
-        sum = sum + (blocks as f64) * energies[i];
-        count = count + wide(blocks);
+        sum = sum + (block[first + i] as f64) * energies[i];
         i += 1;
     }
-    Totals { count, sum }
+    sum
 }
 
-// The blocks of a histogram from a bin upward, row by row.
-fn bins_from(sum: f64, block: &[u32], start: usize) -> Totals
-    requires { ⌜ length (now block) ≡ bins ⌝ }
+// The end of a row that starts at a place, where there are so many places.
+fn row_end(places: usize, first: usize) -> usize
+    requires { ⌜ first ≤ places ⌝ }
+    ensures { λ r. ⌜ (first + energiesARow ≤ places → r ≡ energiesARow) ⌝ }
+{
+    if places - first < tables::ENERGIES_A_ROW {
+        places - first
+    } else {
+        tables::ENERGIES_A_ROW
+    }
+}
+
+// Those of a whole row, four bins a turn. Its end is worked out from the lent places: a compiler that knew it would unroll the row, and the sum would wait
+// for the conversions of all its counters.
+fn row_sum(sum: f64, block: &[u32], row: usize, places: usize) -> f64
+    requires { ⌜ (length (now block) ≡ bins) × (row < energyRows) × (bins ≤ places) ⌝ }
+    ensures { λ r. ⌜ sumAbove r (energiesARow * (row + 1)) (now (block .entry)) ≡ sumAbove sum (energiesARow * row) (now (block .entry)) ⌝ }
+{
+    let energies = tables::energy_row(row);
+    let first = tables::ENERGIES_A_ROW * row;
+    let end = row_end(places, first);
+    let mut sum = sum;
+    let mut i = 0;
+    while i < end {
+        let bin = first + i;
+        sum = sum + (block[bin] as f64) * energies[i];
+        sum = sum + (block[bin + 1] as f64) * energies[i + 1];
+        sum = sum + (block[bin + 2] as f64) * energies[i + 2];
+        sum = sum + (block[bin + 3] as f64) * energies[i + 3];
+        i += 4;
+    }
+    sum
+}
+
+// The blocks of a histogram from a bin upward: the rest of its row, and the rows above.
+fn bins_from(sum: f64, block: &[u32], places: usize, start: usize) -> Totals
+    requires { ⌜ (length (now block) ≡ bins) × (bins ≤ places) ⌝ }
     ensures { λ r. ⌜ (r ≡ binsFrom (onTopOf sum) start (drop start (now (block .entry)))) × (r .count ≤ mostBlocks) ⌝ }
 {
-    let mut totals = Totals { count: 0, sum };
-    let mut place = start % tables::ENERGIES_A_ROW;
+    let place = start % tables::ENERGIES_A_ROW;
     let mut row = start / tables::ENERGIES_A_ROW;
+    if row >= tables::ENERGY_ROWS {
+        return Totals { count: 0, sum };
+    }
+    let mut count = row_count(0, block, row, place);
+    let mut sum = part_sum(sum, block, row, place);
+    row += 1;
     while row < tables::ENERGY_ROWS {
-        totals = row_from(totals, block, row, place);
-        place = 0;
+        sum = row_sum(sum, block, row, places);
+        count = row_count(count, block, row, 0);
         row += 1;
     }
-    totals
+    Totals { count, sum }
 }
 
 // The blocks of the histogram whose counters start at a place, from a bin upward: their number, and their energies on top of a running sum.
@@ -69,7 +120,7 @@ pub fn from_bin(sum: f64, counters: &[u32], start: usize, bin: usize) -> Totals
         return Totals { count: 0, sum };
     }
     let end = start + histogram_bins::BINS;
-    bins_from(sum, &counters[start..end], bin)
+    bins_from(sum, &counters[start..end], places - start, bin)
 }
 
 // Where a gate starts in a histogram. It may be past the last bin.

@@ -178,6 +178,27 @@ fn span_of(counters: &mut [u64]) -> Range
     ranked(counters, count, start)
 }
 
+// The range of a single history, to which nothing is added.
+fn alone(entry: Entry, counters: &[u32]) -> Range
+    requires { ⌜ blockEnd (entry .shape) ≤ length (now counters) ⌝ }
+    ensures { λ r. ⌜ said r ≡ says (countedSpan (withHistory empty (shows (now (counters .entry)) [] entry))) ⌝ }
+{
+    let shape = entry.shape;
+    match shape {
+        Shape::Histogram(start) => block_range::of_block(counters, start),
+        Shape::Queue(_, _) => Range::Nothing,
+    }
+}
+
+// The range of the first history of a set.
+fn of_one(entries: [Entry; MOST], counters: &[u32]) -> Range
+    requires { ⌜ blocksInside (length (now counters)) (take 1 entries) ⌝ }
+    ensures { λ r. ⌜ said r ≡ says (countedSpan (addedTo empty (allShow (now (counters .entry)) [] (take 1 entries)))) ⌝ }
+{
+    let entry = entries[0];
+    alone(entry, counters)
+}
+
 // The range over the histograms of a set. Its queues play no part.
 pub fn of_histograms(
     entries: [Entry; MOST],
@@ -190,6 +211,9 @@ pub fn of_histograms(
     let refusal = history::set::checked(entries, count, counters, energies);
     if refusal != 0 {
         return Range::Refused(refusal);
+    }
+    if count == 1 {
+        return of_one(entries, counters);
     }
     let mut added = [0u64; histogram_bins::BINS];
     add_histories(&mut added, entries, count, counters);

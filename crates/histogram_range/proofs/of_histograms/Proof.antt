@@ -1,15 +1,15 @@
 -- `histogram_range::of_histograms` meets its contract: the set's refusals first, then counters that start from 0 and have every histogram added.
 -- Assumes nothing.
-use mathlib.Core.Path.{_≡_, sym, ap, _∙_}
+use mathlib.Core.Path.{_≡_, sym, ap, subst, _∙_}
 use mathlib.Core.List.{List, []}
 use Prim.Native.Nat.{ℕ}
 use native.Mathlib.Omega.{arith}
 use denote.Ref.{now}
-use lib.ListN.{length}
+use lib.ListN.{length, take}
 use Rattle.refusals.specs.Outcome.{says, saidBy}
 use Rattle.histogram_bins.specs.Bin.{bins}
 use Rattle.histogram.specs.Histogram.{empty}
-use Rattle.history.specs.Set.{Histories, histories, chosen, allShow, refusalOf, sound}
+use Rattle.history.specs.Set.{Histories, histories, chosen, allShow, blocksInside, refusalOf, sound}
 use Rattle.history.proofs.Entries.{blocks-inside}
 use Rattle.history.proofs.Verdicts.{Kept, kept, number-none}
 use Rattle.histogram_range.specs.Counted.{addedTo, countedSpan}
@@ -41,12 +41,29 @@ checked-requires c κs = search needs
 returns : tie.Need-returns
 returns c = let k = c .before in sym (histogram-refused (given k) (k .checked .result) (k .checked .ensures) (c .if1 .taken))
 
+of-one-requires : tie.Need-of-one-requires
+of-one-requires c κs =
+    let e = c .before in
+    let h = given (e .before) in
+    subst (λ (n : ℕ). blocksInside (length (h .counters)) (take n (h .entries))) (c .if2 .taken)
+    (blocks-inside (length (h .counters)) (length (h .energies)) (chosen h) (well e .inside))
+
+returns-2 : tie.Need-returns-2
+returns-2 c =
+    let t = c .before in
+    let e = t .before in
+    let h = given (e .before) in
+    c .of-one .ensures
+    ∙ ap (λ (n : ℕ). says (countedSpan (addedTo empty (allShow (h .counters) [] (take n (h .entries)))))) (sym (t .if2 .taken))
+    ∙ ap (λ (l : List ℕ). says (countedSpan l)) (added-any (h .counters) (h .energies) (chosen h) empty)
+    ∙ sym (ap saidBy (histogram-asked h (passed e)))
+
 slice-aggregate-add-histories : tie.Need-slice-aggregate-add-histories
 slice-aggregate-add-histories c = search needs
 
 add-histories-requires : tie.Need-add-histories-requires
 add-histories-requires c κs =
-    let e = c .before in
+    let e = c .before .before in
     let h = given (e .before) in
     (well e .few, blocks-inside (length (h .counters)) (length (h .energies)) (chosen h) (well e .inside), zeros-length, zeros-most)
 
@@ -56,10 +73,10 @@ slice-aggregate-span-of c = sym (added-length (c .before .before))
 span-of-requires : tie.Need-span-of-requires
 span-of-requires c κs = (added-length (c .before .before), c .before .before .add-histories .ensures .1)
 
-returns-2 : tie.Need-returns-2
-returns-2 c =
+returns-3 : tie.Need-returns-3
+returns-3 c =
     let a = c .before .before .before .before in
-    let e = a .before .before in
+    let e = a .before .before .before in
     let h = given (e .before) in
     c .before .span-of .ensures
     ∙ ap (λ (l : List ℕ). says (countedSpan l))
@@ -74,8 +91,10 @@ of-histograms-spec =
     (tie.spec
     checked-requires
     returns
+    of-one-requires
+    returns-2
     slice-aggregate-add-histories
     add-histories-requires
     slice-aggregate-span-of
     span-of-requires
-    returns-2)
+    returns-3)

@@ -1,0 +1,80 @@
+-- Counts of blocks over bins: how many stand below a bin, one bin more, and the running counts. Assumes nothing.
+use mathlib.Core.Path.{_≡_, refl, sym, ap, _∙_, subst}
+use mathlib.Core.Bool.{Bool, true, false}
+use mathlib.Core.List.{List, [], _∷_}
+use Prim.Native.Nat.{ℕ, zero, suc, _+_, _-_, _*_, _^_, _≤_, _<_, zero-le}
+use native.Mathlib.Nat.{le-of-suc-le-suc, not-suc-le-zero}
+use native.Mathlib.Numerals.{add-one}
+use native.Mathlib.Omega.{arith}
+use borrow.Author.Tests.{ltb-true, ltb-false}
+use lib.Dec.{T, ltb, le→leb}
+use lib.IntN.{pos}
+use lib.ListN.{length, getD, take, set}
+use lib.Ieee.{binary64, mul, ofInt, inFloat}
+use Rattle.tables.specs.Tables.{energyAt}
+use Rattle.blocks.specs.declared.Totals.{Totals}
+use Rattle.blocks.specs.Totals.{withBlocks, binsFrom}
+use Rattle.block_range.specs.Counted.{AtMost, blocksIn, runningFrom}
+
+-- ---- blocks below a bin
+pub blocks-suc : (l : List ℕ) (n : ℕ) → n < length l → blocksIn (take (suc n) l) ≡ blocksIn (take n l) + getD l n 0
+unfolding blocksIn
+blocks-suc [] n h = absurd (not-suc-le-zero h)
+blocks-suc (x ∷ l) zero h = omega arith
+blocks-suc (x ∷ l) (suc n) h = omega (arith, blocks-suc l n (le-of-suc-le-suc h))
+
+pub blocks-more : (l : List ℕ) (n : ℕ) → n < length l → blocksIn (take (n + 1) l) ≡ blocksIn (take n l) + getD l n 0
+blocks-more l n h = ap (λ (k : ℕ). blocksIn (take k l)) (add-one n) ∙ blocks-suc l n h
+
+pub blocks-none : (l : List ℕ) → 0 ≡ blocksIn (take 0 l)
+unfolding blocksIn
+blocks-none l = refl
+
+-- where no bin has more than so many
+pub blocks-up-to : (most : ℕ) (l : List ℕ) → AtMost most l → (n : ℕ) → blocksIn (take n l) ≤ n * most
+unfolding blocksIn
+blocks-up-to most l b zero = zero-le
+blocks-up-to most [] b (suc n) = zero-le
+blocks-up-to most (x ∷ l) b (suc n) = omega (arith, b 0, blocks-up-to most l (λ (k : ℕ). b (suc k)) n)
+
+-- those of the first bins are among all
+pub blocks-part : (l : List ℕ) (n : ℕ) → blocksIn (take n l) ≤ blocksIn l
+unfolding blocksIn
+blocks-part l zero = zero-le
+blocks-part [] (suc n) = zero-le
+blocks-part (x ∷ l) (suc n) = omega (arith, blocks-part l n)
+
+-- the totals over bins count them all
+pub count-is : (totals : Totals) (bin : ℕ) (l : List ℕ) → binsFrom totals bin l .count ≡ totals .count + blocksIn l
+unfolding binsFrom blocksIn
+count-is totals bin [] = omega arith
+count-is totals bin (x ∷ l) =
+    omega (arith, count-is (withBlocks totals x (mul binary64 (ofInt binary64 (pos x)) (energyAt bin))) (suc bin) l)
+
+-- ---- running counts
+pub running-length : (before : ℕ) (l : List ℕ) → length (runningFrom before l) ≡ length l
+unfolding runningFrom
+running-length before [] = refl
+running-length before (x ∷ l) = ap suc (running-length (before + x) l)
+
+getD-past : (l : List ℕ) (n : ℕ) → length l ≤ n → getD l n 0 ≡ 0
+getD-past [] n h = refl
+getD-past (x ∷ l) zero h = absurd (not-suc-le-zero h)
+getD-past (x ∷ l) (suc n) h = getD-past l n (le-of-suc-le-suc h)
+
+pub running-at : (before : ℕ) (l : List ℕ) (n : ℕ) → n < length l → getD (runningFrom before l) n 0 ≡ before + blocksIn (take (suc n) l)
+unfolding runningFrom blocksIn
+running-at before [] n h = absurd (not-suc-le-zero h)
+running-at before (x ∷ l) zero h = omega arith
+running-at before (x ∷ l) (suc n) h = omega (arith, running-at (before + x) l n (le-of-suc-le-suc h))
+
+-- no running count is above the count of all
+pub running-most : (running counters : List ℕ) → running ≡ runningFrom 0 counters → AtMost (blocksIn counters) running
+running-most running counters e bin = rest (ltb bin (length counters)) refl
+  where
+    read : getD running bin 0 ≡ getD (runningFrom 0 counters) bin 0
+    read = ap (λ (l : List ℕ). getD l bin 0) e
+
+    rest : (b : Bool) → ltb bin (length counters) ≡ b → getD running bin 0 ≤ blocksIn counters
+    rest true h = omega (arith, read, running-at 0 counters bin (ltb-true bin (length counters) h), blocks-part counters (suc bin))
+    rest false h = omega (arith, read, getD-past (runningFrom 0 counters) bin (omega (arith, ltb-false bin (length counters) h, running-length 0 counters)))

@@ -1,0 +1,75 @@
+-- The first bin whose running count passes a rank: one bin on, from a bin below which too few blocks stand, and where it can be.
+-- No bin before it passes, so that a search may start at any of those. Assumes nothing.
+use mathlib.Core.Path.{_≡_, refl, sym, ap, _∙_}
+use mathlib.Core.Bool.{Bool, true, false, cond}
+use mathlib.Core.List.{List, [], _∷_}
+use Prim.Native.Nat.{ℕ, zero, suc, _+_, _≤_, _<_, zero-le, suc-le-suc}
+use native.Mathlib.Nat.{le-of-suc-le-suc, not-suc-le-zero}
+use native.Mathlib.Numerals.{add-one}
+use native.Mathlib.Omega.{arith}
+use borrow.Author.Tests.{lt-ltb, le-ltb, ltb-true, ltb-false}
+use lib.Dec.{ltb}
+use lib.ListN.{length, getD, take, drop, drop-of-length-le}
+use lib.Seq.{drop-cons}
+use Rattle.block_range.specs.Counted.{blocksIn, runningFrom, firstPast}
+use Rattle.block_range.proofs.Counting.{blocks-suc, running-at, running-length}
+
+-- ---- a turn of the search
+module _ (running : List ℕ) (rank bin : ℕ) where
+  next : (b : Bool) → bin < length running → ltb rank (getD running bin 0) ≡ b
+      → firstPast rank bin (drop bin running) ≡ cond b bin (firstPast rank (bin + 1) (drop (bin + 1) running))
+  unfolding firstPast
+  next b h e =
+      ap (firstPast rank bin) (drop-cons running bin 0 h)
+      ∙ ap (λ (t : Bool). cond t bin (firstPast rank (suc bin) (drop (suc bin) running))) e
+      ∙ ap (λ (n : ℕ). cond b bin (firstPast rank n (drop n running))) (sym (add-one bin))
+
+  pub past-here : bin < length running → rank < getD running bin 0 → firstPast rank bin (drop bin running) ≡ bin
+  past-here h p = next true h (lt-ltb rank (getD running bin 0) p)
+
+  pub past-end : length running ≤ bin → firstPast rank bin (drop bin running) ≡ bin
+  unfolding firstPast
+  past-end h = ap (firstPast rank bin) (drop-of-length-le running h)
+
+-- ---- a search that starts further on
+skip : (rank before bin : ℕ) (l : List ℕ) (k : ℕ) → k ≤ length l → before + blocksIn (take k l) ≤ rank
+    → firstPast rank (bin + k) (drop k (runningFrom before l)) ≡ firstPast rank bin (runningFrom before l)
+unfolding firstPast runningFrom blocksIn
+skip rank before bin l zero h g = ap (λ (n : ℕ). firstPast rank n (runningFrom before l)) {x = bin + 0} {y = bin} (omega arith)
+skip rank before bin [] (suc k) h g = absurd (not-suc-le-zero h)
+skip rank before bin (x ∷ l) (suc k) h g =
+    let far : before + (x + blocksIn (take k l)) ≤ rank = g in
+    ap (λ (n : ℕ). firstPast rank n (drop k (runningFrom (before + x) l))) {x = bin + suc k} {y = suc bin + k} (omega arith)
+    ∙ skip rank (before + x) (suc bin) l k (le-of-suc-le-suc h) (omega arith)
+    ∙ sym (ap (λ (b : Bool). cond b bin (firstPast rank (suc bin) (runningFrom (before + x) l))) (le-ltb rank (before + x) (omega arith)))
+
+pub search-from : (rank : ℕ) (l : List ℕ) (k : ℕ) → k ≤ length l → blocksIn (take k l) ≤ rank
+    → firstPast rank k (drop k (runningFrom 0 l)) ≡ firstPast rank 0 (runningFrom 0 l)
+search-from rank l k h g =
+    ap (λ (n : ℕ). firstPast rank n (drop k (runningFrom 0 l))) {x = k} {y = 0 + k} (omega arith) ∙ skip rank 0 0 l k h (omega arith)
+
+-- ---- a search by halving: too few blocks stand below `low`, and `high` passes
+module _ (rank : ℕ) (running counters : List ℕ) (e : running ≡ runningFrom 0 counters) where
+  -- a bin that does not pass has too few blocks below the next
+  pub not-past : (middle : ℕ) → middle < length running → getD running middle 0 ≤ rank → blocksIn (take (middle + 1) counters) ≤ rank
+  not-past middle h g =
+      omega (arith, ap (λ (n : ℕ). blocksIn (take n counters)) (add-one middle), ap (λ (l : List ℕ). getD l middle 0) e, running-at 0 counters middle (omega (arith, ap length e, running-length 0 counters)))
+
+  pub halved : (low : ℕ) → low ≤ length running → blocksIn (take low counters) ≤ rank → (low < length running → rank < getD running low 0)
+      → low ≡ firstPast rank 0 (runningFrom 0 counters)
+  halved low h few past = go (ltb low (length running)) refl
+    where
+      from : firstPast rank low (drop low running) ≡ firstPast rank 0 (runningFrom 0 counters)
+      from = ap (λ (l : List ℕ). firstPast rank low (drop low l)) e ∙ search-from rank counters low (omega (arith, ap length e, running-length 0 counters)) few
+
+      go : (b : Bool) → ltb low (length running) ≡ b → low ≡ firstPast rank 0 (runningFrom 0 counters)
+      go true k = sym (past-here running rank low (ltb-true low (length running) k) (past (ltb-true low (length running) k))) ∙ from
+      go false k = sym (past-end running rank low (ltb-false low (length running) k)) ∙ from
+
+-- ---- a search bin by bin: too few blocks stand below a bin, and with it there are enough, or it is the last
+pub found-at : (rank : ℕ) (block : List ℕ) (bin : ℕ) → bin ≤ length block → blocksIn (take bin block) ≤ rank
+    → (bin < length block → rank < blocksIn (take bin block) + getD block bin 0) → bin ≡ firstPast rank 0 (runningFrom 0 block)
+found-at rank block bin h few past =
+    let long = running-length 0 block in
+    halved rank (runningFrom 0 block) block refl bin (omega (arith, h, long)) few
+    (λ k. omega (arith, past (omega (arith, k, long)), running-at 0 block bin (omega (arith, k, long)), blocks-suc block bin (omega (arith, k, long))))

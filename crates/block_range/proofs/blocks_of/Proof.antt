@@ -1,0 +1,70 @@
+-- `block_range::blocks_of` meets its contract. The invariant: the sum is that of the bins passed. Assumes nothing.
+use mathlib.Core.Path.{_≡_, ap, _∙_}
+use mathlib.Core.List.{List}
+use Prim.Native.Nat.{ℕ, _+_, _-_, _*_, _≤_}
+use native.Mathlib.Omega.{arith}
+use borrow.Author.Needs.{needs}
+use denote.Ref.{now}
+use lib.ListN.{length, getD, take}
+use Rattle.histogram.specs.Histogram.{largestCount}
+use Rattle.block_range.specs.Counted.{blocksIn}
+use Rattle.block_range.proofs.Counting.{blocks-more, blocks-up-to}
+use Rattle.block_range.proofs.blocks_of.Statement.{statement}
+use Rattle.block_range.proofs.blocks_of.Tie as tie
+
+abbrev Inv-loop : tie.InvT-loop
+Inv-loop block from until blocks₀ bin₀ blocks bin = (bin ≤ until) × (blocksIn (take from block) + blocks ≡ blocksIn (take bin block))
+
+abbrev μ-loop : tie.MeasureT-loop
+μ-loop block from until blocks₀ bin₀ blocks bin = until - bin
+
+loop-holds : tie.Need-loop-holds Inv-loop μ-loop
+loop-holds c = (omega arith, omega arith)
+
+mul-wide : tie.Need-mul-wide Inv-loop μ-loop
+mul-wide c = search needs
+
+shared-slice-read-wide : tie.Need-shared-slice-read-wide Inv-loop μ-loop
+shared-slice-read-wide c = search needs
+
+wide-requires : tie.Need-wide-requires Inv-loop μ-loop
+wide-requires c κs = search needs
+
+add-blocks : tie.Need-add-blocks Inv-loop μ-loop
+add-blocks c =
+    let l = c .before .before .before in
+    let block = now (l .before .before .args .block) in
+    let given = l .before .shared-slice-known .given in
+    omega (arith, l .loop .inv .1, blocks-up-to largestCount block (λ i. omega (arith, given i)) (l .loop .bin), c .wide .ensures, given (l .loop .bin))
+
+add-bin : tie.Need-add-bin Inv-loop μ-loop
+add-bin c = search needs
+
+loop-less : tie.Need-loop-less Inv-loop μ-loop
+loop-less c = search needs
+
+loop-again : tie.Need-loop-again Inv-loop μ-loop
+loop-again c =
+    let l = c .before .before .before in
+    (omega arith, omega (arith, l .loop .inv .1, c .wide .ensures, blocks-more (now (l .before .before .args .block)) (l .loop .bin) (omega arith)))
+
+returns : tie.Need-returns Inv-loop μ-loop
+returns c =
+    let l = c .before in
+    l .loop .inv .1 ∙ ap (λ (n : ℕ). blocksIn (take n (now (l .before .before .args .block)))) {x = l .loop .bin} {y = l .before .before .args .until} (omega arith)
+
+pub blocks-of-spec : {M : Type 1} → statement M
+blocks-of-spec =
+    tie.close
+    (tie.spec
+    Inv-loop
+    μ-loop
+    loop-holds
+    mul-wide
+    shared-slice-read-wide
+    wide-requires
+    add-blocks
+    add-bin
+    loop-less
+    loop-again
+    returns)

@@ -1,0 +1,89 @@
+-- `block_range::first_past` meets its contract. The invariant: what stands below `bin` is known, and does not reach the rank. Assumes nothing.
+use mathlib.Core.Path.{_≡_}
+use mathlib.Core.List.{List}
+use Prim.Native.Nat.{ℕ, _+_, _-_, _*_, _≤_}
+use native.Mathlib.Omega.{arith}
+use borrow.Author.Needs.{needs}
+use denote.Ref.{now}
+use lib.ListN.{length, getD, take}
+use Rattle.histogram_bins.specs.Bin.{bins}
+use Rattle.histogram.specs.Histogram.{largestCount}
+use Rattle.block_range.specs.Counted.{blocksIn}
+use Rattle.block_range.proofs.Counting.{blocks-more, blocks-up-to}
+use Rattle.block_range.proofs.Searching.{found-at}
+use Rattle.block_range.proofs.first_past.Statement.{statement}
+use Rattle.block_range.proofs.first_past.Tie as tie
+
+abbrev Inv-loop : tie.InvT-loop
+Inv-loop block rank bin₀ before₀ bin before = (bin ≤ bins) × (before ≡ blocksIn (take bin block)) × (before ≤ rank)
+
+abbrev μ-loop : tie.MeasureT-loop
+μ-loop block rank bin₀ before₀ bin before = bins - bin
+
+pass-by-requires : tie.Need-pass-by-requires Inv-loop μ-loop
+pass-by-requires c κs = search needs
+
+loop-holds : tie.Need-loop-holds Inv-loop μ-loop
+loop-holds c = c .pass-by .ensures
+
+mul-wide : tie.Need-mul-wide Inv-loop μ-loop
+mul-wide c = search needs
+
+shared-slice-read-wide : tie.Need-shared-slice-read-wide Inv-loop μ-loop
+shared-slice-read-wide c = search needs
+
+wide-requires : tie.Need-wide-requires Inv-loop μ-loop
+wide-requires c κs = search needs
+
+add-next : tie.Need-add-next Inv-loop μ-loop
+add-next c =
+    let l = c .before .before .before in
+    let s = l .before .before in
+    let block = now (s .before .args .block) in
+    let given = s .shared-slice-known .given in
+    omega (arith, c .wide .ensures, given (l .loop .bin), blocks-up-to largestCount block (λ i. omega (arith, given i)) (l .loop .bin))
+
+returns : tie.Need-returns Inv-loop μ-loop
+returns c =
+    let w = c .before in
+    let l = w .before .before .before in
+    let a = l .before .before .before .args in (
+      found-at (a .rank) (now (a .block)) (l .loop .bin) (omega arith) (omega arith) (λ _. omega (arith, w .wide .ensures)),
+      l .loop .inv,
+    )
+
+add-bin : tie.Need-add-bin Inv-loop μ-loop
+add-bin c = search needs
+
+loop-less : tie.Need-loop-less Inv-loop μ-loop
+loop-less c = search needs
+
+loop-again : tie.Need-loop-again Inv-loop μ-loop
+loop-again c =
+    let w = c .before in
+    let l = w .before .before .before in
+    (omega arith, omega (arith, w .wide .ensures, blocks-more (now (l .before .before .before .args .block)) (l .loop .bin) (omega arith)), omega arith)
+
+returns-2 : tie.Need-returns-2 Inv-loop μ-loop
+returns-2 c =
+    let l = c .before in
+    let a = l .before .before .before .args in
+    (found-at (a .rank) (now (a .block)) (l .loop .bin) (omega arith) (omega arith) (λ k. absurd (omega (arith, k))), l .loop .inv)
+
+pub first-past-spec : {M : Type 1} → statement M
+first-past-spec =
+    tie.close
+    (tie.spec
+    Inv-loop
+    μ-loop
+    pass-by-requires
+    loop-holds
+    mul-wide
+    shared-slice-read-wide
+    wide-requires
+    add-next
+    returns
+    add-bin
+    loop-less
+    loop-again
+    returns-2)

@@ -1,0 +1,71 @@
+-- `block_range::pass_by` meets its contract. The invariant: what stands below `bin` is known, and does not reach the rank. Assumes nothing.
+use mathlib.Core.Path.{_≡_}
+use mathlib.Core.List.{List}
+use Prim.Native.Nat.{ℕ, _+_, _-_, _*_, _≤_}
+use native.Mathlib.Omega.{arith}
+use borrow.Author.Needs.{needs}
+use denote.Ref.{now}
+use lib.ListN.{take}
+use Rattle.histogram_bins.specs.Bin.{bins}
+use Rattle.histogram.specs.Histogram.{largestCount}
+use Rattle.block_range.specs.Counted.{blocksIn}
+use Rattle.block_range.proofs.Counting.{blocks-up-to}
+use Rattle.block_range.proofs.pass_by.Statement.{statement}
+use Rattle.block_range.proofs.pass_by.Tie as tie
+
+abbrev Inv-loop : tie.InvT-loop
+Inv-loop block rank bin₀ before₀ bin before = (bin ≤ bins) × (before ≡ blocksIn (take bin block)) × (before ≤ rank)
+
+abbrev μ-loop : tie.MeasureT-loop
+μ-loop block rank bin₀ before₀ bin before = bins - bin
+
+loop-holds : tie.Need-loop-holds Inv-loop μ-loop
+loop-holds c = (omega arith, omega arith, omega arith)
+
+sub-loop : tie.Need-sub-loop Inv-loop μ-loop
+sub-loop c = search needs
+
+add-blocks-of : tie.Need-add-blocks-of Inv-loop μ-loop
+add-blocks-of c = search needs
+
+blocks-of-requires : tie.Need-blocks-of-requires Inv-loop μ-loop
+blocks-of-requires c κs = search needs
+
+add-next : tie.Need-add-next Inv-loop μ-loop
+add-next c =
+    let l = c .before .before in
+    let block = now (l .before .before .args .block) in
+    let given = l .before .shared-slice-known .given in
+    omega (arith, c .blocks-of .ensures, blocks-up-to largestCount block (λ i. omega (arith, given i)) (l .loop .bin + 20))
+
+returns : tie.Need-returns Inv-loop μ-loop
+returns c = c .before .before .before .loop .inv
+
+add-bin : tie.Need-add-bin Inv-loop μ-loop
+add-bin c = search needs
+
+loop-less : tie.Need-loop-less Inv-loop μ-loop
+loop-less c = search needs
+
+loop-again : tie.Need-loop-again Inv-loop μ-loop
+loop-again c = (omega arith, omega (arith, c .before .blocks-of .ensures), omega arith)
+
+returns-2 : tie.Need-returns-2 Inv-loop μ-loop
+returns-2 c = c .before .loop .inv
+
+pub pass-by-spec : {M : Type 1} → statement M
+pass-by-spec =
+    tie.close
+    (tie.spec
+    Inv-loop
+    μ-loop
+    loop-holds
+    sub-loop
+    add-blocks-of
+    blocks-of-requires
+    add-next
+    returns
+    add-bin
+    loop-less
+    loop-again
+    returns-2)

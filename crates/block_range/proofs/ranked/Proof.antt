@@ -1,0 +1,103 @@
+-- `block_range::ranked` meets its contract: the blocks below the gate, those left, and the bins of the two ranks. Assumes nothing.
+use mathlib.Core.Path.{_≡_, sym, ap, _∙_}
+use mathlib.Core.List.{List}
+use Prim.Native.Nat.{ℕ, _+_, _-_}
+use native.Mathlib.Omega.{arith}
+use borrow.Author.Needs.{needs}
+use denote.Ref.{now}
+use lib.ListN.{take}
+use lib.Ieee.{Float}
+use Rattle.refusals.specs.Outcome.{Said, says}
+use Rattle.tables.specs.Tables.{energyAt}
+use Rattle.spans.specs.Span.{Span, found}
+use Rattle.block_range.specs.Counted.{blocksIn, leftIn}
+use Rattle.block_range.proofs.Counting.{blocks-none, blocks-part}
+use Rattle.block_range.proofs.Answers.{left-none, left-read}
+use Rattle.block_range.proofs.ranked.Statement.{statement}
+use Rattle.block_range.proofs.ranked.Tie as tie
+
+-- what stands below the gate
+before-is : (b : tie.After-blocks-of) →
+    let a = b .before .before .args in
+    b .blocks-of .result ≡ blocksIn (take (a .start) (now (a .block)))
+before-is b = omega (arith, b .blocks-of .ensures, blocks-none (now (b .before .before .args .block)))
+
+blocks-of-requires : tie.Need-blocks-of-requires
+blocks-of-requires c κs = search needs
+
+sub-left : tie.Need-sub-left
+sub-left c = let a = c .before .before .args in omega (arith, before-is c, blocks-part (now (a .block)) (a .start))
+
+returns : tie.Need-returns
+returns c =
+    let b = c .before in
+    let a = b .before .before .args in
+    ap {B = Said Span} says (sym (left-none (now (a .block)) (b .blocks-of .result) (a .count - b .blocks-of .result) (c .if1 .taken))
+    ∙ ap (λ (n : ℕ). leftIn (now (a .block)) n (a .count - n)) (before-is b))
+
+sub-low-rank : tie.Need-sub-low-rank
+sub-low-rank c = search needs
+
+low-rank-requires : tie.Need-low-rank-requires
+low-rank-requires c κs = search needs
+
+add-first-past : tie.Need-add-first-past
+add-first-past c = omega (arith, c .low-rank .ensures)
+
+first-past-requires : tie.Need-first-past-requires
+first-past-requires c κs = (omega arith, (omega arith, before-is (c .before .before), omega arith))
+
+sub-high-rank : tie.Need-sub-high-rank
+sub-high-rank c = search needs
+
+high-rank-requires : tie.Need-high-rank-requires
+high-rank-requires c κs = search needs
+
+add-first-past-2 : tie.Need-add-first-past-2
+add-first-past-2 c = omega (arith, c .high-rank .ensures)
+
+first-past-requires-2 : tie.Need-first-past-requires-2
+first-past-requires-2 c κs =
+    let low = c .before in
+    let few = low .first-past .ensures .1 in
+    (omega arith, (few .0, few .1, omega (arith, few .2, low .before .low-rank .ensures, c .high-rank .ensures)))
+
+energy-requires : tie.Need-energy-requires
+energy-requires c κs = search needs
+
+energy-requires-2 : tie.Need-energy-requires-2
+energy-requires-2 c κs = search needs
+
+returns-2 : tie.Need-returns-2
+returns-2 c =
+    let high = c .before .before in
+    let low = high .before .before in
+    let e = low .before .before in
+    let b = e .before in
+    let a = b .before .before .args in
+    let before = b .blocks-of .result in
+    ap {B = Said Span} says (
+    ap (λ (x : Float). found x (c .energy2 .result)) (c .before .energy .ensures)
+    ∙ ap (λ (x : Float). found (energyAt (low .first-past .result .bin)) x) (c .energy2 .ensures)
+    ∙ left-read (now (a .block)) before (a .count - before) (low .before .low-rank .result) (high .before .high-rank .result) (low .first-past .result .bin) (high .first-past2 .result .bin)
+    (e .if1 .left) (low .before .low-rank .ensures) (high .before .high-rank .ensures) (low .first-past .ensures .0) (high .first-past2 .ensures .0)
+    ∙ ap (λ (n : ℕ). leftIn (now (a .block)) n (a .count - n)) (before-is b))
+
+pub ranked-spec : {M : Type 1} → statement M
+ranked-spec =
+    tie.close
+    (tie.spec
+    blocks-of-requires
+    sub-left
+    returns
+    sub-low-rank
+    low-rank-requires
+    add-first-past
+    first-past-requires
+    sub-high-rank
+    high-rank-requires
+    add-first-past-2
+    first-past-requires-2
+    energy-requires
+    energy-requires-2
+    returns-2)

@@ -1,0 +1,55 @@
+-- `histogram_range::alone` meets its contract, shape by shape. Assumes nothing.
+use mathlib.Core.Path.{_≡_, sym, ap, subst, _∙_}
+use mathlib.Core.List.{List, []}
+use Prim.Native.Nat.{ℕ, _+_, _≤_}
+use native.Mathlib.Omega.{arith}
+use borrow.Author.Needs.{needs}
+use denote.Ref.{now}
+use lib.ListN.{length}
+use Rattle.refusals.specs.Outcome.{Said, says}
+use Rattle.histogram_bins.specs.Bin.{bins}
+use Rattle.histogram.specs.Histogram.{empty}
+use Rattle.history.specs.declared.set.Shape.{Shape}
+use Rattle.history.specs.Set.{blockEnd, shapeShows}
+use Rattle.spans.specs.Span.{Span}
+use Rattle.block_range.proofs.Answers.{span-there}
+use Rattle.histogram_range.specs.Counted.{withHistory, countedSpan}
+use Rattle.histogram_range.proofs.Single.{block-alone, empty-nothing}
+use Rattle.histogram_range.proofs.alone.Statement.{statement}
+use Rattle.histogram_range.proofs.alone.Tie as tie
+
+enum-known-shape : tie.Need-enum-known-shape
+enum-known-shape c = search needs
+
+of-block-requires : tie.Need-of-block-requires
+of-block-requires c κs = search needs
+
+enum-told : tie.Need-enum-told
+enum-told c = search needs
+
+returns : tie.Need-returns
+returns c =
+    let h = c .before .before in
+    let w = h .before .before .before in
+    let a = w .args in
+    let start = h .shape .given .0 .0 in
+    let inside = subst (λ (s : Shape). blockEnd s ≤ length (now (a .counters))) (h .shape .given .1) (w .pre) in
+    c .of-block .ensures
+    ∙ ap {B = Said Span} says (span-there (now (a .counters)) start inside
+    ∙ ap countedSpan (block-alone (now (a .counters)) start inside)
+    ∙ ap (λ (s : Shape). countedSpan (withHistory empty (shapeShows (now (a .counters)) [] s))) (sym (h .shape .given .1)))
+
+returns-2 : tie.Need-returns-2
+returns-2 c =
+    let a = c .before .before .before .args in
+    ap {B = Said Span} says (empty-nothing ∙ ap (λ (s : Shape). countedSpan (withHistory empty (shapeShows (now (a .counters)) [] s))) (sym (c .enum-told .given .1)))
+
+pub alone-spec : {M : Type 1} → statement M
+alone-spec =
+    tie.close
+    (tie.spec
+    enum-known-shape
+    of-block-requires
+    enum-told
+    returns
+    returns-2)
