@@ -1,3 +1,3 @@
 pub mod Rules
 pub mod Rates
-pub mod Gathered
+pub mod Table

@@ -4,18 +4,22 @@ use mathlib.Core.List.{List, [], _∷_}
 use mathlib.Core.Bool.{cond}
 use Prim.Native.Nat.{ℕ, zero, suc, _+_}
 use lib.Dec.{eqb}
-use lib.ListN.{take}
+use lib.ListN.{take, getD, replicate}
 use lib.Ieee.{Float, nan, add, mul, ofBits, binary32}
 use Rattle.interp.specs.declared.Interp.{Interp}
 use Rattle.interp.specs.declared.Twelve.{Twelve}
 use Rattle.interp.specs.declared.Four.{Four}
 use Rattle.interp.specs.declared.Two.{Two}
-use Rattle.interp.specs.Taps.{fourfoldAt, twofoldAt}
+use Rattle.interp.specs.Taps.{fourfold as fourfoldTaps, twofold as twofoldTaps, fourfoldAt, twofoldAt}
 use Rattle.interp.specs.Interp.{fourfold, twofold}
 
 -- coefficient j of a factor, and NaN where there is none
 abbrev pub coefficientAt : ℕ → ℕ → Float
 coefficientAt factor j = cond (eqb factor (fourfold .factor)) (fourfoldAt j) (cond (eqb factor (twofold .factor)) (twofoldAt j) nan)
+
+-- all of them
+abbrev pub coefficients : ℕ → List Float
+coefficients factor = cond (eqb factor (fourfold .factor)) fourfoldTaps (cond (eqb factor (twofold .factor)) twofoldTaps (replicate 48 nan))
 
 -- +0
 abbrev pub nought : Float
@@ -30,6 +34,11 @@ unfoldable pub summed : ℕ → ℕ → Float → List Float → Float
 summed factor j sum [] = sum
 summed factor j sum (x ∷ xs) = summed factor (j + factor) (plus sum x (coefficientAt factor j)) xs
 
+-- the same by a table of taps
+unfoldable pub summedBy : List Float → ℕ → ℕ → Float → List Float → Float
+summedBy taps factor j sum [] = sum
+summedBy taps factor j sum (x ∷ xs) = summedBy taps factor (j + factor) (plus sum x (getD taps j nan)) xs
+
 unfoldable pub phase : Interp → List Float → ℕ → Float
 unfolding summed
 phase i history f = summed (i .factor) f nought (take (i .taps) history)
@@ -42,6 +51,16 @@ phasesFrom i history f (suc n) = phase i history f ∷ phasesFrom i history (suc
 unfoldable pub phases : Interp → List Float → List Float
 unfolding phasesFrom
 phases i history = phasesFrom i history 0 (i .factor)
+
+unfoldable pub phasesByFrom : List Float → Interp → List Float → ℕ → ℕ → List Float
+unfolding summedBy
+phasesByFrom taps i history f zero = []
+phasesByFrom taps i history f (suc n) = summedBy taps (i .factor) f nought (take (i .taps) history) ∷ phasesByFrom taps i history (suc f) n
+
+-- the phases that a table of taps gives, in place of the interpolator's own coefficients
+unfoldable pub phasesBy : List Float → Interp → List Float → List Float
+unfolding phasesByFrom
+phasesBy taps i history = phasesByFrom taps i history 0 (i .factor)
 
 -- ---- the code's types as lists
 abbrev pub listed : Twelve → List Float

@@ -2,7 +2,7 @@
 ghost use mathlib.Core.Path.{_≡_};
 ghost use mathlib.Core.List.{_++_};
 ghost use Rattle.interp.specs.Interp.{fourfold, twofold, kindOf, said};
-ghost use Rattle.interp.specs.Phase.{coefficientAt, carriedOn, listed, four, two, phase, phases};
+ghost use Rattle.interp.specs.Phase.{coefficientAt, coefficients, carriedOn, listed, four, two, phase, phases};
 
 pub mod taps;
 
@@ -74,6 +74,19 @@ impl Interp {
             return taps::twofold(j);
         }
         0.0 / 0.0
+    }
+
+    // All coefficients. NaN where there are none.
+    pub fn coefficients(self) -> [f32; Interp::COEFFICIENTS]
+        ensures { λ r. ⌜ r ≡ coefficients (self .factor) ⌝ }
+    {
+        if self.factor == Interp::FOURFOLD {
+            return taps::FOURFOLD;
+        }
+        if self.factor == Interp::TWOFOLD {
+            return taps::TWOFOLD;
+        }
+        [0.0 / 0.0; Interp::COEFFICIENTS]
     }
 }
 
@@ -317,99 +330,5 @@ pub fn twofold_phases(newer: Twelve, older: Twelve) -> Two
     Two {
         p0: twofold_0(newer, older),
         p1: twofold_1(newer, older),
-    }
-}
-
-// The phases of factor 4 at four frames.
-pub struct FourEach {
-    pub a: Four,
-    pub b: Four,
-    pub c: Four,
-    pub d: Four,
-}
-
-pub struct TwoEach {
-    pub a: Two,
-    pub b: Two,
-    pub c: Two,
-    pub d: Two,
-}
-
-// Four frames at a time, whose sums do not wait for one another.
-pub fn fourfold_each(a: Twelve, b: Twelve, c: Twelve, d: Twelve) -> FourEach
-    ensures { λ r. ⌜ four (r .a) ≡ phases fourfold (listed a) ⌝ }
-    ensures { λ r. ⌜ four (r .b) ≡ phases fourfold (listed b) ⌝ }
-    ensures { λ r. ⌜ four (r .c) ≡ phases fourfold (listed c) ⌝ }
-    ensures { λ r. ⌜ four (r .d) ≡ phases fourfold (listed d) ⌝ }
-{
-    let a0 = fourfold_0(a);
-    let b0 = fourfold_0(b);
-    let c0 = fourfold_0(c);
-    let d0 = fourfold_0(d);
-    let a1 = fourfold_1(a);
-    let b1 = fourfold_1(b);
-    let c1 = fourfold_1(c);
-    let d1 = fourfold_1(d);
-    let a2 = fourfold_2(a);
-    let b2 = fourfold_2(b);
-    let c2 = fourfold_2(c);
-    let d2 = fourfold_2(d);
-    let a3 = fourfold_3(a);
-    let b3 = fourfold_3(b);
-    let c3 = fourfold_3(c);
-    let d3 = fourfold_3(d);
-    FourEach {
-        a: Four {
-            p0: a0,
-            p1: a1,
-            p2: a2,
-            p3: a3,
-        },
-        b: Four {
-            p0: b0,
-            p1: b1,
-            p2: b2,
-            p3: b3,
-        },
-        c: Four {
-            p0: c0,
-            p1: c1,
-            p2: c2,
-            p3: c3,
-        },
-        d: Four {
-            p0: d0,
-            p1: d1,
-            p2: d2,
-            p3: d3,
-        },
-    }
-}
-
-// The last twelve samples at a frame of factor 2, and the twelve before.
-pub struct Window {
-    pub newer: Twelve,
-    pub older: Twelve,
-}
-
-pub fn twofold_each(a: Window, b: Window, c: Window, d: Window) -> TwoEach
-    ensures { λ r. ⌜ two (r .a) ≡ phases twofold (listed (a .newer) ++ listed (a .older)) ⌝ }
-    ensures { λ r. ⌜ two (r .b) ≡ phases twofold (listed (b .newer) ++ listed (b .older)) ⌝ }
-    ensures { λ r. ⌜ two (r .c) ≡ phases twofold (listed (c .newer) ++ listed (c .older)) ⌝ }
-    ensures { λ r. ⌜ two (r .d) ≡ phases twofold (listed (d .newer) ++ listed (d .older)) ⌝ }
-{
-    let a0 = twofold_0(a.newer, a.older);
-    let b0 = twofold_0(b.newer, b.older);
-    let c0 = twofold_0(c.newer, c.older);
-    let d0 = twofold_0(d.newer, d.older);
-    let a1 = twofold_1(a.newer, a.older);
-    let b1 = twofold_1(b.newer, b.older);
-    let c1 = twofold_1(c.newer, c.older);
-    let d1 = twofold_1(d.newer, d.older);
-    TwoEach {
-        a: Two { p0: a0, p1: a1 },
-        b: Two { p0: b0, p1: b1 },
-        c: Two { p0: c0, p1: c1 },
-        d: Two { p0: d0, p1: d1 },
     }
 }

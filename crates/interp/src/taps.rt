@@ -98,7 +98,7 @@ pub const FOURFOLD_46: f32 = -0.0009860133;
 
 pub const FOURFOLD_47: f32 = -0.00016744198;
 
-const FOURFOLD: [f32; crate::Interp::COEFFICIENTS] = [
+pub const FOURFOLD: [f32; crate::Interp::COEFFICIENTS] = [
     FOURFOLD_0,
     FOURFOLD_1,
     FOURFOLD_2,
@@ -245,7 +245,7 @@ pub const TWOFOLD_46: f32 = 2.4156464e-18;
 
 pub const TWOFOLD_47: f32 = -0.00011839936;
 
-const TWOFOLD: [f32; crate::Interp::COEFFICIENTS] = [
+pub const TWOFOLD: [f32; crate::Interp::COEFFICIENTS] = [
     TWOFOLD_0,
     TWOFOLD_1,
     TWOFOLD_2,

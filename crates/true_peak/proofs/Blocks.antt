@@ -8,8 +8,9 @@ use lib.ListN.{length, getD}
 use lib.Seq.{sets, length-sets}
 use lib.Ieee.{Float, nan}
 use Rattle.interp.specs.declared.Interp.{Interp}
-use Rattle.true_peak.specs.Channel.{Channel, hear, heard, past}
-use Rattle.true_peak.specs.Line.{back, scanned}
+use Rattle.interp.specs.Phase.{phases}
+use Rattle.true_peak.specs.Channel.{Channel, channel, hear, heard, past}
+use Rattle.largest_phase.specs.Line.{back, scanned}
 use Rattle.samples.specs.Frames.{column}
 use Rattle.samples.proofs.Columns.{length-column, column-append}
 use Rattle.true_peak.proofs.Lines.{heard-stored}
@@ -20,27 +21,28 @@ heard-append i ch [] ys = refl
 heard-append i ch (x ∷ xs) ys = heard-append i (hear i ch x) xs ys
 
 -- one block of n samples: the line with it stored, scanned, and carried
-pub block-turn : (i : Interp) (samples old stored new : List Float) (at step left n : ℕ) (peak loud : Float)
-    → n ≤ left → past + n ≤ length old
-    → stored ≡ sets old past (column samples at step n) → loud ≡ scanned i stored 0 n peak → back new 0 past ≡ back stored n past
-    → heard i (record { history = back new 0 past; peak = loud }) (column samples (at + n * step) step (left - n))
-    ≡ heard i (record { history = back old 0 past; peak = peak }) (column samples at step left)
-block-turn i samples old stored new at step left n peak loud h r es el en =
+pub block-heard : (i : Interp) (samples old stored new : List Float) (at step n : ℕ) (peak loud : Float)
+    → past + n ≤ length old
+    → stored ≡ sets old past (column samples at step n) → loud ≡ scanned (phases i) stored 0 n peak → back new 0 past ≡ back stored n past
+    → channel (back new 0 past) loud ≡ heard i (channel (back old 0 past) peak) (column samples at step n)
+block-heard i samples old stored new at step n peak loud r es el en =
     let xs = column samples at step n in
-    let rest = column samples (at + n * step) step (left - n) in
     let k : length xs ≡ n = length-column samples at step n in
-    let e : n + (left - n) ≡ left = omega arith in
-    ap (λ (q : List Float). heard i (record { history = q; peak = loud }) rest) en
-    ∙ ap (λ (v : Float). heard i (record { history = back stored n past; peak = v }) rest) el
-    ∙ ap (λ (q : List Float). heard i (record { history = back q n past; peak = scanned i q 0 n peak }) rest) es
-    ∙ ap (λ (m : ℕ). heard i (record { history = back (sets old past xs) m past; peak = scanned i (sets old past xs) 0 m peak }) rest) (sym k)
-    ∙ ap (λ (ch : Channel). heard i ch rest) (sym (heard-stored i old xs peak (subst (λ (m : ℕ). past + m ≤ length old) (sym k) r)))
-    ∙ sym (heard-append i (record { history = back old 0 past; peak = peak }) xs rest)
-    ∙ ap (heard i (record { history = back old 0 past; peak = peak })) (sym (column-append samples at step n (left - n)) ∙ ap (column samples at step) e)
+    ap (λ (q : List Float). channel q loud) en
+    ∙ ap (channel (back stored n past)) el
+    ∙ ap (λ (q : List Float). channel (back q n past) (scanned (phases i) q 0 n peak)) es
+    ∙ ap (λ (m : ℕ). channel (back (sets old past xs) m past) (scanned (phases i) (sets old past xs) 0 m peak)) (sym k)
+    ∙ sym (heard-stored i old xs peak (subst (λ (m : ℕ). past + m ≤ length old) (sym k) r))
 
-pub none-left : (i : Interp) (samples : List Float) (at step left : ℕ) (ch : Channel) → left ≤ 0 → ch ≡ heard i ch (column samples at step left)
-unfolding heard column
-none-left i samples at step left ch h = let e : 0 ≡ left = omega arith in ap (λ (n : ℕ). heard i ch (column samples at step n)) e
+-- a block heard, and what is left after it
+pub blocks-turn : (i : Interp) (samples : List Float) (at step left n : ℕ) (old new : Channel) → n ≤ left → new ≡ heard i old (column samples at step n)
+    → heard i new (column samples (at + n * step) step (left - n)) ≡ heard i old (column samples at step left)
+blocks-turn i samples at step left n old new h e =
+    let rest = column samples (at + n * step) step (left - n) in
+    let f : n + (left - n) ≡ left = omega arith in
+    ap (λ (ch : Channel). heard i ch rest) e
+    ∙ sym (heard-append i old (column samples at step n) rest)
+    ∙ ap (heard i old) (sym (column-append samples at step n (left - n)) ∙ ap (column samples at step) f)
 
 -- the places that the frames left take, and those that a block of n takes
 pub places : (n left step : ℕ) → n ≤ left → left * step ≡ (left - n) * step + n * step

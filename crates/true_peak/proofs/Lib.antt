@@ -1,9 +1,6 @@
-pub mod Signs
 pub mod Lines
 pub mod Blocks
 pub mod Channels
 pub mod Independence
 pub mod Cuts
 pub mod Worked
-pub mod Loud
-pub mod Quarters

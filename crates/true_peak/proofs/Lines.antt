@@ -10,11 +10,10 @@ use lib.ListN.{length, getD, take, drop, set, length-take, length-drop, length-s
 use lib.Seq.{sets, ext-getD, getD-take, getD-drop, getD-set-other, getD-set-same}
 use lib.Ieee.{Float, nan}
 use Rattle.interp.specs.declared.Interp.{Interp}
-use Rattle.interp.specs.declared.Twelve.{Twelve}
-use Rattle.interp.specs.Interp.{fourfold, twofold}
-use Rattle.interp.specs.Phase.{phase, phases, listed}
-use Rattle.true_peak.specs.Channel.{Channel, hear, heard, past, loudest}
-use Rattle.true_peak.specs.Line.{back, scanned, windowAt}
+use Rattle.interp.specs.Phase.{phases}
+use Rattle.true_peak.specs.Channel.{Channel, hear, heard, past}
+use Rattle.largest_phase.specs.Largest.{loudest}
+use Rattle.largest_phase.specs.Line.{back, scanned}
 use Rattle.samples.specs.Frames.{silence, column}
 use Rattle.samples.proofs.Columns.{within}
 use Rattle.true_peak.specs.TruePeak.{historyAt}
@@ -26,22 +25,6 @@ unfolding back
 back-same l k a b zero h = refl
 back-same l k a b (suc m) h =
     ap (λ (x : Float). x ∷ back l a m) (h m (omega arith)) ∙ ap (λ (r : List Float). getD k (b + m) nan ∷ r) (back-same l k a b m (λ j g. h j (omega arith)))
-
-back-joined : (l : List Float) (at n m k : ℕ) → k ≡ n + m → back l at k ≡ back l (at + m) n ++ back l at m
-unfolding back
-back-joined l at zero m k e = let e′ : k ≡ m = omega arith in ap (back l at) e′
-back-joined l at (suc n) m k e =
-    let e′ : k ≡ suc (n + m) = omega arith in
-    let f : at + (n + m) ≡ at + m + n = omega arith in
-    ap (back l at) e′ ∙ ap (λ (p : ℕ). getD l p nan ∷ back l at (n + m)) f ∙ ap (λ (r : List Float). getD l (at + m + n) nan ∷ r) (back-joined l at n m (n + m) refl)
-
-window-back : (l : List Float) (at : ℕ) → listed (windowAt l at) ≡ back l at 12
-unfolding back
-window-back l at = rw (add-zero at)
-
--- a frame's window is the newer twelve and the older twelve
-pub window : (l : List Float) (at : ℕ) → back l at 24 ≡ listed (windowAt l (at + 12)) ++ listed (windowAt l at)
-window l at = back-joined l at 12 12 24 refl ∙ ap (λ (r : List Float). r ++ back l at 12) (sym (window-back l (at + 12))) ∙ ap (λ (r : List Float). listed (windowAt l (at + 12)) ++ r) (sym (window-back l at))
 
 -- without its oldest sample a run begins one place later
 back-next : (l : List Float) (at n : ℕ) → take n (back l at (suc n)) ≡ back l (suc at) n
@@ -61,7 +44,7 @@ hear-line i l at peak = ap (λ (h : List Float). record { history = h; peak = lo
 -- the line holds the samples from place at + past on
 heard-line : (i : Interp) (l xs : List Float) (at : ℕ) (peak : Float) → ((k : ℕ) → k < length xs → getD l (at + past + k) nan ≡ getD xs k nan)
     → heard i (record { history = back l at past; peak = peak }) xs
-    ≡ record { history = back l (at + length xs) past; peak = scanned i l at (length xs) peak }
+    ≡ record { history = back l (at + length xs) past; peak = scanned (phases i) l at (length xs) peak }
 unfolding heard scanned
 heard-line i l [] at peak h = ap (λ (p : ℕ). record { history = back l p past; peak = peak }) (sym (add-zero at))
 heard-line i l (x ∷ xs) at peak h =
@@ -73,7 +56,7 @@ heard-line i l (x ∷ xs) at peak h =
     ap (λ (y : Float). heard i (hear i (record { history = back l at past; peak = peak }) y) xs) first
     ∙ ap (λ (ch : Channel). heard i ch xs) (hear-line i l at peak)
     ∙ heard-line i l xs (suc at) (loudest peak (phases i (back l at 24))) later
-    ∙ ap (λ (p : ℕ). record { history = back l p past; peak = scanned i l (suc at) (length xs) (loudest peak (phases i (back l at 24))) }) f
+    ∙ ap (λ (p : ℕ). record { history = back l p past; peak = scanned (phases i) l (suc at) (length xs) (loudest peak (phases i (back l at 24))) }) f
 
 -- ---- a run of stores
 pub sets-before : (vs l : List Float) (i p : ℕ) → p < i → getD (sets l i vs) p nan ≡ getD l p nan
@@ -101,30 +84,13 @@ sets-after (v ∷ vs) l i p h =
 -- a line with samples stored after its history
 pub heard-stored : (i : Interp) (l xs : List Float) (peak : Float) → past + length xs ≤ length l
     → heard i (record { history = back l 0 past; peak = peak }) xs
-    ≡ record { history = back (sets l past xs) (length xs) past; peak = scanned i (sets l past xs) 0 (length xs) peak }
+    ≡ record { history = back (sets l past xs) (length xs) past; peak = scanned (phases i) (sets l past xs) 0 (length xs) peak }
 heard-stored i l xs peak h =
     let stored = sets l past xs in
     let e : 0 + length xs ≡ length xs = omega arith in
     ap (λ (r : List Float). heard i (record { history = r; peak = peak }) xs) (back-same l stored 0 0 past (λ j g. sym (sets-before xs l past (0 + j) (omega arith))))
     ∙ heard-line i stored xs 0 peak (λ k g. (let q : 0 + past + k ≡ past + k = omega arith in ap (λ (p : ℕ). getD stored p nan) q ∙ sets-at xs l past k g h))
-    ∙ ap (λ (p : ℕ). record { history = back stored p past; peak = scanned i stored 0 (length xs) peak }) e
-
--- ---- a frame's phases, from its window: factor 4 looks at the newer twelve only
-first-twelve : (x : Twelve) (older : List Float) → phases fourfold (listed x ++ older) ≡ phases fourfold (listed x)
-unfolding phases phase
-first-twelve x older = refl
-
-pub fourfold-window : (l : List Float) (at : ℕ) (x : Twelve) → x ≡ windowAt l (at + 12) → phases fourfold (listed x) ≡ phases fourfold (back l at 24)
-fourfold-window l at x e =
-    ap (λ (w : Twelve). phases fourfold (listed w)) e
-    ∙ sym (first-twelve (windowAt l (at + 12)) (listed (windowAt l at)))
-    ∙ ap (phases fourfold) (sym (window l at))
-
-pub twofold-window : (l : List Float) (at : ℕ) (x y : Twelve) → x ≡ windowAt l (at + 12) → y ≡ windowAt l at → phases twofold (listed x ++ listed y) ≡ phases twofold (back l at 24)
-twofold-window l at x y e f =
-    ap (λ (w : Twelve). phases twofold (listed w ++ listed y)) e
-    ∙ ap (λ (w : Twelve). phases twofold (listed (windowAt l (at + 12)) ++ listed w)) f
-    ∙ ap (phases twofold) (sym (window l at))
+    ∙ ap (λ (p : ℕ). record { history = back stored p past; peak = scanned (phases i) stored 0 (length xs) peak }) e
 
 -- ---- the last samples of a line become its first
 pub record Moved (old l : List Float) (n k : ℕ) : Type 0 where

@@ -11,7 +11,8 @@ use Rattle.interp.specs.Rules.{one}
 use Rattle.interp.specs.Taps.{fourfoldAt, twofoldAt}
 use Rattle.interp.specs.Phase.{nought, phase, phases}
 use Rattle.true_peak.specs.declared.TruePeak.{TruePeak}
-use Rattle.true_peak.specs.Channel.{heard, loudest}
+use Rattle.largest_phase.specs.Largest.{loudest}
+use Rattle.true_peak.specs.Channel.{heard}
 use Rattle.samples.specs.Frames.{column}
 use Rattle.true_peak.specs.TruePeak.{Block, silent, measured}
 

@@ -1,26 +1,12 @@
 -- The true peak of one channel (01, step 6): "largest absolute phase so far, kept as f32; NaN never wins."
 use mathlib.Core.List.{List, [], _∷_}
-use mathlib.Core.Bool.{false, cond}
 use Prim.Native.Nat.{ℕ, _-_}
 use lib.ListN.{take}
-use lib.Ieee.{Float, nan, inf, fin, lt}
+use lib.Ieee.{Float}
 use Rattle.interp.specs.declared.Interp.{Interp}
 use Rattle.interp.specs.Interp.{twofold}
 use Rattle.interp.specs.Phase.{phases}
-
-abbrev pub magnitude : Float → Float
-magnitude nan = nan
-magnitude (inf s) = inf false
-magnitude (fin s m e) = fin false m e
-
--- a value replaces a peak only if it is greater: NaN never does, and a NaN that is stored stays
-abbrev pub louder : Float → Float → Float
-louder peak v = cond (lt peak v) v peak
-
--- the peak after some phases
-unfoldable pub loudest : Float → List Float → Float
-loudest peak [] = peak
-loudest peak (p ∷ ps) = loudest (louder peak (magnitude p)) ps
+use Rattle.largest_phase.specs.Largest.{loudest}
 
 -- How many samples a channel remembers: those before a frame's own that the interpolator with the most taps looks at.
 abbrev pub past : ℕ
@@ -30,6 +16,9 @@ past = twofold .taps - 1
 pub record Channel : Type 0 where
   pub history : List Float
   pub peak : Float
+
+abbrev pub channel : List Float → Float → Channel
+channel history peak = record { history = history; peak = peak }
 
 -- one sample more: the phases at its frame may raise the peak, and the oldest sample is forgotten
 unfoldable pub hear : Interp → Channel → Float → Channel

@@ -1,24 +1,20 @@
 // True peak: the largest absolute phase of each channel, over interleaved samples.
 ghost use mathlib.Core.Path.{_≡_};
 ghost use Prim.Native.Nat.{ℕ, _+_, _*_, _<_, _≤_, _^_};
-ghost use lib.ListN.{length, getD};
+ghost use lib.ListN.{length};
 ghost use lib.Seq.{sets};
-ghost use lib.Ieee.{nan};
 ghost use Rattle.refusals.specs.Answer.{said};
 ghost use Rattle.refusals.specs.Outcome.{saidBy, keptBy};
-ghost use Rattle.interp.specs.Interp.{fourfold, twofold, upsampled, kindOf, Known};
-ghost use Rattle.interp.specs.Phase.{four, two, phases};
-ghost use Rattle.true_peak.specs.Channel.{Channel, heard, magnitude, louder, loudest, past};
-ghost use Rattle.true_peak.specs.Line.{back, windowAt, block, room, scanned, loudestOf, Louds};
+ghost use Rattle.interp.specs.Interp.{upsampled, kindOf, Known};
+ghost use Rattle.interp.specs.Phase.{coefficients, phases};
+ghost use Rattle.largest_phase.specs.Line.{back, block, scanned};
+ghost use Rattle.true_peak.specs.Channel.{Channel, channel, heard, past};
+ghost use Rattle.true_peak.specs.Line.{room};
 ghost use Rattle.samples.specs.Frames.{column};
 ghost use Rattle.calls.specs.Calls.{mostChannels};
 ghost use Rattle.true_peak.specs.TruePeak.{Block, silent, historyAt, channelOf, withChannel, measured, processed, seeded};
-use interp::Four;
 use interp::Interp;
 use interp::Scan;
-use interp::Twelve;
-use interp::Two;
-use interp::Window;
 use refusals::Answer;
 
 // The memory and the peaks of eight channels.
@@ -49,208 +45,27 @@ impl TruePeak {
     }
 }
 
-// How many frames of a channel are taken at a time, and where its quarters begin: four frames side by side fill a vector each.
-const BLOCK: usize = 128;
-
-const QUARTER: usize = 32;
-
-const HALF: usize = 64;
-
-const THREE_QUARTERS: usize = 96;
-
-// A channel's history and a block of its samples, oldest first.
-const LINE: usize = 151;
-
-// The absolute value: the pattern without the sign's bit. A NaN has no pattern of its own.
-fn magnitude(x: f32) -> f32
-    ensures { λ r. ⌜ r ≡ magnitude x ⌝ }
-{
-    if x != x {
-        return x;
-    }
-    f32::from_bits(f32::to_bits(x) % 0x8000_0000)
-}
-
-// A value replaces the peak only if it is greater.
-fn louder(peak: f32, v: f32) -> f32
-    ensures { λ r. ⌜ r ≡ louder peak v ⌝ }
-{
-    if peak < v { v } else { peak }
-}
-
-fn loudest_four(peak: f32, p: Four) -> f32
-    ensures { λ r. ⌜ r ≡ loudest peak (four p) ⌝ }
-{
-    let a = louder(peak, magnitude(p.p0));
-    let b = louder(a, magnitude(p.p1));
-    let c = louder(b, magnitude(p.p2));
-    louder(c, magnitude(p.p3))
-}
-
-fn loudest_two(peak: f32, p: Two) -> f32
-    ensures { λ r. ⌜ r ≡ loudest peak (two p) ⌝ }
-{
-    let a = louder(peak, magnitude(p.p0));
-    louder(a, magnitude(p.p1))
-}
-
-// Twelve samples of a line back from place at + 11, newest first.
-fn twelve(line: &[f32; LINE], at: usize) -> Twelve
-    requires { ⌜ at < block + 12 ⌝ }
-    ensures { λ r. ⌜ r ≡ windowAt (now (line .entry)) at ⌝ }
-{
-    Twelve {
-        v0: line[at + 11],
-        v1: line[at + 10],
-        v2: line[at + 9],
-        v3: line[at + 8],
-        v4: line[at + 7],
-        v5: line[at + 6],
-        v6: line[at + 5],
-        v7: line[at + 4],
-        v8: line[at + 3],
-        v9: line[at + 2],
-        v10: line[at + 1],
-        v11: line[at],
-    }
-}
-
-// Every frame of a line raises the peak by itself, by factor 4: a frame of each quarter at a time, none of which waits for another.
-fn frames_fourfold(line: &[f32; LINE], peak: f32, loud: &mut [f32; BLOCK])
-    requires { ⌜ length (now loud) ≡ block ⌝ }
-    ensures { λ _. ⌜ Louds fourfold (now (line .entry)) peak (now (loud .exit)) ⌝ }
-{
-    let mut at = 0;
-    while at < QUARTER {
-        let second = at + QUARTER;
-        let third = second + QUARTER;
-        let fourth = third + QUARTER;
-        let e = interp::fourfold_each(
-            twelve(line, at + 12),
-            twelve(line, second + 12),
-            twelve(line, third + 12),
-            twelve(line, fourth + 12),
-        );
-        let a = e.a;
-        loud[at] = loudest_four(peak, a);
-        let b = e.b;
-        loud[second] = loudest_four(peak, b);
-        let c = e.c;
-        loud[third] = loudest_four(peak, c);
-        let d = e.d;
-        loud[fourth] = loudest_four(peak, d);
-        at += 1;
-    }
-}
-
-// Twenty-four samples of a line back from place at + 23.
-fn window(line: &[f32; LINE], at: usize) -> Window
-    requires { ⌜ at < block ⌝ }
-    ensures { λ r. ⌜ r ≡ record { newer = windowAt (now (line .entry)) (at + 12); older = windowAt (now (line .entry)) at } ⌝ }
-{
-    Window {
-        newer: twelve(line, at + 12),
-        older: twelve(line, at),
-    }
-}
-
-// Every frame of a line raises the peak by itself, by factor 2: a frame of each quarter at a time, none of which waits for another.
-fn frames_twofold(line: &[f32; LINE], peak: f32, loud: &mut [f32; BLOCK])
-    requires { ⌜ length (now loud) ≡ block ⌝ }
-    ensures { λ _. ⌜ Louds twofold (now (line .entry)) peak (now (loud .exit)) ⌝ }
-{
-    let mut at = 0;
-    while at < QUARTER {
-        let second = at + QUARTER;
-        let third = second + QUARTER;
-        let fourth = third + QUARTER;
-        let e = interp::twofold_each(
-            window(line, at),
-            window(line, second),
-            window(line, third),
-            window(line, fourth),
-        );
-        let a = e.a;
-        loud[at] = loudest_two(peak, a);
-        let b = e.b;
-        loud[second] = loudest_two(peak, b);
-        let c = e.c;
-        loud[third] = loudest_two(peak, c);
-        let d = e.d;
-        loud[fourth] = loudest_two(peak, d);
-        at += 1;
-    }
-}
-
-// The places from n on hold no frame's value but the peak.
-fn rest(loud: &mut [f32; BLOCK], n: usize, peak: f32)
-    requires { ⌜ n ≤ block ⌝ }
-    requires { ⌜ length (now loud) ≡ block ⌝ }
-    ensures { λ _. ⌜ ((j : ℕ) → j < n → getD (now (loud .exit)) j nan ≡ getD (now (loud .entry)) j nan) ⌝ }
-    ensures { λ _. ⌜ ((j : ℕ) → n ≤ j → j < block → getD (now (loud .exit)) j nan ≡ peak) ⌝ }
-{
-    let mut k = n;
-    while k < BLOCK {
-        loud[k] = peak;
-        k += 1;
-    }
-}
-
-// The largest of a block's values and the peak, the quarters side by side.
-fn loudest_of(loud: &[f32; BLOCK], peak: f32) -> f32
-    ensures { λ r. ⌜ r ≡ loudestOf (now (loud .entry)) 0 block peak ⌝ }
-{
-    let mut a = peak;
-    let mut b = peak;
-    let mut c = peak;
-    let mut d = peak;
-    let mut k = 0;
-    while k < QUARTER {
-        a = louder(a, loud[k]);
-        b = louder(b, loud[QUARTER + k]);
-        c = louder(c, loud[HALF + k]);
-        d = louder(d, loud[THREE_QUARTERS + k]);
-        k += 1;
-    }
-    louder(louder(louder(a, b), c), d)
-}
-
-// The peak after n frames of a line, the first window beginning at its first place, by factor 4.
-fn scan_fourfold(line: &[f32; LINE], n: usize, peak: f32) -> f32
-    requires { ⌜ n ≤ block ⌝ }
-    ensures { λ r. ⌜ r ≡ scanned fourfold (now (line .entry)) 0 n peak ⌝ }
-{
-    let mut loud = [peak; BLOCK];
-    frames_fourfold(line, peak, &mut loud);
-    rest(&mut loud, n, peak);
-    loudest_of(&loud, peak)
-}
-
-// The same, by factor 2.
-fn scan_twofold(line: &[f32; LINE], n: usize, peak: f32) -> f32
-    requires { ⌜ n ≤ block ⌝ }
-    ensures { λ r. ⌜ r ≡ scanned twofold (now (line .entry)) 0 n peak ⌝ }
-{
-    let mut loud = [peak; BLOCK];
-    frames_twofold(line, peak, &mut loud);
-    rest(&mut loud, n, peak);
-    loudest_of(&loud, peak)
-}
-
 // By the interpolator that the rate has.
-fn scan(i: Interp, line: &[f32; LINE], n: usize, peak: f32) -> f32
+fn scan(
+    i: Interp,
+    taps: &[f32; Interp::COEFFICIENTS],
+    line: &[f32; largest_phase::LINE],
+    n: usize,
+    peak: f32,
+) -> f32
     requires { ⌜ Known i ⌝ }
+    requires { ⌜ now taps ≡ coefficients (i .factor) ⌝ }
     requires { ⌜ n ≤ block ⌝ }
-    ensures { λ r. ⌜ r ≡ scanned i (now (line .entry)) 0 n peak ⌝ }
+    ensures { λ r. ⌜ r ≡ scanned (phases i) (now (line .entry)) 0 n peak ⌝ }
 {
     if i.factor == Interp::FOURFOLD {
-        return scan_fourfold(line, n, peak);
+        return largest_phase::scan_fourfold(taps, line, n, peak);
     }
-    scan_twofold(line, n, peak)
+    largest_phase::scan_twofold(taps, line, n, peak)
 }
 
 // A channel's history, newest first in the memory, to the line's first places, oldest first.
-fn recall(memory: &[f32; 184], c: usize, line: &mut [f32; LINE])
+fn recall(memory: &[f32; 184], c: usize, line: &mut [f32; largest_phase::LINE])
     requires { ⌜ c < mostChannels ⌝ }
     requires { ⌜ length (now memory) ≡ mostChannels * past ⌝ }
     requires { ⌜ length (now line) ≡ room ⌝ }
@@ -265,7 +80,13 @@ fn recall(memory: &[f32; 184], c: usize, line: &mut [f32; LINE])
 }
 
 // n samples of a channel, from place first on, to the line after the history.
-fn gather(samples: &[f32], first: usize, step: usize, n: usize, line: &mut [f32; LINE])
+fn gather(
+    samples: &[f32],
+    first: usize,
+    step: usize,
+    n: usize,
+    line: &mut [f32; largest_phase::LINE],
+)
     requires { ⌜ n ≤ block ⌝ }
     requires { ⌜ first + n * step < length (now samples) + step ⌝ }
     requires { ⌜ length (now samples) + step < 2 ^ 64 ⌝ }
@@ -281,7 +102,7 @@ fn gather(samples: &[f32], first: usize, step: usize, n: usize, line: &mut [f32;
 }
 
 // The last 23 samples of a line with n new ones become its first.
-fn carry(line: &mut [f32; LINE], n: usize)
+fn carry(line: &mut [f32; largest_phase::LINE], n: usize)
     requires { ⌜ n ≤ block ⌝ }
     requires { ⌜ length (now line) ≡ room ⌝ }
     ensures { λ _. ⌜ back (now (line .exit)) 0 past ≡ back (now (line .entry)) n past ⌝ }
@@ -295,7 +116,7 @@ fn carry(line: &mut [f32; LINE], n: usize)
 }
 
 // The line's first places back to the memory.
-fn keep(line: &[f32; LINE], c: usize, memory: &mut [f32; 184])
+fn keep(line: &[f32; largest_phase::LINE], c: usize, memory: &mut [f32; 184])
     requires { ⌜ c < mostChannels ⌝ }
     ensures { λ _. ⌜ now (memory .exit) ≡ sets (now (memory .entry)) (c * past) (back (now (line .entry)) 0 past) ⌝ }
 {
@@ -306,17 +127,37 @@ fn keep(line: &[f32; LINE], c: usize, memory: &mut [f32; 184])
     }
 }
 
-// How many of `left` frames the next block takes.
-fn taken(left: usize) -> usize
-    ensures { λ r. ⌜ (r ≤ left) × (r ≤ block) ⌝ }
-    ensures { λ r. ⌜ (0 < left → 0 < r) ⌝ }
+// A channel hears n samples from place first on, its history in the line's first places. Answers its peak.
+// Called for whole blocks and for what is left, so that its code stands once, by itself: the taps are then read and not written out as constants.
+fn hear_block(
+    i: Interp,
+    taps: &[f32; Interp::COEFFICIENTS],
+    samples: &[f32],
+    first: usize,
+    channels: usize,
+    n: usize,
+    line: &mut [f32; largest_phase::LINE],
+    peak: f32,
+) -> f32
+    requires { ⌜ Known i ⌝ }
+    requires { ⌜ now taps ≡ coefficients (i .factor) ⌝ }
+    requires { ⌜ n ≤ block ⌝ }
+    requires { ⌜ first + n * channels < length (now samples) + channels ⌝ }
+    requires { ⌜ length (now samples) + channels < 2 ^ 64 ⌝ }
+    requires { ⌜ length (now line) ≡ room ⌝ }
+    ensures { λ r. ⌜ channel (back (now (line .exit)) 0 past) r ≡ heard i (channel (back (now (line .entry)) 0 past) peak) (column (now (samples .entry)) first channels n) ⌝ }
+    ensures { λ _. ⌜ length (now (line .exit)) ≡ room ⌝ }
 {
-    if left < BLOCK { left } else { BLOCK }
+    gather(samples, first, channels, n, line);
+    let loud = scan(i, taps, line, n, peak);
+    carry(line, n);
+    loud
 }
 
 // One channel hears its samples, block by block. Answers its peak.
 fn one_channel(
     i: Interp,
+    taps: &[f32; Interp::COEFFICIENTS],
     samples: &[f32],
     channels: usize,
     frames: usize,
@@ -325,25 +166,33 @@ fn one_channel(
     peak: f32,
 ) -> f32
     requires { ⌜ Known i ⌝ }
+    requires { ⌜ now taps ≡ coefficients (i .factor) ⌝ }
     requires { ⌜ (c < channels) × (channels ≤ mostChannels) ⌝ }
     requires { ⌜ frames * channels ≤ length (now samples) ⌝ }
     requires { ⌜ length (now memory) ≡ mostChannels * past ⌝ }
-    ensures { λ r. ⌜ r ≡ heard i (record { history = historyAt (now (memory .entry)) c; peak = peak }) (column (now (samples .entry)) c channels frames) .peak ⌝ }
-    ensures { λ r. ⌜ now (memory .exit) ≡ sets (now (memory .entry)) (c * past) (heard i (record { history = historyAt (now (memory .entry)) c; peak = peak }) (column (now (samples .entry)) c channels frames) .history) ⌝ }
+    ensures { λ r. ⌜ r ≡ heard i (channel (historyAt (now (memory .entry)) c) peak) (column (now (samples .entry)) c channels frames) .peak ⌝ }
+    ensures { λ r. ⌜ now (memory .exit) ≡ sets (now (memory .entry)) (c * past) (heard i (channel (historyAt (now (memory .entry)) c) peak) (column (now (samples .entry)) c channels frames) .history) ⌝ }
 {
-    let mut line = [0.0; LINE];
+    let mut line = [0.0; largest_phase::LINE];
     recall(memory, c, &mut line);
     let mut loud = peak;
     let mut first = c;
     let mut left = frames;
-    while 0 < left {
-        let n = taken(left);
-        gather(samples, first, channels, n, &mut line);
-        loud = scan(i, &line, n, loud);
-        carry(&mut line, n);
-        first += n * channels;
-        left -= n;
+    while largest_phase::BLOCK <= left {
+        loud = hear_block(
+            i,
+            taps,
+            samples,
+            first,
+            channels,
+            largest_phase::BLOCK,
+            &mut line,
+            loud,
+        );
+        first += largest_phase::BLOCK * channels;
+        left -= largest_phase::BLOCK;
     }
+    loud = hear_block(i, taps, samples, first, channels, left, &mut line, loud);
     keep(&line, c, memory);
     loud
 }
@@ -351,6 +200,7 @@ fn one_channel(
 // Channel c hears its samples.
 fn listen(
     i: Interp,
+    taps: &[f32; Interp::COEFFICIENTS],
     t: TruePeak,
     samples: &[f32],
     channels: usize,
@@ -358,13 +208,14 @@ fn listen(
     c: usize,
 ) -> TruePeak
     requires { ⌜ Known i ⌝ }
+    requires { ⌜ now taps ≡ coefficients (i .factor) ⌝ }
     requires { ⌜ (c < channels) × (channels ≤ mostChannels) ⌝ }
     requires { ⌜ frames * channels ≤ length (now samples) ⌝ }
     ensures { λ r. ⌜ r ≡ withChannel t c (heard i (channelOf t c) (column (now (samples .entry)) c channels frames)) ⌝ }
 {
     let mut w = t;
     let peak = w.peaks[c];
-    let loud = one_channel(i, samples, channels, frames, c, &mut w.memory, peak);
+    let loud = one_channel(i, taps, samples, channels, frames, c, &mut w.memory, peak);
     w.peaks[c] = loud;
     w
 }
@@ -376,10 +227,11 @@ fn all_channels(i: Interp, t: TruePeak, channels: usize, samples: &[f32]) -> Tru
     ensures { λ r. ⌜ r ≡ measured (upsampled i) (record { channels = channels; samples = now (samples .entry) }) t ⌝ }
 {
     let frames = samples.len() / channels;
+    let taps = i.coefficients();
     let mut w = t;
     let mut c = 0;
     while c < channels {
-        w = listen(i, w, samples, channels, frames, c);
+        w = listen(i, &taps, w, samples, channels, frames, c);
         c += 1;
     }
     w

@@ -10,23 +10,26 @@ use Rattle.true_peak.proofs.all_channels.Statement.{statement}
 use Rattle.true_peak.proofs.all_channels.Tie as tie
 
 abbrev Inv-loop : tie.InvT-loop
-Inv-loop i channels samples frames w₀ c₀ w c =
+Inv-loop i channels samples frames taps w₀ c₀ w c =
     (c ≤ channels)
     × (channelsFrom i (record { channels = channels; samples = samples }) c (channels - c) w ≡ channelsFrom i (record { channels = channels; samples = samples }) 0 channels w₀)
 
 abbrev μ-loop : tie.MeasureT-loop
-μ-loop i channels samples frames w₀ c₀ w c = channels - c
+μ-loop i channels samples frames taps w₀ c₀ w c = channels - c
 
 div-frames : tie.Need-div-frames Inv-loop μ-loop
 div-frames c = search needs
 
+coefficients-requires : tie.Need-coefficients-requires Inv-loop μ-loop
+coefficients-requires c κs = search needs
+
 loop-holds : tie.Need-loop-holds Inv-loop μ-loop
-loop-holds c = let a = c .before .args in (search needs, channels-start (a .i) (record { channels = a .channels; samples = a .samples .now }) (a .channels) (a .t))
+loop-holds c = let a = c .before .before .args in (search needs, channels-start (a .i) (record { channels = a .channels; samples = a .samples .now }) (a .channels) (a .t))
 
 listen-requires : tie.Need-listen-requires Inv-loop μ-loop
 listen-requires c κs =
-    let s = c .before .before .before in
-    (s .pre .0, ((c .loop-test .taken, s .pre .1 .1), div-mul-le-self (length (s .args .samples .now)) (s .args .channels)))
+    let s = c .before .before .before .before .before in
+    (s .pre .0, (c .before .before .before .coefficients .ensures, ((c .before .loop-test .taken, s .pre .1 .1), div-mul-le-self (length (s .args .samples .now)) (s .args .channels))))
 
 add-c : tie.Need-add-c Inv-loop μ-loop
 add-c c = search needs
@@ -36,10 +39,10 @@ loop-less c = search needs
 
 loop-again : tie.Need-loop-again Inv-loop μ-loop
 loop-again c =
-    let l = c .before .before .loop in
-    let a = c .before .before .before .before .args in (
+    let l = c .before .before .before .loop in
+    let a = c .before .before .before .before .before .before .args in (
       search needs,
-      channels-turn (a .i) (record { channels = a .channels; samples = a .samples .now }) (l .c) (a .channels) (l .w) (c .listen .result) (c .before .loop-test .taken) (c .listen .ensures)
+      channels-turn (a .i) (record { channels = a .channels; samples = a .samples .now }) (l .c) (a .channels) (l .w) (c .listen .result) (c .before .before .loop-test .taken) (c .listen .ensures)
           ∙ l .inv .1,
     )
 
@@ -47,7 +50,7 @@ returns : tie.Need-returns Inv-loop μ-loop
 unfolding measured
 returns c =
     let l = c .before .loop in
-    let a = c .before .before .before .args in
+    let a = c .before .before .before .before .args in
     channels-end (a .i) (record { channels = a .channels; samples = a .samples .now }) (l .c) (a .channels) (l .w) (c .loop-test .left) ∙ l .inv .1
 
 pub all-channels-spec : {M : Type 1} → statement M
@@ -57,6 +60,7 @@ all-channels-spec =
     Inv-loop
     μ-loop
     div-frames
+    coefficients-requires
     loop-holds
     listen-requires
     add-c

@@ -15,7 +15,7 @@ element-copy-out-peak : tie.Need-element-copy-out-peak
 element-copy-out-peak c = search needs
 
 one-channel-requires : tie.Need-one-channel-requires
-one-channel-requires c κs = (search needs, (search needs, (search needs, length-unmapped Float (c .before .before .before .args .t .memory) 184 (c .before .before .before .good .1 .0 .1 .1 .0 .1 .0 .1))))
+one-channel-requires c κs = (search needs, (search needs, (search needs, (search needs, length-unmapped Float (c .before .before .before .args .t .memory) 184 (c .before .before .before .good .1 .1 .0 .1 .1 .0 .1 .0 .1)))))
 
 mul-w : tie.Need-mul-w
 mul-w c = search needs
@@ -26,7 +26,7 @@ element-write-w c = search needs
 returns : tie.Need-returns
 returns c =
     let a = c .before .before .before .before .args in
-    put (a .t) (a .c) (heard (a .i) (channelOf (a .t) (a .c)) (column (a .samples .now) (a .c) (a .channels) (a .frames))) (c .one-channel .last .1 .1 .1 .1 .1 .0) (c .one-channel .result)
+    put (a .t) (a .c) (heard (a .i) (channelOf (a .t) (a .c)) (column (a .samples .now) (a .c) (a .channels) (a .frames))) (c .one-channel .last .1 .1 .1 .1 .1 .1 .0) (c .one-channel .result)
     (c .one-channel .ensures .0) (c .one-channel .ensures .1)
 
 pub listen-spec : {M : Type 1} → statement M

@@ -7,24 +7,25 @@ use native.Mathlib.Omega.{arith}
 use lib.ListN.{length}
 use lib.Ieee.{Float}
 use lib.Seq.{sets}
-use Rattle.true_peak.specs.Channel.{Channel, heard, past}
-use Rattle.true_peak.specs.Line.{room, back}
+use Rattle.true_peak.specs.Channel.{Channel, channel, heard, past}
+use Rattle.largest_phase.specs.Line.{block, back}
+use Rattle.true_peak.specs.Line.{room}
 use Rattle.samples.specs.Frames.{column}
 use Rattle.calls.specs.Calls.{mostChannels}
 use Rattle.true_peak.specs.TruePeak.{historyAt}
-use Rattle.true_peak.proofs.Blocks.{block-turn, none-left, places, stored-length}
+use Rattle.true_peak.proofs.Blocks.{blocks-turn, places}
 use Rattle.true_peak.proofs.one_channel.Statement.{statement}
 use Rattle.true_peak.proofs.one_channel.Tie as tie
 
 abbrev Inv-loop : tie.InvT-loop
-Inv-loop i samples channels frames c memory peak line₀ loud₀ first₀ left₀ line loud first left =
+Inv-loop i taps samples channels frames c memory peak line₀ loud₀ first₀ left₀ line loud first left =
     (length line ≡ room)
     × ((first + left * channels < length samples + channels)
-    × (heard i (record { history = back line 0 past; peak = loud }) (column samples first channels left)
-    ≡ heard i (record { history = historyAt memory c; peak = peak }) (column samples c channels frames)))
+    × (heard i (channel (back line 0 past) loud) (column samples first channels left)
+    ≡ heard i (channel (historyAt memory c) peak) (column samples c channels frames)))
 
 abbrev μ-loop : tie.MeasureT-loop
-μ-loop i samples channels frames c memory peak line₀ loud₀ first₀ left₀ line loud first left = left
+μ-loop i taps samples channels frames c memory peak line₀ loud₀ first₀ left₀ line loud first left = left
 
 recall-requires : tie.Need-recall-requires Inv-loop μ-loop
 recall-requires c κs = search needs
@@ -36,81 +37,68 @@ loop-holds c =
       c .recall .ensures .1,
       (
         omega (arith, s .pre),
-        ap (λ (h : List Float). heard (a .i) (record { history = h; peak = a .peak }) (column (a .samples .now) (a .c) (a .channels) (a .frames))) (c .recall .ensures .0),
+        ap (λ (h : List Float). heard (a .i) (channel h (a .peak)) (column (a .samples .now) (a .c) (a .channels) (a .frames))) (c .recall .ensures .0),
       ),
     )
 
-taken-requires : tie.Need-taken-requires Inv-loop μ-loop
-taken-requires c κs = search needs
-
-gather-requires : tie.Need-gather-requires Inv-loop μ-loop
-gather-requires c κs =
-    let l = c .before .before .before .loop in
-    let s = c .before .before .before .before .before .before .before .before in
-    let n = c .before .taken in (
-      n .ensures .0 .1,
-      (omega (arith, places (n .result) (l .left) (s .args .channels) (n .ensures .0 .0), l .inv), omega (arith, s .good, s .pre)),
+hear-block-requires : tie.Need-hear-block-requires Inv-loop μ-loop
+hear-block-requires c κs =
+    let l = c .before .before .loop in
+    let s = c .before .before .before .before .before .before .before in (
+      s .pre .0,
+      (
+        s .pre .1 .0,
+        (omega arith, (omega (arith, places 128 (l .left) (s .args .channels) (c .before .loop-test .taken), l .inv .1 .0), (omega (arith, s .good, s .pre), l .inv .0))),
+      ),
     )
 
-scan-requires : tie.Need-scan-requires Inv-loop μ-loop
-scan-requires c κs = (c .before .before .before .before .before .before .before .before .before .before .pre .0, c .before .before .before .taken .ensures .0 .1)
-
-carry-requires : tie.Need-carry-requires Inv-loop μ-loop
-carry-requires c κs =
-    let l = c .before .before .before .before .before .before .before .loop in
-    let a = c .before .before .before .before .before .before .before .before .before .before .before .before .args in
-    let n = c .before .before .before .before .before .taken in
-    let g = c .before .before .before .gather in
-    (n .ensures .0 .1, stored-length (l .line) (g .last .1 .1 .1 .1 .0) (column (a .samples .now) (l .first) (a .channels) (n .result)) room (g .ensures) (l .inv .0))
-
 -- the next block begins where this one ends
-further : (c : tie.After-carry Inv-loop μ-loop)
-    → c .before .before .before .before .before .before .before .before .loop .first + c .before .before .before .before .before .before .taken .result * c .before .before .before .before .before .before .before .before .before .before .before .before .before .args .channels < length (c .before .before .before .before .before .before .before .before .before .before .before .before .before .args .samples .now) + mostChannels
+further : (c : tie.After-hear-block Inv-loop μ-loop)
+    → c .before .before .before .loop .first + 128 * c .before .before .before .before .before .before .before .before .args .channels < length (c .before .before .before .before .before .before .before .before .args .samples .now) + mostChannels
 further c =
-    let l = c .before .before .before .before .before .before .before .before .loop in
-    let s = c .before .before .before .before .before .before .before .before .before .before .before .before .before in
-    let n = c .before .before .before .before .before .before .taken in
-    omega (arith, places (n .result) (l .left) (s .args .channels) (n .ensures .0 .0), l .inv, s .pre)
+    let l = c .before .before .before .loop in
+    let s = c .before .before .before .before .before .before .before .before in
+    omega (arith, places 128 (l .left) (s .args .channels) (c .before .before .loop-test .taken), l .inv .1 .0, s .pre .1 .1 .0)
 
 mul-first : tie.Need-mul-first Inv-loop μ-loop
-mul-first c = omega (arith, further c)
+mul-first c = omega (arith, further c, c .before .before .before .before .before .before .before .before .good)
 
 add-first : tie.Need-add-first Inv-loop μ-loop
-add-first c = omega (arith, further c)
-
-sub-left : tie.Need-sub-left Inv-loop μ-loop
-sub-left c = c .before .before .before .before .before .before .taken .ensures .0 .0
+add-first c = omega (arith, further c, c .before .before .before .before .before .before .before .before .good)
 
 loop-less : tie.Need-loop-less Inv-loop μ-loop
-loop-less c = omega (arith, c .before .before .before .before .before .before .taken .ensures .1 (c .before .before .before .before .before .before .before .loop-test .taken), c .before .before .before .before .before .before .taken .ensures .0)
+loop-less c = omega (arith, c .before .before .loop-test .taken)
 
 loop-again : tie.Need-loop-again Inv-loop μ-loop
 loop-again c =
-    let l = c .before .before .before .before .before .before .before .before .loop in
-    let a = c .before .before .before .before .before .before .before .before .before .before .before .before .before .args in
-    let n = c .before .before .before .before .before .before .taken in (
-      c .carry .ensures .1,
+    let l = c .before .before .before .loop in
+    let a = c .before .before .before .before .before .before .before .before .args in
+    let t = c .before .before .loop-test .taken in (
+      c .hear-block .ensures .1,
       (
-        omega (arith, places (n .result) (l .left) (a .channels) (n .ensures .0 .0), l .inv),
-        block-turn (a .i) (a .samples .now) (l .line) (c .before .before .before .before .gather .last .1 .1 .1 .1 .0) (c .carry .last .0) (l .first) (a .channels) (l .left) (n .result) (l .loud) (c .before .before .scan .result)
-            (n .ensures .0 .0)
-            (omega (arith, l .inv .0, n .ensures .0))
-            (c .before .before .before .before .gather .ensures)
-            (c .before .before .scan .ensures)
-            (c .carry .ensures .0)
+        omega (arith, places 128 (l .left) (a .channels) t, l .inv .1 .0),
+        blocks-turn (a .i) (a .samples .now) (l .first) (a .channels) (l .left) 128 (channel (back (l .line) 0 past) (l .loud)) (channel (back (c .hear-block .last .1 .1 .1 .1 .1 .1 .0) 0 past) (c .hear-block .result))
+            t
+            (c .hear-block .ensures .0)
             ∙ l .inv .1 .1,
       ),
     )
+
+hear-block-requires-2 : tie.Need-hear-block-requires-2 Inv-loop μ-loop
+hear-block-requires-2 c κs =
+    let l = c .before .before .loop in
+    let s = c .before .before .before .before .before .before .before in
+    (s .pre .0, (s .pre .1 .0, (omega (arith, c .before .loop-test .left), (l .inv .1 .0, (omega (arith, s .good, s .pre), l .inv .0)))))
 
 keep-requires : tie.Need-keep-requires Inv-loop μ-loop
 keep-requires c κs = search needs
 
 returns : tie.Need-returns Inv-loop μ-loop
 returns c =
-    let l = c .before .before .before .before .loop in
-    let a = c .before .before .before .before .before .before .before .before .before .args in
-    let ch : Channel = record { history = back (l .line) 0 past; peak = l .loud } in
-    let e = none-left (a .i) (a .samples .now) (l .first) (a .channels) (l .left) ch (c .before .before .before .loop-test .left) ∙ l .inv .1 .1 in
+    let h = c .before .before .before .hear-block2 in
+    let l = c .before .before .before .before .before .before .loop in
+    let a = c .before .before .before .before .before .before .before .before .before .before .before .args in
+    let e = h .ensures .0 ∙ l .inv .1 .1 in
     (ap (λ (k : Channel). k .peak) e, c .keep .ensures ∙ ap (λ (k : Channel). sets (a .memory .now) (a .c * past) (k .history)) e)
 
 pub one-channel-spec : {M : Type 1} → statement M
@@ -121,14 +109,11 @@ one-channel-spec =
     μ-loop
     recall-requires
     loop-holds
-    taken-requires
-    gather-requires
-    scan-requires
-    carry-requires
+    hear-block-requires
     mul-first
     add-first
-    sub-left
     loop-less
     loop-again
+    hear-block-requires-2
     keep-requires
     returns)

@@ -1,0 +1,204 @@
+-- A block of values taken by quarters: four frames a turn fill the four quarters together, and the largest of a block is the largest of its quarters in order.
+-- A store in one quarter keeps the others, and each quarter's run begins from the same peak. Assumes nothing.
+use mathlib.Core.Path.{_≡_, refl, sym, ap, _∙_}
+use mathlib.Core.Logic.{_⊎_, inl, inr}
+use mathlib.Core.List.{List}
+use Prim.Native.Nat.{ℕ, suc, _+_, _*_, _-_, _≤_, _<_, min}
+use native.Mathlib.Nat.{eq-or-lt-of-le, eq-zero-or-pos, min-eq-left, min-eq-right}
+use native.Mathlib.Omega.{arith}
+use lib.ListN.{length, getD, set, length-set}
+use lib.Seq.{getD-set-other, getD-set-same}
+use lib.Ieee.{Float, nan}
+use Rattle.largest_phase.specs.Largest.{louder, loudest}
+use Rattle.largest_phase.specs.Line.{block, back, scanned, loudestOf, Louds}
+use Rattle.floats.proofs.Larger.{Over, over-self}
+use Rattle.largest_phase.proofs.Loud.{apart, loudest-over, loudest-join, loudest-none, scanned-louds}
+
+pub either : (d c : ℕ) → (d < c) ⊎ (c ≤ d)
+either d c = elim (eq-zero-or-pos (c - d)) [ inl z ↦ inr (omega arith) | inr p ↦ inl (omega arith) ]
+
+module _ (phases : List Float → List Float) (line : List Float) (peak : Float) where
+  -- what frame `at` makes of the peak
+  abbrev pub raisedAt : ℕ → Float
+  raisedAt at = loudest peak (phases (back line at 24))
+
+  -- the n places from `from` on are done
+  abbrev pub Done : List Float → ℕ → ℕ → Type 0
+  Done l from n = (p : ℕ) → from ≤ p → p < from + n → getD l p nan ≡ raisedAt p
+
+  done-kept : (l : List Float) (from n p : ℕ) (v : Float) → (p < from) ⊎ (from + n ≤ p) → Done l from n → Done (set l p v) from n
+  done-kept l from n p v (inl h) d = λ x a b. getD-set-other l p x v nan (λ e. omega arith) ∙ d x a b
+  done-kept l from n p v (inr h) d = λ x a b. getD-set-other l p x v nan (λ e. omega arith) ∙ d x a b
+
+  done-more : (l : List Float) (from n p : ℕ) (v : Float) → p ≡ from + n → p < length l → v ≡ raisedAt p → Done l from n → Done (set l p v) from (n + 1)
+  done-more l from n p v e h r d = λ x a b. next x a (eq-or-lt-of-le (omega arith))
+    where
+      next : (x : ℕ) → from ≤ x → (x ≡ p) ⊎ (x < p) → getD (set l p v) x nan ≡ raisedAt x
+      next x a (inl f) = ap (λ (y : ℕ). getD (set l p v) y nan) f ∙ getD-set-same l p v nan h ∙ r ∙ ap raisedAt (sym f)
+      next x a (inr g) = getD-set-other l p x v nan (λ f. omega arith) ∙ d x a (omega arith)
+
+  -- k frames of each of four runs
+  pub record Quarters (run : ℕ) (l : List Float) (k : ℕ) : Type 0 where
+    pub size : length l ≡ block
+    pub first : Done l 0 k
+    pub second : Done l run k
+    pub third : Done l (run + run) k
+    pub fourth : Done l (run + run + run) k
+
+  pub quarters-start : (run : ℕ) (l : List Float) → length l ≡ block → Quarters run l 0
+  quarters-start run l e = record {
+    size = e;
+    first = λ p a b. absurd (omega arith);
+    second = λ p a b. absurd (omega arith);
+    third = λ p a b. absurd (omega arith);
+    fourth = λ p a b. absurd (omega arith);
+  }
+
+  pub quarters-turn : (run : ℕ) (l : List Float) (k p q r : ℕ) (u v w x : Float) → k < run → run * 4 ≤ block → p ≡ k + run → q ≡ k + run + run → r ≡ k + run + run + run
+      → u ≡ raisedAt k → v ≡ raisedAt p → w ≡ raisedAt q → x ≡ raisedAt r
+      → Quarters run l k → Quarters run (set (set (set (set l k u) p v) q w) r x) (k + 1)
+  quarters-turn run l k p q r u v w x h room ep eq er eu ev ew ex d =
+      let l1 = set l k u in
+      let l2 = set l1 p v in
+      let l3 = set l2 q w in
+      let s1 : length l1 ≡ block = length-set l k u ∙ d .size in
+      let s2 : length l2 ≡ block = length-set l1 p v ∙ s1 in
+      let s3 : length l3 ≡ block = length-set l2 q w ∙ s2 in
+      record {
+        size = length-set l3 r x ∙ s3;
+        first =
+            done-kept l3 0 (k + 1) r x (inr (omega arith)) (done-kept l2 0 (k + 1) q w (inr (omega arith)) (done-kept l1 0 (k + 1) p v (inr (omega arith))
+            (done-more l 0 k k u (omega arith) (omega (arith, d .size)) eu (d .first))));
+        second =
+            done-kept l3 run (k + 1) r x (inr (omega arith)) (done-kept l2 run (k + 1) q w (inr (omega arith))
+            (done-more l1 run k p v (omega arith) (omega (arith, s1)) ev (done-kept l run k k u (inl (omega arith)) (d .second))));
+        third =
+            done-kept l3 (run + run) (k + 1) r x (inr (omega arith))
+            (done-more l2 (run + run) k q w (omega arith) (omega (arith, s2)) ew
+            (done-kept l1 (run + run) k p v (inl (omega arith)) (done-kept l (run + run) k k u (inl (omega arith)) (d .third))));
+        fourth =
+            done-more l3 (run + run + run) k r x (omega arith) (omega (arith, s3)) ex
+            (done-kept l2 (run + run + run) k q w (inl (omega arith))
+            (done-kept l1 (run + run + run) k p v (inl (omega arith)) (done-kept l (run + run + run) k k u (inl (omega arith)) (d .fourth))));
+      }
+
+  pub quarters-end : (run : ℕ) (l : List Float) (k : ℕ) → run ≤ k → Quarters run l k → Louds phases line peak (run * 4) l
+  quarters-end run l k h d = record { size = d .size; raised = λ p g. which p g (either p run) (either p (run + run)) (either p (run + run + run)) }
+    where
+      which : (p : ℕ) → p < run * 4 → (p < run) ⊎ (run ≤ p) → (p < run + run) ⊎ (run + run ≤ p) → (p < run + run + run) ⊎ (run + run + run ≤ p) → getD l p nan ≡ raisedAt p
+      which p g (inl a) y z = d .first p (omega arith) (omega arith)
+      which p g (inr a) (inl b) z = d .second p a (omega arith)
+      which p g (inr a) (inr b) (inl c) = d .third p b (omega arith)
+      which p g (inr a) (inr b) (inr c) = d .fourth p c (omega arith)
+
+  -- k frames of each of two runs
+  pub record Halves (run : ℕ) (l : List Float) (k : ℕ) : Type 0 where
+    pub size : length l ≡ block
+    pub first : Done l 0 k
+    pub second : Done l run k
+
+  pub halves-start : (run : ℕ) (l : List Float) → length l ≡ block → Halves run l 0
+  halves-start run l e = record { size = e; first = λ p a b. absurd (omega arith); second = λ p a b. absurd (omega arith) }
+
+  pub halves-turn : (run : ℕ) (l : List Float) (k p : ℕ) (u v : Float) → k < run → run * 2 ≤ block → p ≡ k + run
+      → u ≡ raisedAt k → v ≡ raisedAt p → Halves run l k → Halves run (set (set l k u) p v) (k + 1)
+  halves-turn run l k p u v h room ep eu ev d =
+      let l1 = set l k u in
+      let s1 : length l1 ≡ block = length-set l k u ∙ d .size in
+      record {
+        size = length-set l1 p v ∙ s1;
+        first = done-kept l1 0 (k + 1) p v (inr (omega arith)) (done-more l 0 k k u (omega arith) (omega (arith, d .size)) eu (d .first));
+        second = done-more l1 run k p v (omega arith) (omega (arith, s1)) ev (done-kept l run k k u (inl (omega arith)) (d .second));
+      }
+
+  pub halves-end : (run : ℕ) (l : List Float) (k : ℕ) → run ≤ k → Halves run l k → Louds phases line peak (run * 2) l
+  halves-end run l k h d = record { size = d .size; raised = λ p g. which p g (either p run) }
+    where
+      which : (p : ℕ) → p < run * 2 → (p < run) ⊎ (run ≤ p) → getD l p nan ≡ raisedAt p
+      which p g (inl a) = d .first p (omega arith) (omega arith)
+      which p g (inr a) = d .second p a (omega arith)
+
+-- ---- the largest of a block, by quarters
+pub run-turn : (l : List Float) (from at k : ℕ) (q r : Float) → k < 32 → at ≡ from + k → r ≡ louder q (getD l at nan)
+    → loudestOf l (from + (k + 1)) (32 - (k + 1)) r ≡ loudestOf l (from + k) (32 - k) q
+unfolding loudestOf
+run-turn l from at k q r h e f =
+    let m : 32 - k ≡ suc (32 - (k + 1)) = omega arith in
+    let n : from + (k + 1) ≡ suc (from + k) = omega arith in
+    ap (λ (x : ℕ). loudestOf l x (32 - (k + 1)) r) n
+    ∙ ap (loudestOf l (suc (from + k)) (32 - (k + 1))) (f ∙ ap (λ (x : ℕ). louder q (getD l x nan)) e)
+    ∙ ap (λ (x : ℕ). loudestOf l (from + k) x q) (sym m)
+
+pub run-end : (l : List Float) (at k : ℕ) (q : Float) → 32 ≤ k → q ≡ loudestOf l at (32 - k) q
+unfolding loudestOf
+run-end l at k q h = let e : 0 ≡ 32 - k = omega arith in ap (λ (x : ℕ). loudestOf l at x q) e
+
+module _ (l : List Float) (p : Float) where
+  run : ℕ → Float
+  run at = loudestOf l at 32 p
+
+  joined : (at : ℕ) (q : Float) → Over p q → loudestOf l at 32 q ≡ louder q (run at)
+  unfolding run
+  joined at q o = apart l at 32 p q o
+
+  -- the quarters' runs compared in order
+  pub by-quarters : (a b c d : Float) → a ≡ loudestOf l 0 32 p → b ≡ loudestOf l 32 32 p → c ≡ loudestOf l 64 32 p → d ≡ loudestOf l 96 32 p
+      → louder (louder (louder a b) c) d ≡ loudestOf l 0 block p
+  unfolding run
+  by-quarters a b c d ea eb ec ed =
+      let one = loudestOf l 0 32 p in
+      let two = loudestOf l 32 32 one in
+      let three = loudestOf l 64 32 two in
+      let o1 = loudest-over l 0 32 p p (over-self p) in
+      let o2 = loudest-over l 32 32 p one o1 in
+      let o3 = loudest-over l 64 32 p two o2 in
+      let e2 : louder a b ≡ two = ap (λ (x : Float). louder x b) ea ∙ ap (louder one) eb ∙ sym (joined 32 one o1) in
+      let e3 : louder (louder a b) c ≡ three = ap (λ (x : Float). louder x c) e2 ∙ ap (louder two) ec ∙ sym (joined 64 two o2) in
+      let e4 : louder (louder (louder a b) c) d ≡ loudestOf l 96 32 three = ap (λ (x : Float). louder x d) e3 ∙ ap (louder three) ed ∙ sym (joined 96 three o3) in
+      e4 ∙ sym (loudest-join l 0 96 32 p ∙ ap (loudestOf l 96 32) (loudest-join l 0 64 32 p ∙ ap (loudestOf l 64 32) (loudest-join l 0 32 32 p)))
+
+-- ---- n frames of a block, the places after them at the peak
+scanned-block : (phases : List Float → List Float) (line louds : List Float) (n : ℕ) (p : Float) → n ≤ block
+    → ((j : ℕ) → j < n → getD louds j nan ≡ loudest p (phases (back line j 24))) → ((j : ℕ) → n ≤ j → j < block → getD louds j nan ≡ p)
+    → loudestOf louds 0 block p ≡ scanned phases line 0 n p
+scanned-block phases line louds n p h raised after =
+    let e : block ≡ n + (block - n) = omega arith in
+    let z : 0 + n ≡ n = omega arith in
+    ap (λ (m : ℕ). loudestOf louds 0 m p) e
+    ∙ loudest-join louds 0 n (block - n) p
+    ∙ loudest-none louds (0 + n) (block - n) p (loudestOf louds 0 n p) (loudest-over louds 0 n p p (over-self p)) (λ j a b. after j (omega arith) (omega arith))
+    ∙ sym (scanned-louds phases line louds 0 n p p (over-self p) (λ j a b. raised j (omega arith)))
+
+-- a block has no more frames than its own
+pub scanned-some : (phases : List Float → List Float) (line louds : List Float) (n : ℕ) (p : Float)
+    → ((j : ℕ) → j < n → j < block → getD louds j nan ≡ loudest p (phases (back line j 24))) → ((j : ℕ) → n ≤ j → j < block → getD louds j nan ≡ p)
+    → loudestOf louds 0 block p ≡ scanned phases line 0 (min n block) p
+scanned-some phases line louds n p raised after = by (either n block)
+  where
+    by : (n < block) ⊎ (block ≤ n) → loudestOf louds 0 block p ≡ scanned phases line 0 (min n block) p
+    by (inl h) =
+        let e : n ≤ block = omega arith in
+        scanned-block phases line louds n p e (λ j a. raised j a (omega arith)) after ∙ ap (λ (m : ℕ). scanned phases line 0 m p) (sym (min-eq-left e))
+    by (inr h) =
+        scanned-block phases line louds block p (omega arith) (λ j a. raised j (omega arith) a) (λ j a b. absurd (omega arith))
+        ∙ ap (λ (m : ℕ). scanned phases line 0 m p) (sym (min-eq-right h))
+
+-- ---- the places from n on set to the peak
+pub record Filled (old l : List Float) (n k : ℕ) (p : Float) : Type 0 where
+  pub size : length l ≡ block
+  pub kept : (j : ℕ) → j < n → getD l j nan ≡ getD old j nan
+  pub filled : (j : ℕ) → n ≤ j → j < k → getD l j nan ≡ p
+
+pub filled-start : (l : List Float) (n : ℕ) (p : Float) → length l ≡ block → Filled l l n n p
+filled-start l n p e = record { size = e; kept = λ j h. refl; filled = λ j a b. absurd (omega arith) }
+
+pub filled-turn : (old l : List Float) (n k : ℕ) (p : Float) → n ≤ k → k < block → Filled old l n k p → Filled old (set l k p) n (k + 1) p
+filled-turn old l n k p h g f = record {
+  size = length-set l k p ∙ f .size;
+  kept = λ j a. getD-set-other l k j p nan (λ e. omega arith) ∙ f .kept j a;
+  filled = λ j a b. next j a (eq-or-lt-of-le (omega arith));
+}
+  where
+    next : (j : ℕ) → n ≤ j → (j ≡ k) ⊎ (j < k) → getD (set l k p) j nan ≡ p
+    next j a (inl e) = ap (λ (x : ℕ). getD (set l k p) x nan) e ∙ getD-set-same l k p nan (omega (arith, f .size))
+    next j a (inr l′) = getD-set-other l k j p nan (λ e. omega arith) ∙ f .filled j a l′

@@ -1,0 +1,67 @@
+-- The magnitude by bits: a float's pattern without the sign's bit is its magnitude's pattern. Assumes nothing.
+use mathlib.Core.Path.{_≡_, refl, ap, _∙_}
+use mathlib.Core.Bool.{true, false, not}
+use Prim.Native.Nat.{ℕ, suc, zero, _+_, _%_, _<_}
+use native.Mathlib.Nat.{mod-eq-of-lt, add-mod-left}
+use native.Mathlib.Omega.{arith}
+use lib.Dec.{T}
+use lib.Ieee.{Float, nan, inf, fin, binary32, fits, isNan, ofBits, toBits, nanBits}
+use lib.Ieee.Bits.{ofBits-toBits, toBits-lt, nanBits-is}
+use Rattle.largest_phase.specs.Largest.{magnitude}
+
+fits-magnitude : (x : Float) → T (fits binary32 x) → T (fits binary32 (magnitude x))
+unfolding fits
+fits-magnitude nan h = h
+fits-magnitude (inf s) h = h
+fits-magnitude (fin s zero e) h = h
+fits-magnitude (fin s (suc m) e) h = h
+
+no-nan-magnitude : (x : Float) → T (not (isNan x)) → T (not (isNan (magnitude x)))
+unfolding isNan
+no-nan-magnitude nan h = h
+no-nan-magnitude (inf s) h = tt
+no-nan-magnitude (fin s m e) h = tt
+
+-- the same float with its sign set
+abbrev negative : Float → Float
+negative nan = nan
+negative (inf s) = inf true
+negative (fin s m e) = fin true m e
+
+fits-negative : (x : Float) → T (fits binary32 x) → T (fits binary32 (negative x))
+unfolding fits
+fits-negative nan h = h
+fits-negative (inf s) h = h
+fits-negative (fin s zero e) h = h
+fits-negative (fin s (suc m) e) h = h
+
+regroup : (k a b : ℕ) → k + a + b ≡ k + (0 + a + b)
+regroup k a b = omega arith
+
+-- the sign's bit
+abbrev sign : ℕ
+sign = 0x8000_0000
+
+signed : (x : Float) → T (not (isNan x)) → toBits binary32 (negative x) ≡ sign + toBits binary32 (magnitude x)
+unfolding isNan toBits
+signed nan h = absurd h
+signed (inf s) h = refl
+signed (fin s m e) h = regroup _ _ _
+
+below-sign : (x : Float) → T (not (isNan x)) → T (fits binary32 x) → toBits binary32 (magnitude x) < sign
+below-sign x h f = omega (arith, signed x h, toBits-lt binary32 (negative x) (fits-negative x f))
+
+-- a float is its magnitude, or that with its sign set
+unsigned : (x : Float) → T (not (isNan x)) → T (fits binary32 x) → toBits binary32 x % sign ≡ toBits binary32 (magnitude x)
+unfolding isNan
+unsigned nan h f = absurd h
+unsigned (inf true) h f = ap (λ (n : ℕ). n % sign) (signed (inf true) h) ∙ add-mod-left sign _ ∙ mod-eq-of-lt (below-sign (inf true) h f)
+unsigned (inf false) h f = mod-eq-of-lt (below-sign (inf false) h f)
+unsigned (fin true m e) h f = ap (λ (n : ℕ). n % sign) (signed (fin true m e) h) ∙ add-mod-left sign _ ∙ mod-eq-of-lt (below-sign (fin true m e) h f)
+unsigned (fin false m e) h f = mod-eq-of-lt (below-sign (fin false m e) h f)
+
+pub by-bits : (x : Float) → T (not (isNan x)) → T (fits binary32 x) → ofBits binary32 (toBits binary32 x % sign) ≡ magnitude x
+by-bits x h f = ap (ofBits binary32) (unsigned x h f) ∙ ofBits-toBits binary32 (magnitude x) (fits-magnitude x f)
+
+pub no-nan-bits : (x : Float) → T (not (isNan x)) → T (fits binary32 x) → T (not (nanBits binary32 (toBits binary32 x % sign)))
+no-nan-bits x h f = rw (nanBits-is binary32 (toBits binary32 x % sign), by-bits x h f) (no-nan-magnitude x h)

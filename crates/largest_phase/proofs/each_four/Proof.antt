@@ -1,0 +1,58 @@
+-- `largest_phase::each_four` meets its contract: twelve taps in order are the four phases of each frame. Assumes nothing.
+use mathlib.Core.Path.{ap, _∙_}
+use native.Mathlib.Omega.{arith}
+use lib.Ieee.{ofBits}
+use Rattle.interp.specs.Interp.{fourfold}
+use Rattle.interp.specs.Phase.{four, phasesBy}
+use Rattle.largest_phase.specs.declared.Fours.{Fours}
+use Rattle.largest_phase.specs.Line.{back}
+use Rattle.largest_phase.specs.Taps.{tapFour}
+use Rattle.largest_phase.proofs.each_four.Statement.{statement}
+use Rattle.largest_phase.proofs.each_four.Tie as tie
+
+tap-four-requires : tie.Need-tap-four-requires
+tap-four-requires c κs = ((omega arith, omega arith), c .pre)
+
+tap-four-requires-2 : tie.Need-tap-four-requires-2
+tap-four-requires-2 c κs = ((omega arith, omega arith), c .before .pre)
+
+tap-four-requires-3 : tie.Need-tap-four-requires-3
+tap-four-requires-3 c κs = ((omega arith, omega arith), c .before .before .pre)
+
+tap-four-requires-4 : tie.Need-tap-four-requires-4
+tap-four-requires-4 c κs = ((omega arith, omega arith), c .before .before .before .pre)
+
+tap-four-requires-5 : tie.Need-tap-four-requires-5
+tap-four-requires-5 c κs = ((omega arith, omega arith), c .before .before .before .before .pre)
+
+tap-four-requires-6 : tie.Need-tap-four-requires-6
+tap-four-requires-6 c κs = ((omega arith, omega arith), c .before .before .before .before .before .pre)
+
+tap-four-requires-7 : tie.Need-tap-four-requires-7
+tap-four-requires-7 c κs = ((omega arith, omega arith), c .before .before .before .before .before .before .pre)
+
+tap-four-requires-8 : tie.Need-tap-four-requires-8
+tap-four-requires-8 c κs = ((omega arith, omega arith), c .before .before .before .before .before .before .before .pre)
+
+tap-four-requires-9 : tie.Need-tap-four-requires-9
+tap-four-requires-9 c κs = ((omega arith, omega arith), c .before .before .before .before .before .before .before .before .pre)
+
+tap-four-requires-10 : tie.Need-tap-four-requires-10
+tap-four-requires-10 c κs = ((omega arith, omega arith), c .before .before .before .before .before .before .before .before .before .pre)
+
+tap-four-requires-11 : tie.Need-tap-four-requires-11
+tap-four-requires-11 c κs = ((omega arith, omega arith), c .before .before .before .before .before .before .before .before .before .before .pre)
+
+tap-four-requires-12 : tie.Need-tap-four-requires-12
+tap-four-requires-12 c κs = ((omega arith, omega arith), c .before .before .before .before .before .before .before .before .before .before .before .pre)
+
+returns : tie.Need-returns
+unfolding phasesBy back ofBits
+returns c =
+    let s = c .before .before .before .before .before .before .before .before .before .before .before .before in
+    let a = s .args in
+    let e = c .tap-four12 .ensures ∙ ap (tapFour (a .taps .now) 44 (a .line .now) 12 (a .a) (a .b) (a .c) (a .d)) (c .before .tap-four11 .ensures ∙ ap (tapFour (a .taps .now) 40 (a .line .now) 13 (a .a) (a .b) (a .c) (a .d)) (c .before .before .tap-four10 .ensures ∙ ap (tapFour (a .taps .now) 36 (a .line .now) 14 (a .a) (a .b) (a .c) (a .d)) (c .before .before .before .tap-four9 .ensures ∙ ap (tapFour (a .taps .now) 32 (a .line .now) 15 (a .a) (a .b) (a .c) (a .d)) (c .before .before .before .before .tap-four8 .ensures ∙ ap (tapFour (a .taps .now) 28 (a .line .now) 16 (a .a) (a .b) (a .c) (a .d)) (c .before .before .before .before .before .tap-four7 .ensures ∙ ap (tapFour (a .taps .now) 24 (a .line .now) 17 (a .a) (a .b) (a .c) (a .d)) (c .before .before .before .before .before .before .tap-four6 .ensures ∙ ap (tapFour (a .taps .now) 20 (a .line .now) 18 (a .a) (a .b) (a .c) (a .d)) (c .before .before .before .before .before .before .before .tap-four5 .ensures ∙ ap (tapFour (a .taps .now) 16 (a .line .now) 19 (a .a) (a .b) (a .c) (a .d)) (c .before .before .before .before .before .before .before .before .tap-four4 .ensures ∙ ap (tapFour (a .taps .now) 12 (a .line .now) 20 (a .a) (a .b) (a .c) (a .d)) (c .before .before .before .before .before .before .before .before .before .tap-four3 .ensures ∙ ap (tapFour (a .taps .now) 8 (a .line .now) 21 (a .a) (a .b) (a .c) (a .d)) (c .before .before .before .before .before .before .before .before .before .before .tap-four2 .ensures ∙ ap (tapFour (a .taps .now) 4 (a .line .now) 22 (a .a) (a .b) (a .c) (a .d)) (c .before .before .before .before .before .before .before .before .before .before .before .tap-four .ensures))))))))))) in
+    (ap (λ (r : Fours). four (r .a)) e, (ap (λ (r : Fours). four (r .b)) e, (ap (λ (r : Fours). four (r .c)) e, (ap (λ (r : Fours). four (r .d)) e))))
+
+pub each-four-spec : {M : Type 1} → statement M
+each-four-spec = tie.close (tie.spec tap-four-requires tap-four-requires-2 tap-four-requires-3 tap-four-requires-4 tap-four-requires-5 tap-four-requires-6 tap-four-requires-7 tap-four-requires-8 tap-four-requires-9 tap-four-requires-10 tap-four-requires-11 tap-four-requires-12 returns)

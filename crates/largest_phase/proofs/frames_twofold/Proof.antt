@@ -1,0 +1,90 @@
+-- `largest_phase::frames_twofold` meets its contract: a turn does one frame of each run. Assumes nothing.
+use borrow.Author.Needs.{needs}
+use mathlib.Core.Path.{refl, ap, _∙_}
+use Prim.Native.Nat.{_+_, _-_, _≤_}
+use native.Mathlib.Omega.{arith}
+use Rattle.interp.specs.Interp.{twofold}
+use Rattle.interp.specs.Phase.{phasesBy}
+use Rattle.largest_phase.specs.Largest.{loudest}
+use Rattle.largest_phase.proofs.Quarters.{Halves, halves-start, halves-turn, halves-end}
+use Rattle.largest_phase.proofs.frames_twofold.Statement.{statement}
+use Rattle.largest_phase.proofs.frames_twofold.Tie as tie
+
+abbrev Inv-loop : tie.InvT-loop
+Inv-loop taps line run peak loud₀ at₀ loud at = (at ≤ run) × Halves (phasesBy taps twofold) line peak run loud at
+
+abbrev μ-loop : tie.MeasureT-loop
+μ-loop taps line run peak loud₀ at₀ loud at = run - at
+
+loop-holds : tie.Need-loop-holds Inv-loop μ-loop
+loop-holds c = (search needs, halves-start (phasesBy (c .args .taps .now) twofold) (c .args .line .now) (c .args .peak) (c .args .run) (c .args .loud .now) (c .pre .1))
+
+add-second : tie.Need-add-second Inv-loop μ-loop
+add-second c = search needs
+
+each-two-requires : tie.Need-each-two-requires Inv-loop μ-loop
+each-two-requires c κs = search needs
+
+loudest-two-requires : tie.Need-loudest-two-requires Inv-loop μ-loop
+loudest-two-requires c κs = search needs
+
+mul-loud : tie.Need-mul-loud Inv-loop μ-loop
+mul-loud c = search needs
+
+element-write-loud : tie.Need-element-write-loud Inv-loop μ-loop
+element-write-loud c = search needs
+
+loudest-two-requires-2 : tie.Need-loudest-two-requires-2 Inv-loop μ-loop
+loudest-two-requires-2 c κs = search needs
+
+mul-loud-2 : tie.Need-mul-loud-2 Inv-loop μ-loop
+mul-loud-2 c = search needs
+
+element-write-loud-2 : tie.Need-element-write-loud-2 Inv-loop μ-loop
+element-write-loud-2 c = search needs
+
+add-at : tie.Need-add-at Inv-loop μ-loop
+add-at c = search needs
+
+loop-less : tie.Need-loop-less Inv-loop μ-loop
+loop-less c = search needs
+
+loop-again : tie.Need-loop-again Inv-loop μ-loop
+loop-again c =
+    let l = c .before .before .before .before .before .before .loop in
+    let a = c .before .before .before .before .before .before .before .args in
+    let s = c .before .before .before .before .before .before .before in
+    let t = c .before .before .before .before .before .loop-test .taken in
+    let e = c .before .before .before .before .each-two in (
+      omega (arith, t),
+      halves-turn (phasesBy (a .taps .now) twofold) (a .line .now) (a .peak) (a .run) (l .loud) (l .at) (l .at + a .run) (c .before .before .loudest-two .result) (c .loudest-two2 .result) t (s .pre .0) refl
+          (c .before .before .loudest-two .ensures ∙ ap (loudest (a .peak)) (e .ensures .0))
+          (c .loudest-two2 .ensures ∙ ap (loudest (a .peak)) (e .ensures .1))
+          (l .inv .1),
+    )
+
+returns : tie.Need-returns Inv-loop μ-loop
+returns c =
+    let l = c .before .loop in
+    let a = c .before .before .args in
+    halves-end (phasesBy (a .taps .now) twofold) (a .line .now) (a .peak) (a .run) (l .loud) (l .at) (c .loop-test .left) (l .inv .1)
+
+pub frames-twofold-spec : {M : Type 1} → statement M
+frames-twofold-spec =
+    tie.close
+    (tie.spec
+    Inv-loop
+    μ-loop
+    loop-holds
+    add-second
+    each-two-requires
+    loudest-two-requires
+    mul-loud
+    element-write-loud
+    loudest-two-requires-2
+    mul-loud-2
+    element-write-loud-2
+    add-at
+    loop-less
+    loop-again
+    returns)

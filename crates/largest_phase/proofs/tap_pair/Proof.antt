@@ -1,0 +1,84 @@
+-- `largest_phase::tap_pair` meets its contract: the two frames take the same taps, each its own samples. Assumes nothing.
+use borrow.Author.Needs.{needs}
+use mathlib.Core.Path.{ap, _∙_}
+use Prim.Native.Nat.{_+_}
+use lib.ListN.{getD}
+use lib.Ieee.{nan}
+use Rattle.largest_phase.specs.Taps.{onPair}
+use Rattle.largest_phase.proofs.tap_pair.Statement.{statement}
+use Rattle.largest_phase.proofs.tap_pair.Tie as tie
+
+four-at-requires : tie.Need-four-at-requires
+four-at-requires c κs = search needs
+
+add-on-pair : tie.Need-add-on-pair
+add-on-pair c = search needs
+
+mul-on-pair : tie.Need-mul-on-pair
+mul-on-pair c = search needs
+
+element-copy-out-on-pair : tie.Need-element-copy-out-on-pair
+element-copy-out-on-pair c = search needs
+
+add-on-pair-2 : tie.Need-add-on-pair-2
+add-on-pair-2 c = search needs
+
+mul-on-pair-2 : tie.Need-mul-on-pair-2
+mul-on-pair-2 c = search needs
+
+element-copy-out-on-pair-2 : tie.Need-element-copy-out-on-pair-2
+element-copy-out-on-pair-2 c = search needs
+
+on-pair-requires : tie.Need-on-pair-requires
+on-pair-requires c κs = search needs
+
+add-on-pair-3 : tie.Need-add-on-pair-3
+add-on-pair-3 c = search needs
+
+mul-on-pair-3 : tie.Need-mul-on-pair-3
+mul-on-pair-3 c = search needs
+
+element-copy-out-on-pair-3 : tie.Need-element-copy-out-on-pair-3
+element-copy-out-on-pair-3 c = search needs
+
+add-on-pair-4 : tie.Need-add-on-pair-4
+add-on-pair-4 c = search needs
+
+mul-on-pair-4 : tie.Need-mul-on-pair-4
+mul-on-pair-4 c = search needs
+
+element-copy-out-on-pair-4 : tie.Need-element-copy-out-on-pair-4
+element-copy-out-on-pair-4 c = search needs
+
+on-pair-requires-2 : tie.Need-on-pair-requires-2
+on-pair-requires-2 c κs = search needs
+
+returns : tie.Need-returns
+returns c =
+    let a = c .before .before .before .before .before .before .before .args in
+    let t = c .before .before .before .before .before .before .four-at .ensures in
+    λ i. record {
+      a = (c .before .before .before .on-pair .ensures ∙ ap (onPair (a .e .a) (getD (a .line .now) (a .a + a .newer) nan) (getD (a .line .now) (a .a + a .older) nan)) t) i;
+      b = (c .on-pair2 .ensures ∙ ap (onPair (a .e .b) (getD (a .line .now) (a .b + a .newer) nan) (getD (a .line .now) (a .b + a .older) nan)) t) i;
+    }
+
+pub tap-pair-spec : {M : Type 1} → statement M
+tap-pair-spec =
+    tie.close
+    (tie.spec
+    four-at-requires
+    add-on-pair
+    mul-on-pair
+    element-copy-out-on-pair
+    add-on-pair-2
+    mul-on-pair-2
+    element-copy-out-on-pair-2
+    on-pair-requires
+    add-on-pair-3
+    mul-on-pair-3
+    element-copy-out-on-pair-3
+    add-on-pair-4
+    mul-on-pair-4
+    element-copy-out-on-pair-4
+    on-pair-requires-2
+    returns)

@@ -1,0 +1,3 @@
+pub mod Largest
+pub mod Line
+pub mod Taps

@@ -1,0 +1,357 @@
+// The largest absolute phase over the frames of a line: what the true peak is made of.
+ghost use mathlib.Core.Path.{_≡_};
+ghost use Prim.Native.Nat.{ℕ, _+_, _*_, _<_, _≤_, min};
+ghost use lib.ListN.{length, getD};
+ghost use lib.Ieee.{nan};
+ghost use Rattle.interp.specs.Interp.{fourfold, twofold};
+ghost use Rattle.interp.specs.Phase.{four, two, phasesBy};
+ghost use Rattle.largest_phase.specs.Largest.{magnitude, louder, loudest};
+ghost use Rattle.largest_phase.specs.Line.{block, back, scanned, loudestOf, Louds};
+ghost use Rattle.largest_phase.specs.Taps.{onFour, fourAt, tapFour, onPair, tapPair};
+use interp::Four;
+use interp::Interp;
+use interp::Two;
+
+// How many frames of a channel are taken at a time, and where its quarters begin: four frames side by side fill a vector each.
+pub const BLOCK: usize = 128;
+
+const QUARTER: usize = 32;
+
+const HALF: usize = 64;
+
+const THREE_QUARTERS: usize = 96;
+
+// A channel's history and a block of its samples, oldest first.
+pub const LINE: usize = 151;
+
+// The absolute value: the pattern without the sign's bit. A NaN has no pattern of its own.
+fn magnitude(x: f32) -> f32
+    ensures { λ r. ⌜ r ≡ magnitude x ⌝ }
+{
+    if x != x {
+        return x;
+    }
+    f32::from_bits(f32::to_bits(x) % 0x8000_0000)
+}
+
+// A value replaces the peak only if it is greater.
+fn louder(peak: f32, v: f32) -> f32
+    ensures { λ r. ⌜ r ≡ louder peak v ⌝ }
+{
+    if peak < v { v } else { peak }
+}
+
+fn loudest_four(peak: f32, p: Four) -> f32
+    ensures { λ r. ⌜ r ≡ loudest peak (four p) ⌝ }
+{
+    let a = louder(peak, magnitude(p.p0));
+    let b = louder(a, magnitude(p.p1));
+    let c = louder(b, magnitude(p.p2));
+    louder(c, magnitude(p.p3))
+}
+
+fn loudest_two(peak: f32, p: Two) -> f32
+    ensures { λ r. ⌜ r ≡ loudest peak (two p) ⌝ }
+{
+    let a = louder(peak, magnitude(p.p0));
+    louder(a, magnitude(p.p1))
+}
+
+// A frame's four sums carried on by a sample: product and sum are rounded each by itself.
+fn on_four(s: Four, x: f32, c: Four) -> Four
+    ensures { λ r. ⌜ r ≡ onFour s x c ⌝ }
+{
+    Four {
+        p0: s.p0 + x * c.p0,
+        p1: s.p1 + x * c.p1,
+        p2: s.p2 + x * c.p2,
+        p3: s.p3 + x * c.p3,
+    }
+}
+
+// Four taps of a table.
+fn four_at(taps: &[f32; Interp::COEFFICIENTS], j: usize) -> Four
+    requires { ⌜ j + 3 < 48 ⌝ }
+    ensures { λ r. ⌜ r ≡ fourAt (now (taps .entry)) j ⌝ }
+{
+    Four {
+        p0: taps[j],
+        p1: taps[j + 1],
+        p2: taps[j + 2],
+        p3: taps[j + 3],
+    }
+}
+
+// The sums of four frames.
+struct Fours {
+    a: Four,
+    b: Four,
+    c: Four,
+    d: Four,
+}
+
+// The sums of four frames, each carried on by its own sample, and by the same taps: none waits for another.
+fn tap_four(
+    taps: &[f32; Interp::COEFFICIENTS],
+    j: usize,
+    line: &[f32; LINE],
+    place: usize,
+    a: usize,
+    b: usize,
+    c: usize,
+    d: usize,
+    e: Fours,
+) -> Fours
+    requires { ⌜ (j + 3 < 48) × (place < 24) ⌝ }
+    requires { ⌜ (a < block) × ((b < block) × ((c < block) × (d < block))) ⌝ }
+    ensures { λ r. ⌜ r ≡ tapFour (now (taps .entry)) j (now (line .entry)) place a b c d e ⌝ }
+{
+    let t = four_at(taps, j);
+    Fours {
+        a: on_four(e.a, line[a + place], t),
+        b: on_four(e.b, line[b + place], t),
+        c: on_four(e.c, line[c + place], t),
+        d: on_four(e.d, line[d + place], t),
+    }
+}
+
+// The phases of four frames by factor 4, tap by tap.
+fn each_four(
+    taps: &[f32; Interp::COEFFICIENTS],
+    line: &[f32; LINE],
+    a: usize,
+    b: usize,
+    c: usize,
+    d: usize,
+) -> Fours
+    requires { ⌜ (a < block) × ((b < block) × ((c < block) × (d < block))) ⌝ }
+    ensures { λ r. ⌜ four (r .a) ≡ phasesBy (now (taps .entry)) fourfold (back (now (line .entry)) a 24) ⌝ }
+    ensures { λ r. ⌜ four (r .b) ≡ phasesBy (now (taps .entry)) fourfold (back (now (line .entry)) b 24) ⌝ }
+    ensures { λ r. ⌜ four (r .c) ≡ phasesBy (now (taps .entry)) fourfold (back (now (line .entry)) c 24) ⌝ }
+    ensures { λ r. ⌜ four (r .d) ≡ phasesBy (now (taps .entry)) fourfold (back (now (line .entry)) d 24) ⌝ }
+{
+    let z = Four {
+        p0: 0.0,
+        p1: 0.0,
+        p2: 0.0,
+        p3: 0.0,
+    };
+    let none = Fours {
+        a: z,
+        b: z,
+        c: z,
+        d: z,
+    };
+    let e0 = tap_four(taps, 0, line, 23, a, b, c, d, none);
+    let e1 = tap_four(taps, 4, line, 22, a, b, c, d, e0);
+    let e2 = tap_four(taps, 8, line, 21, a, b, c, d, e1);
+    let e3 = tap_four(taps, 12, line, 20, a, b, c, d, e2);
+    let e4 = tap_four(taps, 16, line, 19, a, b, c, d, e3);
+    let e5 = tap_four(taps, 20, line, 18, a, b, c, d, e4);
+    let e6 = tap_four(taps, 24, line, 17, a, b, c, d, e5);
+    let e7 = tap_four(taps, 28, line, 16, a, b, c, d, e6);
+    let e8 = tap_four(taps, 32, line, 15, a, b, c, d, e7);
+    let e9 = tap_four(taps, 36, line, 14, a, b, c, d, e8);
+    let e10 = tap_four(taps, 40, line, 13, a, b, c, d, e9);
+    tap_four(taps, 44, line, 12, a, b, c, d, e10)
+}
+
+// Every frame of a line raises the peak by itself, by factor 4: a frame of each of four runs at a time.
+fn frames_fourfold(
+    taps: &[f32; Interp::COEFFICIENTS],
+    line: &[f32; LINE],
+    run: usize,
+    peak: f32,
+    loud: &mut [f32; BLOCK],
+)
+    requires { ⌜ run * 4 ≤ block ⌝ }
+    requires { ⌜ length (now loud) ≡ block ⌝ }
+    ensures { λ _. ⌜ Louds (phasesBy (now (taps .entry)) fourfold) (now (line .entry)) peak (run * 4) (now (loud .exit)) ⌝ }
+{
+    let mut at = 0;
+    while at < run {
+        let second = at + run;
+        let third = second + run;
+        let fourth = third + run;
+        let e = each_four(taps, line, at, second, third, fourth);
+        let a = e.a;
+        loud[at] = loudest_four(peak, a);
+        let b = e.b;
+        loud[second] = loudest_four(peak, b);
+        let c = e.c;
+        loud[third] = loudest_four(peak, c);
+        let d = e.d;
+        loud[fourth] = loudest_four(peak, d);
+        at += 1;
+    }
+}
+
+// A frame's two sums carried on by two samples.
+fn on_pair(s: Two, x: f32, y: f32, c: Four) -> Two
+    ensures { λ r. ⌜ r ≡ onPair s x y c ⌝ }
+{
+    Two {
+        p0: s.p0 + x * c.p0 + y * c.p2,
+        p1: s.p1 + x * c.p1 + y * c.p3,
+    }
+}
+
+// The sums of two frames.
+struct Twos {
+    a: Two,
+    b: Two,
+}
+
+// The sums of two frames, each carried on by two samples of its own, and by the same taps.
+fn tap_pair(
+    taps: &[f32; Interp::COEFFICIENTS],
+    j: usize,
+    line: &[f32; LINE],
+    newer: usize,
+    older: usize,
+    a: usize,
+    b: usize,
+    e: Twos,
+) -> Twos
+    requires { ⌜ (j + 3 < 48) × ((newer < 24) × (older < 24)) ⌝ }
+    requires { ⌜ (a < block) × (b < block) ⌝ }
+    ensures { λ r. ⌜ r ≡ tapPair (now (taps .entry)) j (now (line .entry)) newer older a b e ⌝ }
+{
+    let t = four_at(taps, j);
+    Twos {
+        a: on_pair(e.a, line[a + newer], line[a + older], t),
+        b: on_pair(e.b, line[b + newer], line[b + older], t),
+    }
+}
+
+// The phases of two frames by factor 2, two taps at a time.
+fn each_two(taps: &[f32; Interp::COEFFICIENTS], line: &[f32; LINE], a: usize, b: usize) -> Twos
+    requires { ⌜ (a < block) × (b < block) ⌝ }
+    ensures { λ r. ⌜ two (r .a) ≡ phasesBy (now (taps .entry)) twofold (back (now (line .entry)) a 24) ⌝ }
+    ensures { λ r. ⌜ two (r .b) ≡ phasesBy (now (taps .entry)) twofold (back (now (line .entry)) b 24) ⌝ }
+{
+    let z = Two { p0: 0.0, p1: 0.0 };
+    let none = Twos { a: z, b: z };
+    let e0 = tap_pair(taps, 0, line, 23, 22, a, b, none);
+    let e1 = tap_pair(taps, 4, line, 21, 20, a, b, e0);
+    let e2 = tap_pair(taps, 8, line, 19, 18, a, b, e1);
+    let e3 = tap_pair(taps, 12, line, 17, 16, a, b, e2);
+    let e4 = tap_pair(taps, 16, line, 15, 14, a, b, e3);
+    let e5 = tap_pair(taps, 20, line, 13, 12, a, b, e4);
+    let e6 = tap_pair(taps, 24, line, 11, 10, a, b, e5);
+    let e7 = tap_pair(taps, 28, line, 9, 8, a, b, e6);
+    let e8 = tap_pair(taps, 32, line, 7, 6, a, b, e7);
+    let e9 = tap_pair(taps, 36, line, 5, 4, a, b, e8);
+    let e10 = tap_pair(taps, 40, line, 3, 2, a, b, e9);
+    tap_pair(taps, 44, line, 1, 0, a, b, e10)
+}
+
+// Every frame of a line raises the peak by itself, by factor 2: a frame of each of two runs at a time.
+fn frames_twofold(
+    taps: &[f32; Interp::COEFFICIENTS],
+    line: &[f32; LINE],
+    run: usize,
+    peak: f32,
+    loud: &mut [f32; BLOCK],
+)
+    requires { ⌜ run * 2 ≤ block ⌝ }
+    requires { ⌜ length (now loud) ≡ block ⌝ }
+    ensures { λ _. ⌜ Louds (phasesBy (now (taps .entry)) twofold) (now (line .entry)) peak (run * 2) (now (loud .exit)) ⌝ }
+{
+    let mut at = 0;
+    while at < run {
+        let second = at + run;
+        let e = each_two(taps, line, at, second);
+        let a = e.a;
+        loud[at] = loudest_two(peak, a);
+        let b = e.b;
+        loud[second] = loudest_two(peak, b);
+        at += 1;
+    }
+}
+
+// The places from n on hold no frame's value but the peak.
+fn rest(loud: &mut [f32; BLOCK], n: usize, peak: f32)
+    requires { ⌜ length (now loud) ≡ block ⌝ }
+    ensures { λ _. ⌜ ((j : ℕ) → j < n → getD (now (loud .exit)) j nan ≡ getD (now (loud .entry)) j nan) ⌝ }
+    ensures { λ _. ⌜ ((j : ℕ) → n ≤ j → j < block → getD (now (loud .exit)) j nan ≡ peak) ⌝ }
+{
+    let mut k = n;
+    while k < BLOCK {
+        loud[k] = peak;
+        k += 1;
+    }
+}
+
+// The largest of a block's values and the peak, the quarters side by side.
+fn loudest_of(loud: &[f32; BLOCK], peak: f32) -> f32
+    ensures { λ r. ⌜ r ≡ loudestOf (now (loud .entry)) 0 block peak ⌝ }
+{
+    let mut a = peak;
+    let mut b = peak;
+    let mut c = peak;
+    let mut d = peak;
+    let mut k = 0;
+    while k < QUARTER {
+        a = louder(a, loud[k]);
+        b = louder(b, loud[QUARTER + k]);
+        c = louder(c, loud[HALF + k]);
+        d = louder(d, loud[THREE_QUARTERS + k]);
+        k += 1;
+    }
+    louder(louder(louder(a, b), c), d)
+}
+
+// The frames of each of four runs that hold n: whole fours of them, so that they fill vectors.
+fn quarter(n: usize) -> usize
+    ensures { λ r. ⌜ r * 4 ≤ block ⌝ }
+    ensures { λ r. ⌜ ((j : ℕ) → j < n → j < block → j < r * 4) ⌝ }
+{
+    if BLOCK <= n {
+        return QUARTER;
+    }
+    (n + 15) / 16 * 4
+}
+
+// The same of two runs.
+fn half(n: usize) -> usize
+    ensures { λ r. ⌜ r * 2 ≤ block ⌝ }
+    ensures { λ r. ⌜ ((j : ℕ) → j < n → j < block → j < r * 2) ⌝ }
+{
+    if BLOCK <= n {
+        return HALF;
+    }
+    (n + 7) / 8 * 4
+}
+
+// The peak after n frames of a line, the first window beginning at its first place, by a table of taps of factor 4.
+pub fn scan_fourfold(
+    taps: &[f32; Interp::COEFFICIENTS],
+    line: &[f32; LINE],
+    n: usize,
+    peak: f32,
+) -> f32
+    ensures { λ r. ⌜ r ≡ scanned (phasesBy (now (taps .entry)) fourfold) (now (line .entry)) 0 (min n block) peak ⌝ }
+{
+    let run = quarter(n);
+    let mut loud = [peak; BLOCK];
+    frames_fourfold(taps, line, run, peak, &mut loud);
+    rest(&mut loud, n, peak);
+    loudest_of(&loud, peak)
+}
+
+// The same, of factor 2.
+pub fn scan_twofold(
+    taps: &[f32; Interp::COEFFICIENTS],
+    line: &[f32; LINE],
+    n: usize,
+    peak: f32,
+) -> f32
+    ensures { λ r. ⌜ r ≡ scanned (phasesBy (now (taps .entry)) twofold) (now (line .entry)) 0 (min n block) peak ⌝ }
+{
+    let run = half(n);
+    let mut loud = [peak; BLOCK];
+    frames_twofold(taps, line, run, peak, &mut loud);
+    rest(&mut loud, n, peak);
+    loudest_of(&loud, peak)
+}
