@@ -11,7 +11,7 @@ use Rattle.refusals.specs.Outcome.{went}
 use Rattle.histogram.specs.Histogram.{empty}
 use Rattle.history.specs.Set.{Histories, historiesOf, refusalOf, sound}
 use Rattle.blocks.specs.Totals.{none, binsFrom}
-use Rattle.ordering.specs.Order.{inOrder}
+use Rattle.rising_order.specs.Order.{inOrder}
 use Rattle.spans.specs.Span.{gateEnergy}
 use Rattle.histogram_range.specs.Counted.{addedTo}
 use Rattle.queue_range.specs.Listed.{allHeld, anyNan}

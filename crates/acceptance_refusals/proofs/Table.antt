@@ -21,7 +21,7 @@ use Rattle.gate.specs.Gate.{thresholdOf, allGated, gateOver, gateOf}
 use Rattle.gate.specs.GatedEnergy.{meanAnswer, gatedEnergyOf}
 use Rattle.gate.specs.Relative.{Level, loudness, energy as energy-of, lowest, levelOf, relativeOf}
 use Rattle.sums.specs.Sums.{alone}
-use Rattle.ordering.specs.Order.{inOrder}
+use Rattle.rising_order.specs.Order.{inOrder}
 use Rattle.spans.specs.Span.{Span, notANumber}
 use Rattle.histogram_range.specs.Counted.{addedTo, countedSpan}
 use Rattle.queue_range.specs.Listed.{allHeld, anyNan, listedRange}

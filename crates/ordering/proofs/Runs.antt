@@ -1,24 +1,23 @@
 -- Energies that stand in order already, rising or falling: each neighbour in order makes every pair in order, and the first or the last above zero makes all so.
 -- What falls rises when it is turned round. Assumes nothing.
 use mathlib.Core.Path.{_≡_, refl, sym, ap, _∙_, subst}
-use mathlib.Core.Bool.{Bool, true, false, _&&_, cond}
+use mathlib.Core.Bool.{Bool, true, false, _&&_, true≢false}
 use mathlib.Core.Logic.{_⊎_, inl, inr}
-use mathlib.Core.List.{List, [], _∷_}
+use mathlib.Core.List.{List}
 use Prim.Native.Nat.{ℕ, zero, suc, _+_, _-_, _/_, _≤_, _<_}
 use native.Mathlib.Nat.{eq-or-lt-of-le, le-of-suc-le-suc, not-suc-le-zero}
 use native.Mathlib.Decide.{decLt}
 use native.Mathlib.Omega.{arith}
 use lib.Dec.{T}
-use lib.ListN.{length, drop, drop-of-length-le}
-use lib.Seq.{drop-cons}
-use lib.Ieee.{Float, nan, binary64, ofBits, le, lt}
-use lib.Ieee.Positive.{positive, above, above-of-le}
-use Rattle.floats.proofs.Order.{is-true, float-le-trans}
-use Rattle.ordering.specs.Order.{allAbove}
-use Rattle.ordering.specs.Inner.{Perm, both, All, Above, Rising, Falling, Ordered, Turned, at, exchanged}
-use Rattle.ordering.proofs.Perms.{perm-refl, perm-length, exchange-perm, all-of, all-map}
-use Rattle.ordering.proofs.Energies.{above-up, zero-below}
-use Rattle.ordering.proofs.Places.{le-by, same-or-other, rising-of, exchanged-length, exchanged-first, exchanged-second, exchanged-other}
+use lib.ListN.{length}
+use lib.Ieee.{Float, binary64, ofBits, le, lt}
+use lib.Ieee.Positive.{above}
+use Rattle.floats.proofs.Order.{float-le-trans}
+use Rattle.rising_order.specs.Arrangement.{Perm, both, All, Above, Rising, Ordered, at, exchanged}
+use Rattle.ordering.specs.Inner.{Climbs, Sinks, Falling, Turned}
+use Rattle.rising_order.proofs.Perms.{perm-refl, perm-length, exchange-perm, all-of}
+use Rattle.rising_order.proofs.Energies.{above-up, zero-below}
+use Rattle.rising_order.proofs.Places.{le-by, same-or-other, rising-of, exchanged-length, exchanged-first, exchanged-second, exchanged-other}
 
 -- ---- in a relation that passes on, neighbours give every pair
 module _ (R : Float → Float → Type 0) (trans : (x y z : Float) → R x y → R y z → R x z) (l : List Float) where
@@ -43,58 +42,69 @@ Down x y = T (le y x)
 down-trans : (x y z : Float) → Down x y → Down y z → Down x z
 down-trans x y z h g = float-le-trans z y x g h
 
--- the first i energies rise, or fall, step by step
-abbrev pub Climbs : List Float → ℕ → Type 0
-Climbs l i = (k : ℕ) → suc k < i → T (le (at l k) (at l (suc k)))
+-- one step more, and one stretch after another
+module _ (P : ℕ → Type 0) where
+  pub stepped : (from i : ℕ) → ((k : ℕ) → from ≤ k → k < i → P k) → P i → (k : ℕ) → from ≤ k → k < i + 1 → P k
+  stepped from i s h k a b = go (same-or-other k i)
+    where
+      go : (k ≡ i) ⊎ (k ≡ i → ⊥) → P k
+      go (inl e) = subst P (sym e) h
+      go (inr n) = s k a (omega arith)
 
-abbrev pub Sinks : List Float → ℕ → Type 0
-Sinks l i = (k : ℕ) → suc k < i → T (le (at l (suc k)) (at l k))
+  pub stretched : (i j : ℕ) → ((k : ℕ) → 0 ≤ k → k < i → P k) → ((k : ℕ) → i ≤ k → k < j → P k) → (k : ℕ) → 0 ≤ k → k < j → P k
+  stretched i j s t k a b = go (decLt k i)
+    where
+      go : Dec (k < i) → P k
+      go (yes h) = s k a h
+      go (no h) = t k (omega arith) b
 
-step : (P : ℕ → Type 0) (i : ℕ) → 0 < i → ((k : ℕ) → suc k < i → P k) → P (i - 1) → (k : ℕ) → suc k < i + 1 → P k
-step P i z s h k g = go (same-or-other k (i - 1))
-  where
-    go : (k ≡ i - 1) ⊎ (k ≡ i - 1 → ⊥) → P k
-    go (inl e) = subst P (sym e) h
-    go (inr n) = s k (omega arith)
+both-true : (a b : Bool) → a && b ≡ true → (a ≡ true) × T b
+both-true true true e = (refl, tt)
+both-true true false e = absurd (true≢false (sym e))
+both-true false b e = absurd (true≢false (sym e))
 
-module _ (l : List Float) (i : ℕ) (last : Float) (z : 0 < i) (is : last ≡ at l (i - 1)) where
-  next : i ≡ suc (i - 1)
+module _ (l : List Float) (from i : ℕ) (fine : Bool) where
+  next : i + 1 ≡ suc i
   next = omega arith
 
-  pub here : at l i ≡ at l (i + 1 - 1)
-  here = let same : i ≡ i + 1 - 1 = omega arith in ap (at l) same
+  pub climb-on : (fine ≡ true → Climbs from i l) → fine && le (at l i) (at l (i + 1)) ≡ true → Climbs from (i + 1) l
+  climb-on s e =
+      let h = both-true fine (le (at l i) (at l (i + 1))) e in
+      stepped (λ k. T (le (at l k) (at l (suc k)))) from i (s (h .0)) (le-by refl (sym (ap (at l) next)) (h .1))
 
-  pub climb-on : Climbs l i → le last (at l i) ≡ true → Climbs l (i + 1)
-  climb-on s e = step (λ k. T (le (at l k) (at l (suc k)))) i z s (le-by (sym is) (sym (ap (at l) next)) (subst T (sym e) tt))
+  pub sink-on : (fine ≡ true → Sinks from i l) → fine && le (at l (i + 1)) (at l i) ≡ true → Sinks from (i + 1) l
+  sink-on s e =
+      let h = both-true fine (le (at l (i + 1)) (at l i)) e in
+      stepped (λ k. T (le (at l (suc k)) (at l k))) from i (s (h .0)) (le-by (sym (ap (at l) next)) refl (h .1))
 
-  pub sink-on : Sinks l i → le (at l i) last ≡ true → Sinks l (i + 1)
-  sink-on s e = step (λ k. T (le (at l (suc k)) (at l k))) i z s (le-by (sym (ap (at l) next)) (sym is) (subst T (sym e) tt))
-
-module _ (l : List Float) (i : ℕ) (last : Float) (whole : length l ≤ i) (end : i ≤ length l) (is : last ≡ at l (i - 1)) where
-  pub climbed : Climbs l i → lt (ofBits binary64 0) (at l 0) ≡ true → Above l × Rising l
+module _ (l : List Float) where
+  pub climbed : Climbs 0 (length l - 1) l → lt (ofBits binary64 0) (at l 0) ≡ true → Above l × Rising l
   unfolding Steps
-  climbed s e = (all-of (λ x. T (above x)) l go, rising-of l (λ a b h g. far Up float-le-trans l i s a b h (omega arith)))
+  climbed s e = (all-of (λ x. T (above x)) l go, rising-of l (far Up float-le-trans l (length l) steps))
     where
+      steps : (k : ℕ) → suc k < length l → T (le (at l k) (at l (suc k)))
+      steps k h = s k (omega arith) (omega arith)
+
       first : T (above (at l 0))
       first = subst T (zero-below (at l 0)) (subst T (sym e) tt)
 
       go : (k : ℕ) → k < length l → T (above (at l k))
       go zero h = first
-      go (suc k) h = above-up (at l 0) (at l (suc k)) first (far Up float-le-trans l i s 0 (suc k) (omega arith) (omega arith))
+      go (suc k) h = above-up (at l 0) (at l (suc k)) first (far Up float-le-trans l (length l) steps 0 (suc k) (omega arith) h)
 
-  pub sunk : Sinks l i → lt (ofBits binary64 0) last ≡ true → Above l × Falling l
+  pub sunk : Sinks 0 (length l - 1) l → lt (ofBits binary64 0) (at l (length l - 1)) ≡ true → Above l × Falling l
   unfolding Steps
-  sunk s e = (all-of (λ x. T (above x)) l (λ k h. go k h (same-or-other k (length l - 1))), λ a b h g. far Down down-trans l i s a b h (omega arith))
+  sunk s e = (all-of (λ x. T (above x)) l (λ k h. go k h (same-or-other k (length l - 1))), far Down down-trans l (length l) steps)
     where
-      end-is : i - 1 ≡ length l - 1
-      end-is = omega arith
+      steps : (k : ℕ) → suc k < length l → T (le (at l (suc k)) (at l k))
+      steps k h = s k (omega arith) (omega arith)
 
       lowest : T (above (at l (length l - 1)))
-      lowest = subst (λ (x : Float). T (above x)) (is ∙ ap (at l) end-is) (subst T (zero-below last) (subst T (sym e) tt))
+      lowest = subst T (zero-below (at l (length l - 1))) (subst T (sym e) tt)
 
       go : (k : ℕ) → k < length l → (k ≡ length l - 1) ⊎ (k ≡ length l - 1 → ⊥) → T (above (at l k))
       go k h (inl q) = subst (λ (j : ℕ). T (above (at l j))) (sym q) lowest
-      go k h (inr n) = above-up (at l (length l - 1)) (at l k) lowest (far Down down-trans l i s k (length l - 1) (omega arith) (omega arith))
+      go k h (inr n) = above-up (at l (length l - 1)) (at l k) lowest (far Down down-trans l (length l) steps k (length l - 1) (omega arith) (omega arith))
 
 pub no-energies : (l : List Float) → length l ≡ 0 → Above l × Rising l × Falling l
 no-energies l z = (
@@ -178,40 +188,3 @@ falling-turned old new f t = record {
   rising = rising-of new (λ i j h g.
       le-by (t .turned i (omega arith)) (t .turned j g) (f (length new - 1 - j) (length new - 1 - i) (omega arith) (omega (arith, perm-length (t .same)))));
 }
-
--- ---- all above zero, as a test and as a fact
-pub all-above : (l : List Float) → Above l → allAbove l ≡ true
-unfolding allAbove
-all-above [] a = refl
-all-above (x ∷ l) a = rw (is-true (above x) (a .0)) (all-above l (a .1))
-
-and-both : (a b : Bool) → a && b ≡ true → T a × (b ≡ true)
-and-both true b e = (tt, e)
-and-both false b e = (absurd (false-true e), absurd (false-true e))
-  where
-    false-true : false ≡ true → ⊥
-    false-true q = subst (λ (c : Bool). cond c ⊥ Unit) q tt
-
-pub above-all : (l : List Float) → allAbove l ≡ true → Above l
-unfolding allAbove
-above-all [] e = tt
-above-all (x ∷ l) e = let h = and-both (above x) (allAbove l) e in (h .0, above-all l (h .1))
-
--- energies that reach a positive one are above zero
-pub all-reach : (low : Float) → T (positive low) → (l : List Float) → All (λ x. T (le low x)) l → allAbove l ≡ true
-all-reach low p l h = all-above l (all-map (λ x g. above-of-le low x p g) l h)
-
-pub none-left : (l : List Float) (i : ℕ) → length l ≤ i → allAbove (drop i l) ≡ true
-unfolding allAbove
-none-left l i h = rw (drop-of-length-le l {i = i} h)
-
--- what is left tells of the whole, and an energy that is above zero can be left out
-pub left-on : (l : List Float) (i : ℕ) → i < length l → lt (ofBits binary64 0) (at l i) ≡ true → allAbove (drop i l) ≡ allAbove (drop (i + 1) l)
-unfolding allAbove
-left-on l i h e =
-    let next : i + 1 ≡ suc i = omega arith in
-    rw (next, drop-cons l i nan h, sym (zero-below (at l i)), e)
-
-pub left-not : (l : List Float) (i : ℕ) → i < length l → lt (ofBits binary64 0) (at l i) ≡ false → allAbove (drop i l) ≡ false
-unfolding allAbove
-left-not l i h e = rw (drop-cons l i nan h, sym (zero-below (at l i)), e)

@@ -6,10 +6,10 @@ use Prim.Native.Nat.{ℕ, _≤_, _<_}
 use borrow.Author.Tests.{lt-ltb, le-ltb}
 use lib.ListN.{length, drop}
 use lib.Ieee.{Float}
-use Rattle.refusals.specs.Refusal.{ROOM}
+use Rattle.refusals.specs.Refusal.{Refusal, number, ROOM}
 use Rattle.refusals.specs.Outcome.{Outcome, went, refused, Said, refusal, saidBy, keptBy}
 use Rattle.history.specs.Set.{Histories, historiesOf, Verdict, sound, refusing, refusalOf, numbered, unlessRefused}
-use Rattle.ordering.specs.Order.{inOrder}
+use Rattle.rising_order.specs.Order.{inOrder}
 use Rattle.spans.specs.Span.{Span, notANumber}
 use Rattle.rising_range.specs.Rising.{listedSpan}
 use Rattle.queue_range.specs.Listed.{allHeld, anyNan, listedRange, queueRange}
@@ -39,9 +39,9 @@ module _ (v : Verdict) (outcome : Outcome (List Float) Span) (work : List Float)
       go (refusing r) e = (ap refusal e, refl)
 
 module _ (h : Histories) (work : List Float) where
-  pub queues-refused : (n : ℕ) → n ≡ numbered (refusalOf h) → (n ≡ 0 → ⊥) → (refusal n ≡ saidBy (queueRange h work)) × (work ≡ keptBy work (queueRange h work))
+  pub queues-refused : (r : Refusal) → refusalOf h ≡ refusing r → (refusal (number r) ≡ saidBy (queueRange h work)) × (work ≡ keptBy work (queueRange h work))
   unfolding queueRange
-  queues-refused n e p = refused-first (refusalOf h) (listedRange (allHeld (historiesOf h)) work) work n e p
+  queues-refused r e = rw e (refl, refl)
 
   pub queues-asked : refusalOf h ≡ sound → queueRange h work ≡ listedRange (allHeld (historiesOf h)) work
   unfolding queueRange

@@ -24,12 +24,13 @@ use Rattle.history.specs.declared.set.Shape.{Shape}
 use Rattle.history.specs.declared.set.Shape.the-variants.{Histogram, Queue as Queue-at}
 use Rattle.queue.specs.Queue.{suits, heldOf}
 use Rattle.history.specs.Set.{queueAt, storeEnd, storesInside, noneBelow, shapeSound, isSound, allSound, shows, shapeShows, allShow}
-use Rattle.history.proofs.Entries.{past-the-last, shows-next, shows-end, none-below-append}
+use Rattle.history.proofs.Entries.{past-the-last, next-entry, all-end, shows-next, shows-end, none-below-append}
 use Rattle.history.proofs.Slices.{slice-length}
-use Rattle.ordering.specs.Order.{allAbove}
+use Rattle.rising_order.specs.Order.{allAbove}
 use Rattle.queue_range.specs.declared.Parts.{Parts}
+use Rattle.queue_range.specs.declared.Seen.{Seen}
 use Rattle.queue_range.specs.Listed.{heldBy, allHeld, anyNan}
-use Rattle.queue_range.specs.Inner.{heldIn, heldAt, suitsAt, part, StandIn}
+use Rattle.queue_range.specs.Inner.{heldIn, heldAt, suitsAt, part, StandIn, Sees}
 use Rattle.queue_range.proofs.Copying.{sets-append}
 
 -- ---- NaN in a part
@@ -50,6 +51,14 @@ part-next l i until d h g =
 pub part-end : (l : List Float) (i until : ℕ) → until ≤ i → part i until l ≡ []
 part-end l i until h = ap (λ (n : ℕ). take n (drop i l)) {x = until - i} {y = 0} (omega arith)
 
+and-assoc : (a b c : Bool) → (a && b) && c ≡ a && (b && c)
+and-assoc true b c = refl
+and-assoc false b c = refl
+
+and-true : (a : Bool) → a && true ≡ a
+and-true true = refl
+and-true false = refl
+
 module _ (l : List Float) (i until : ℕ) where
   pub nan-turn : (found : Bool) (d : Float) → i < until → until ≤ length l
       → (found || ne (getD l i d) (getD l i d)) || anyNan (part (i + 1) until l) ≡ found || anyNan (part i until l)
@@ -59,6 +68,15 @@ module _ (l : List Float) (i until : ℕ) where
   pub nan-end : (found : Bool) → until ≤ i → found || anyNan (part i until l) ≡ found
   unfolding anyNan
   nan-end found h = rw (part-end l i until h) (or-false found)
+
+  pub fine-turn : (fine : Bool) (least d : Float) → least ≡ boundaryAt 0 → i < until → until ≤ length l
+      → (fine && not (lt (getD l i d) least)) && noneBelow (part (i + 1) until l) ≡ fine && noneBelow (part i until l)
+  unfolding noneBelow
+  fine-turn fine least d e h g = rw (e, and-assoc, part-next l i until d h g)
+
+  pub fine-end : (fine : Bool) → until ≤ i → fine && noneBelow (part i until l) ≡ fine
+  unfolding noneBelow
+  fine-end fine h = rw (part-end l i until h) (and-true fine)
 
 -- ---- a part that is copied
 module _ (work l : List Float) (place i until : ℕ) where
@@ -94,6 +112,16 @@ pub suits-sound : (energies : List Float) (s : Shape) → shapeSound energies s 
 suits-sound energies (Histogram start) h = refl
 suits-sound energies (Queue-at start queue) h = both (suits queue (queue .maximum)) (noneBelow (heldOf (queueAt energies start queue))) h .0
 
+-- an entry that suits its store is sound where none of its energies is below boundary 0; else it is not
+pub sound-suits : (energies : List Float) (s : Shape) → suitsAt s ≡ true → noneBelow (heldBy (shapeShows [] energies s)) ≡ shapeSound energies s
+unfolding noneBelow
+sound-suits energies (Histogram start) h = refl
+sound-suits energies (Queue-at start queue) h = rw h
+
+pub unsound : (energies : List Float) (s : Shape) → suitsAt s ≡ false → false ≡ shapeSound energies s
+unsound energies (Histogram start) h = absurd (true≢false h)
+unsound energies (Queue-at start queue) h = rw h
+
 -- ---- entry by entry
 module _ (energies : List Float) (l : List Entry) (count i : ℕ) where
   pub held-end : count ≤ i → heldIn energies (drop i (take count l)) ≡ []
@@ -109,6 +137,14 @@ module _ (energies : List Float) (l : List Entry) (count i : ℕ) where
       → length (heldIn energies (drop i (take count l))) ≡ length (heldAt energies (getD l i past-the-last)) + length (heldIn energies (drop (i + 1) (take count l)))
   held-count h g =
       ap length (held-next h g) ∙ length-append (heldAt energies (getD l i past-the-last)) (heldIn energies (drop (i + 1) (take count l)))
+
+  pub sound-next : i < count → count ≤ length l → (fine here : Bool) → here ≡ isSound energies (getD l i past-the-last)
+      → (fine && here) && allSound energies (drop (i + 1) (take count l)) ≡ fine && allSound energies (drop i (take count l))
+  unfolding allSound
+  sound-next h g fine here e = rw (and-assoc, next-entry l count i past-the-last h g, e)
+
+  pub sound-end : count ≤ i → (fine : Bool) → fine && allSound energies (drop i (take count l)) ≡ fine
+  sound-end h fine = rw (all-end energies l count i h) (and-true fine)
 
   pub held-nan : i < count → count ≤ length l → (found here : Bool) → here ≡ anyNan (heldAt energies (getD l i past-the-last))
       → (found || here) || anyNan (heldIn energies (drop (i + 1) (take count l))) ≡ found || anyNan (heldIn energies (drop i (take count l)))
@@ -143,9 +179,19 @@ module _ (energies : List Float) (entry : Entry) (p : Parts) (s : StandIn (entry
       ∙ length-append older newer
       ∙ omega (arith, slice-length (p .from) (p .until) energies (omega (arith, s .inside)), slice-length (p .start) (p .end) energies (omega (arith, s .within)))
 
-  pub parts-nan : (a b : Bool) → a ≡ anyNan older → b ≡ anyNan newer → a || b ≡ anyNan (heldAt energies entry)
-  parts-nan a b e f =
-      ap (λ (x : Bool). x || b) e ∙ ap (λ (x : Bool). anyNan older || x) f ∙ sym (ap anyNan (s .held energies k) ∙ nan-append older newer)
+  pub parts-see : (a b c : Seen) → Sees older a → Sees newer b → c .blocks ≡ a .blocks + b .blocks → c .fine ≡ a .fine && b .fine → c .nan ≡ a .nan || b .nan
+      → Sees (heldAt energies entry) c
+  parts-see a b c f g p q r =
+      let held = s .held energies k in
+      record {
+        blocks-are = omega (arith, p, f .blocks-are, g .blocks-are, ap length held ∙ length-append older newer);
+        fine-is =
+            q ∙ ap (λ (x : Bool). x && b .fine) (f .fine-is) ∙ ap (λ (x : Bool). noneBelow older && x) (g .fine-is)
+            ∙ sym (ap noneBelow held ∙ none-below-append older newer);
+        nan-is =
+            r ∙ ap (λ (x : Bool). x || b .nan) (f .nan-is) ∙ ap (λ (x : Bool). anyNan older || x) (g .nan-is)
+            ∙ sym (ap anyNan held ∙ nan-append older newer);
+      }
 
   pub parts-set : (work : List Float) (at middle : ℕ) → middle ≡ at + (p .until - p .from) → sets (sets work at older) middle newer ≡ sets work at (heldAt energies entry)
   parts-set work at middle e =

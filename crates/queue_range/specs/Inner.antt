@@ -9,9 +9,10 @@ use Rattle.queue.specs.Queue.{longest, suits}
 use Rattle.history.specs.declared.set.Entry.{Entry}
 use Rattle.history.specs.declared.set.Shape.{Shape}
 use Rattle.history.specs.declared.set.Shape.the-variants.{Histogram, Queue as Queue-at}
-use Rattle.history.specs.Set.{mostHistories, storeEnd, shapeShows, allShow}
+use Rattle.history.specs.Set.{mostHistories, storeEnd, noneBelow, shapeShows, allShow}
 use Rattle.queue_range.specs.declared.Parts.{Parts}
-use Rattle.queue_range.specs.Listed.{heldBy, allHeld}
+use Rattle.queue_range.specs.declared.Seen.{Seen}
+use Rattle.queue_range.specs.Listed.{heldBy, allHeld, anyNan}
 
 -- the most energies that 16 queues hold
 abbrev pub mostHeld : ℕ
@@ -43,3 +44,9 @@ pub record StandIn (shape : Shape) (parts : Parts) : Type 0 where
   pub few : parts .until - parts .from + (parts .end - parts .start) ≤ longest
   pub held : (energies : List Float) → storeEnd shape ≤ length energies
       → heldBy (shapeShows [] energies shape) ≡ part (parts .from) (parts .until) energies ++ part (parts .start) (parts .end) energies
+
+-- what a look at energies sees: how many there are, whether none is below boundary 0, and whether one is NaN
+pub record Sees (energies : List Float) (seen : Seen) : Type 0 where
+  pub blocks-are : seen .blocks ≡ length energies
+  pub fine-is : seen .fine ≡ noneBelow energies
+  pub nan-is : seen .nan ≡ anyNan energies

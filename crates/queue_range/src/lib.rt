@@ -4,17 +4,17 @@ use history::set::MOST;
 use history::set::Shape;
 use spans::Range;
 ghost use mathlib.Core.Path.{_≡_};
-ghost use mathlib.Core.Bool.{true, _||_};
+ghost use mathlib.Core.Bool.{true};
 ghost use mathlib.Core.List.{List};
 ghost use Prim.Native.Nat.{ℕ, _+_, _-_, _^_, _≤_, _<_};
 ghost use lib.Seq.{sets};
 ghost use lib.ListN.{length, take, drop};
 ghost use Rattle.refusals.specs.Outcome.{saidBy, keptBy};
 ghost use Rattle.queue.specs.Queue.{longest};
-ghost use Rattle.history.specs.Set.{mostHistories, histories, storeEnd, storesInside, allSound};
+ghost use Rattle.history.specs.Set.{mostHistories, histories, storeEnd, storesInside, isSound, allSound};
 ghost use Rattle.spans.specs.Span.{said};
-ghost use Rattle.queue_range.specs.Listed.{anyNan, listedRange, queueRange};
-ghost use Rattle.queue_range.specs.Inner.{mostHeld, heldIn, heldAt, suitsAt, part, StandIn};
+ghost use Rattle.queue_range.specs.Listed.{listedRange, queueRange};
+ghost use Rattle.queue_range.specs.Inner.{mostHeld, heldIn, heldAt, suitsAt, part, StandIn, Sees};
 
 // Where the energies of an entry stand in the lent energies: those of a queue between its head and the end of its store, and those from its store's start.
 struct Parts {
@@ -51,56 +51,87 @@ fn parts_of(entry: Entry) -> Parts
     }
 }
 
-// Whether one of the energies from a place up to another is NaN. No turn branches, so that several are looked at in one step.
-fn has_nan(energies: &[f64], from: usize, until: usize) -> bool
-    requires { ⌜ (from ≤ until) × (until ≤ length (now energies)) ⌝ }
-    ensures { λ r. ⌜ r ≡ anyNan (part from until (now (energies .entry))) ⌝ }
+// Whether the entry is a histogram or a queue that suits its store.
+fn suits(entry: Entry) -> bool
+    ensures { λ r. ⌜ r ≡ suitsAt (entry .shape) ⌝ }
 {
-    let mut found = false;
-    let mut i = from;
-    while i < until {
-        let energy = energies[i];
-        found = found | (energy != energy);
-        i += 1;
+    let shape = entry.shape;
+    match shape {
+        Shape::Histogram(_) => true,
+        Shape::Queue(_, queue) => queue.suits(queue.maximum),
     }
-    found
 }
 
-// How many energies are held, and whether one is NaN.
+// How many energies were looked at, whether none is below boundary 0, and whether one is NaN.
 struct Seen {
     blocks: usize,
+    fine: bool,
     nan: bool,
 }
 
-fn look_at(entry: Entry, energies: &[f64]) -> Seen
-    requires { ⌜ (storeEnd (entry .shape) ≤ length (now energies)) × (suitsAt (entry .shape) ≡ true) ⌝ }
-    ensures { λ r. ⌜ (r .blocks ≡ length (heldAt (now (energies .entry)) entry)) × (r .nan ≡ anyNan (heldAt (now (energies .entry)) entry)) × (r .blocks ≤ longest) ⌝ }
+// At the energies from a place up to another. No turn branches, so that several are looked at in one step.
+fn look_at(energies: &[f64], from: usize, until: usize) -> Seen
+    requires { ⌜ (from ≤ until) × (until ≤ length (now energies)) ⌝ }
+    ensures { λ r. ⌜ Sees (part from until (now (energies .entry))) r ⌝ }
 {
-    let parts = parts_of(entry);
-    let older = has_nan(energies, parts.from, parts.until);
-    let newer = has_nan(energies, parts.start, parts.end);
+    let least = histogram_bins::lowest_boundary();
+    let mut fine = true;
+    let mut nan = false;
+    let mut i = from;
+    while i < until {
+        let energy = energies[i];
+        fine = fine & !(energy < least);
+        nan = nan | (energy != energy);
+        i += 1;
+    }
     Seen {
-        blocks: (parts.until - parts.from) + (parts.end - parts.start),
-        nan: older | newer,
+        blocks: until - from,
+        fine,
+        nan,
     }
 }
 
+// At those that an entry holds. One that does not suit its store is not fine.
+fn look_in(entry: Entry, energies: &[f64]) -> Seen
+    requires { ⌜ storeEnd (entry .shape) ≤ length (now energies) ⌝ }
+    ensures { λ r. ⌜ (r .fine ≡ isSound (now (energies .entry)) entry) × (isSound (now (energies .entry)) entry ≡ true → Sees (heldAt (now (energies .entry)) entry) r) × (r .blocks ≤ longest) ⌝ }
+{
+    if suits(entry) {
+        let parts = parts_of(entry);
+        let older = look_at(energies, parts.from, parts.until);
+        let newer = look_at(energies, parts.start, parts.end);
+        return Seen {
+            blocks: older.blocks + newer.blocks,
+            fine: older.fine & newer.fine,
+            nan: older.nan | newer.nan,
+        };
+    }
+    Seen {
+        blocks: 0,
+        fine: false,
+        nan: false,
+    }
+}
+
+// At all that are held.
 fn look(entries: [Entry; MOST], count: usize, energies: &[f64]) -> Seen
-    requires { ⌜ (count ≤ mostHistories) × (storesInside (length (now energies)) (take count entries)) × (allSound (now energies) (take count entries) ≡ true) ⌝ }
-    ensures { λ r. ⌜ (r .blocks ≡ length (heldIn (now (energies .entry)) (take count entries)))
-        × (r .nan ≡ anyNan (heldIn (now (energies .entry)) (take count entries))) × (r .blocks ≤ mostHeld) ⌝ }
+    requires { ⌜ (count ≤ mostHistories) × (storesInside (length (now energies)) (take count entries)) ⌝ }
+    ensures { λ r. ⌜ (r .fine ≡ allSound (now (energies .entry)) (take count entries))
+        × (allSound (now (energies .entry)) (take count entries) ≡ true → Sees (heldIn (now (energies .entry)) (take count entries)) r) × (r .blocks ≤ mostHeld) ⌝ }
 {
     let mut blocks = 0;
+    let mut fine = true;
     let mut nan = false;
     let mut i = 0;
     while i < count {
         let entry = entries[i];
-        let seen = look_at(entry, energies);
+        let seen = look_in(entry, energies);
+        fine = fine & seen.fine;
         nan = nan | seen.nan;
         blocks = blocks + seen.blocks;
         i += 1;
     }
-    Seen { blocks, nan }
+    Seen { blocks, fine, nan }
 }
 
 // The energies from a place up to another, from a place of the work slice on.
@@ -145,13 +176,19 @@ fn copy_all(entries: [Entry; MOST], count: usize, energies: &[f64], work: &mut [
     }
 }
 
-// The range of the queues of a set that nothing refuses.
-fn in_order(entries: [Entry; MOST], count: usize, energies: &[f64], work: &mut [f64]) -> Range
-    requires { ⌜ (count ≤ mostHistories) × (storesInside (length (now energies)) (take count entries)) × (allSound (now energies) (take count entries) ≡ true) ⌝ }
+// The range of the queues of a set that SET and STORE do not refuse, by what was seen of it.
+fn in_order(
+    entries: [Entry; MOST],
+    count: usize,
+    energies: &[f64],
+    work: &mut [f64],
+    seen: Seen,
+) -> Range
+    requires { ⌜ (count ≤ mostHistories) × (storesInside (length (now energies)) (take count entries)) × (allSound (now energies) (take count entries) ≡ true)
+        × Sees (heldIn (now energies) (take count entries)) seen ⌝ }
     ensures { λ r. ⌜ (said r ≡ saidBy (listedRange (heldIn (now (energies .entry)) (take count entries)) (now (work .entry))))
         × (now (work .exit) ≡ keptBy (now (work .entry)) (listedRange (heldIn (now (energies .entry)) (take count entries)) (now (work .entry)))) ⌝ }
 {
-    let seen = look(entries, count, energies);
     let blocks = seen.blocks;
     if work.len() < blocks {
         return Range::Refused(refusals::ROOM);
@@ -175,9 +212,12 @@ pub fn of_queues(
     ensures { λ r. ⌜ (said r ≡ saidBy (queueRange (histories entries count (now (counters .entry)) (now (energies .entry))) (now (work .entry))))
         × (now (work .exit) ≡ keptBy (now (work .entry)) (queueRange (histories entries count (now (counters .entry)) (now (energies .entry))) (now (work .entry)))) ⌝ }
 {
-    let refusal = history::set::checked(entries, count, counters, energies);
-    if refusal != 0 {
-        return Range::Refused(refusal);
+    if history::set::outside_set(entries, count, counters, energies) {
+        return Range::Refused(refusals::SET);
     }
-    in_order(entries, count, energies, work)
+    let seen = look(entries, count, energies);
+    if seen.fine {
+        return in_order(entries, count, energies, work, seen);
+    }
+    Range::Refused(refusals::STORE)
 }

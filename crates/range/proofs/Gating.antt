@@ -9,10 +9,10 @@ use lib.Ieee.Positive.{above}
 use Rattle.floats.proofs.Order.{float-le-trans, lt→le, lt-not-le, is-true}
 use Rattle.histogram_bins.specs.Energy.{dropped}
 use Rattle.history.specs.Set.{noneBelow}
-use Rattle.ordering.specs.Order.{put, inOrder}
-use Rattle.ordering.specs.Inner.{All, Above, Rising}
-use Rattle.ordering.proofs.Energies.{not-below, above-up}
-use Rattle.ordering.proofs.InOrder.{in-order-rises}
+use Rattle.rising_order.specs.Order.{put, inOrder}
+use Rattle.rising_order.specs.Arrangement.{All, Above, Rising}
+use Rattle.rising_order.proofs.Energies.{not-below, above-up}
+use Rattle.rising_order.proofs.InOrder.{in-order-rises}
 use Rattle.rising_range.specs.Rising.{fromGate}
 use Rattle.range.specs.Tech3342.{gated, absoluteGate}
 

@@ -13,10 +13,10 @@ use Rattle.history.specs.Set.{Histories, historiesOf, chosen, refusalOf, sound,
 use Rattle.history.proofs.Verdicts.{kept}
 use Rattle.blocks.specs.Totals.{none, energiesFrom}
 use Rattle.ranks.specs.Ranks.{lowRank, highRank}
-use Rattle.ordering.specs.Order.{inOrder}
-use Rattle.ordering.proofs.Perms.{perm-length, all-perm}
-use Rattle.ordering.proofs.InOrder.{in-order-perm, in-order-rises}
-use Rattle.ordering.proofs.Runs.{above-all}
+use Rattle.rising_order.specs.Order.{inOrder}
+use Rattle.rising_order.proofs.Perms.{perm-length, all-perm}
+use Rattle.rising_order.proofs.InOrder.{in-order-perm, in-order-rises}
+use Rattle.rising_order.proofs.AllAbove.{above-all}
 use Rattle.spans.specs.Span.{found, nothing, gateEnergy}
 use Rattle.rising_range.specs.Rising.{atRanks, listedSpan}
 use Rattle.queue_range.specs.Listed.{allHeld, anyNan}

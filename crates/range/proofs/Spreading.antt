@@ -22,10 +22,10 @@ use Rattle.blocks.specs.Totals.{none, binsFrom}
 use Rattle.blocks.specs.Start.{startBin}
 use Rattle.blocks.proofs.Start.{start-most}
 use Rattle.ranks.specs.Ranks.{lowRank, highRank}
-use Rattle.ordering.specs.Order.{inOrder}
-use Rattle.ordering.specs.Inner.{All, Rising}
-use Rattle.ordering.proofs.Perms.{all-join}
-use Rattle.ordering.proofs.InOrder.{rising-is}
+use Rattle.rising_order.specs.Order.{inOrder}
+use Rattle.rising_order.specs.Arrangement.{All, Rising}
+use Rattle.rising_order.proofs.Perms.{all-join}
+use Rattle.rising_order.proofs.InOrder.{rising-is}
 use Rattle.spans.specs.Span.{found, nothing, gateEnergy}
 use Rattle.histogram_range.specs.Counted.{blocksIn, runningFrom, firstPast, rankedIn, leftIn, countedSpan, addedTo}
 use Rattle.range.specs.Range.{queuesIn, rangeOf}

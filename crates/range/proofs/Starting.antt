@@ -17,7 +17,7 @@ use Rattle.tables.proofs.Rules.{boundary-positive, boundaries-rise, boundary-be
 use Rattle.histogram_bins.proofs.Bins.{bin-below, bins-rise, bin-of-energy, bin-of-nan}
 use Rattle.blocks.specs.Start.{startBin}
 use Rattle.blocks.proofs.Start.{start-below, start-next, start-here}
-use Rattle.ordering.proofs.Energies.{not-below, above-up, same-at-most}
+use Rattle.rising_order.proofs.Energies.{not-below, above-up, same-at-most}
 use Rattle.queue_range.proofs.Looking.{above-one}
 
 pub low-energy : (b : ℕ) → b < bins → T (le (boundaryAt 0) (energyAt b))

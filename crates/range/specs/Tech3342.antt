@@ -11,7 +11,7 @@ use lib.ListN.{length, getD, replicate}
 use lib.Ieee.{Float, nan, lt}
 use Rattle.tables.specs.Tables.{boundaryAt, energyAt}
 use Rattle.blocks.specs.Totals.{none, energiesFrom}
-use Rattle.ordering.specs.Order.{inOrder}
+use Rattle.rising_order.specs.Order.{inOrder}
 use Rattle.spans.specs.Span.{Span, found, nothing, gateEnergy}
 
 -- the blocks that a gate leaves: those that are not below it

@@ -1,7 +1,7 @@
 -- The leading energies below a gate, skipped one after the other, the energies at the two ranks among those left, and the totals over energies.
 -- Assumes nothing.
-use mathlib.Core.Path.{_≡_, sym, ap, _∙_}
-use mathlib.Core.Bool.{Bool, true, false, not, cond}
+use mathlib.Core.Path.{_≡_, refl, sym, ap, _∙_}
+use mathlib.Core.Bool.{Bool, true, false, not, _&&_, cond, true≢false}
 use mathlib.Core.List.{List, [], _∷_}
 use Prim.Native.Nat.{ℕ, suc, _+_, _-_, _≤_, _<_}
 use native.Mathlib.Numerals.{add-one}
@@ -35,6 +35,17 @@ module _ (gate : Float) (rising : List Float) (i : ℕ) where
   pub skip-end : length rising ≤ i → drop i rising ≡ fromGate gate (drop i rising)
   unfolding fromGate
   skip-end h = drop-of-length-le rising h ∙ sym (ap (fromGate gate) (drop-of-length-le rising h))
+
+both-true : (a b : Bool) → a && b ≡ true → (a ≡ true) × (b ≡ true)
+both-true true b e = (refl, e)
+both-true false b e = absurd (true≢false (sym e))
+
+pub skip-all : (gate : Float) (rising : List Float) (from i : ℕ) (fine : Bool) (d : Float) → i < length rising
+    → (fine ≡ true → fromGate gate (drop i rising) ≡ fromGate gate (drop from rising)) → fine && lt (getD rising i d) gate ≡ true
+    → fromGate gate (drop (i + 1) rising) ≡ fromGate gate (drop from rising)
+skip-all gate rising from i fine d h s e =
+    let p = both-true fine (lt (getD rising i d) gate) e in
+    skip-on gate rising i d h (p .1) ∙ s (p .0)
 
 -- ---- the energies at the two ranks among those left
 pub ranks-none : (left : List Float) → length left ≡ 0 → atRanks left ≡ nothing

@@ -2,6 +2,7 @@
 use blocks::Totals;
 use spans::Range;
 ghost use mathlib.Core.Path.{_≡_};
+ghost use mathlib.Core.Bool.{true};
 ghost use Prim.Native.Nat.{_≤_};
 ghost use lib.ListN.{length, drop};
 ghost use Rattle.refusals.specs.Outcome.{says};
@@ -22,11 +23,43 @@ fn sum_of(rising: &[f64]) -> f64
     sum
 }
 
+// How many energies are looked at before a look may stop. Within them no turn branches, so that several are looked at at once.
+const STRETCH: usize = 64;
+
+// Whether all from a place up to another are below the gate.
+fn all_below(rising: &[f64], from: usize, until: usize, gate: f64) -> bool
+    requires { ⌜ (from ≤ until) × (until ≤ length (now rising)) ⌝ }
+    ensures { λ r. ⌜ (r ≡ true → fromGate gate (drop until (now (rising .entry))) ≡ fromGate gate (drop from (now (rising .entry)))) ⌝ }
+{
+    let mut fine = true;
+    let mut i = from;
+    while i < until {
+        fine = fine & (rising[i] < gate);
+        i += 1;
+    }
+    fine
+}
+
+// Leading energies below the gate, as many as whole stretches hold.
+fn stretches(rising: &[f64], gate: f64) -> usize
+    ensures { λ r. ⌜ (r ≤ length (now (rising .entry))) × (fromGate gate (drop r (now (rising .entry))) ≡ fromGate gate (now (rising .entry))) ⌝ }
+{
+    let mut i = 0;
+    while rising.len() - i > STRETCH {
+        if all_below(rising, i, i + STRETCH, gate) {
+            i += STRETCH;
+        } else {
+            return i;
+        }
+    }
+    i
+}
+
 // How many leading energies are below the gate.
 fn skipped(rising: &[f64], gate: f64) -> usize
     ensures { λ r. ⌜ (r ≤ length (now (rising .entry))) × (drop r (now (rising .entry)) ≡ fromGate gate (now (rising .entry))) ⌝ }
 {
-    let mut i = 0;
+    let mut i = stretches(rising, gate);
     while i < rising.len() {
         if rising[i] < gate {
             i += 1;

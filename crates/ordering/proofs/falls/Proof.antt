@@ -1,35 +1,39 @@
--- `ordering::falls` meets its contract. The invariant: the first i energies fall, step by step. Assumes nothing.
-use mathlib.Core.Path.{_≡_, refl, sym}
+-- `ordering::falls` meets its contract. The invariant: up to the place i the energies fall, step by step. Assumes nothing.
+use mathlib.Core.Path.{sym}
 use mathlib.Core.Bool.{true≢false}
-use Prim.Native.Nat.{_-_, _<_, _≤_}
+use Prim.Native.Nat.{ℕ, suc, _-_, _≤_}
 use native.Mathlib.Omega.{arith}
-use borrow.Author.Needs.{needs}
-use lib.ListN.{length}
-use Rattle.ordering.specs.Inner.{at}
-use Rattle.ordering.proofs.Runs.{Sinks, sink-on, sunk, no-energies, here}
+use lib.Dec.{T}
+use lib.Ieee.{le}
+use Rattle.rising_order.specs.Arrangement.{at}
+use Rattle.ordering.specs.Inner.{Sinks}
+use Rattle.ordering.proofs.Runs.{stretched, sunk, no-energies}
 use Rattle.ordering.proofs.falls.Statement.{statement}
 use Rattle.ordering.proofs.falls.Tie as tie
 
 abbrev Inv-loop : tie.InvT-loop
-Inv-loop energies n last₀ i₀ last i = (0 < i) × (i ≤ n) × (last ≡ at energies (i - 1)) × Sinks energies i
+Inv-loop energies n last i₀ i = (i ≤ last) × Sinks 0 i energies
 
 abbrev μ-loop : tie.MeasureT-loop
-μ-loop energies n last₀ i₀ last i = length energies - i
+μ-loop energies n last i₀ i = last - i
 
 returns : tie.Need-returns Inv-loop μ-loop
-returns c = λ e. let n = no-energies (c .before .args .energies .now) (c .if1 .taken) in (n .0, n .2)
+returns c = λ e. let n = no-energies (c .before .before .args .energies .now) (c .if1 .taken) in (n .0, n .2)
 
-shared-slice-read-last : tie.Need-shared-slice-read-last Inv-loop μ-loop
-shared-slice-read-last c = search needs
+sub-last : tie.Need-sub-last Inv-loop μ-loop
+sub-last c = omega arith
 
 loop-holds : tie.Need-loop-holds Inv-loop μ-loop
-loop-holds c = (omega arith, omega arith, refl, λ k h. absurd (omega arith))
+loop-holds c = (omega arith, λ k a b. absurd (omega arith))
 
-mul-x : tie.Need-mul-x Inv-loop μ-loop
-mul-x c = omega arith
+sub-loop : tie.Need-sub-loop Inv-loop μ-loop
+sub-loop c = omega arith
 
-shared-slice-read-x : tie.Need-shared-slice-read-x Inv-loop μ-loop
-shared-slice-read-x c = omega arith
+add-sinks : tie.Need-add-sinks Inv-loop μ-loop
+add-sinks c = omega arith
+
+sinks-requires : tie.Need-sinks-requires Inv-loop μ-loop
+sinks-requires c κs = omega arith
 
 add-i : tie.Need-add-i Inv-loop μ-loop
 add-i c = omega arith
@@ -39,19 +43,31 @@ loop-less c = omega arith
 
 loop-again : tie.Need-loop-again Inv-loop μ-loop
 loop-again c =
-    let l = c .before .before .before .before .before .before .args .energies .now in
-    let head = c .before .before .before .loop in
-    let kept = head .inv in
-    (omega arith, omega arith, here l (head .i) (head .last) (kept .0) (kept .2), sink-on l (head .i) (head .last) (kept .0) (kept .2) (kept .3) (c .if2 .taken))
+    let head = c .before .before .before in
+    let l = head .before .before .before .args .energies .now in
+    (omega arith, stretched (λ (k : ℕ). T (le (at l (suc k)) (at l k))) (head .loop .i) _ (head .loop .inv .1) (c .before .sinks .ensures (c .if2 .taken)))
 
 returns-2 : tie.Need-returns-2 Inv-loop μ-loop
 returns-2 c = λ e. absurd (true≢false (sym e))
 
+sinks-requires-2 : tie.Need-sinks-requires-2 Inv-loop μ-loop
+sinks-requires-2 c κs = omega arith
+
+mul-result : tie.Need-mul-result Inv-loop μ-loop
+mul-result c = omega arith
+
+shared-slice-read-result : tie.Need-shared-slice-read-result Inv-loop μ-loop
+shared-slice-read-result c = omega arith
+
 returns-3 : tie.Need-returns-3 Inv-loop μ-loop
 returns-3 c = λ e.
-    let l = c .before .before .before .before .args .energies .now in
-    let head = c .before .loop in
-    sunk l (head .i) (head .last) (c .loop-test .left) (head .inv .1) (head .inv .2) (head .inv .3) e
+    let test = c .before in
+    let head = test .before .before .before in
+    let l = head .before .before .before .args .energies .now in
+    sunk l (stretched (λ (k : ℕ). T (le (at l (suc k)) (at l k))) (head .loop .i) _ (head .loop .inv .1) (test .before .sinks2 .ensures (test .if3 .taken))) e
+
+returns-4 : tie.Need-returns-4 Inv-loop μ-loop
+returns-4 c = λ e. absurd (true≢false (sym e))
 
 pub falls-spec : {M : Type 1} → statement M
 falls-spec =
@@ -60,12 +76,17 @@ falls-spec =
     Inv-loop
     μ-loop
     returns
-    shared-slice-read-last
+    sub-last
     loop-holds
-    mul-x
-    shared-slice-read-x
+    sub-loop
+    add-sinks
+    sinks-requires
     add-i
     loop-less
     loop-again
     returns-2
-    returns-3)
+    sinks-requires-2
+    mul-result
+    shared-slice-read-result
+    returns-3
+    returns-4)

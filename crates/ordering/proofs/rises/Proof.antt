@@ -1,35 +1,39 @@
--- `ordering::rises` meets its contract. The invariant: the first i energies rise, step by step. Assumes nothing.
-use mathlib.Core.Path.{_≡_, refl, sym}
+-- `ordering::rises` meets its contract. The invariant: up to the place i the energies rise, step by step. Assumes nothing.
+use mathlib.Core.Path.{sym}
 use mathlib.Core.Bool.{true≢false}
-use Prim.Native.Nat.{_-_, _<_, _≤_}
+use Prim.Native.Nat.{ℕ, suc, _-_, _≤_}
 use native.Mathlib.Omega.{arith}
-use borrow.Author.Needs.{needs}
-use lib.ListN.{length}
-use Rattle.ordering.specs.Inner.{at}
-use Rattle.ordering.proofs.Runs.{Climbs, climb-on, climbed, no-energies, here}
+use lib.Dec.{T}
+use lib.Ieee.{le}
+use Rattle.rising_order.specs.Arrangement.{at}
+use Rattle.ordering.specs.Inner.{Climbs}
+use Rattle.ordering.proofs.Runs.{stretched, climbed, no-energies}
 use Rattle.ordering.proofs.rises.Statement.{statement}
 use Rattle.ordering.proofs.rises.Tie as tie
 
 abbrev Inv-loop : tie.InvT-loop
-Inv-loop energies n first last₀ i₀ last i = (0 < i) × (i ≤ n) × (last ≡ at energies (i - 1)) × Climbs energies i
+Inv-loop energies n last i₀ i = (i ≤ last) × Climbs 0 i energies
 
 abbrev μ-loop : tie.MeasureT-loop
-μ-loop energies n first last₀ i₀ last i = length energies - i
+μ-loop energies n last i₀ i = last - i
 
 returns : tie.Need-returns Inv-loop μ-loop
-returns c = λ e. let n = no-energies (c .before .args .energies .now) (c .if1 .taken) in (n .0, n .1)
+returns c = λ e. let n = no-energies (c .before .before .args .energies .now) (c .if1 .taken) in (n .0, n .1)
 
-shared-slice-read-first : tie.Need-shared-slice-read-first Inv-loop μ-loop
-shared-slice-read-first c = search needs
+sub-last : tie.Need-sub-last Inv-loop μ-loop
+sub-last c = omega arith
 
 loop-holds : tie.Need-loop-holds Inv-loop μ-loop
-loop-holds c = (omega arith, omega arith, refl, λ k h. absurd (omega arith))
+loop-holds c = (omega arith, λ k a b. absurd (omega arith))
 
-mul-x : tie.Need-mul-x Inv-loop μ-loop
-mul-x c = omega arith
+sub-loop : tie.Need-sub-loop Inv-loop μ-loop
+sub-loop c = omega arith
 
-shared-slice-read-x : tie.Need-shared-slice-read-x Inv-loop μ-loop
-shared-slice-read-x c = omega arith
+add-climbs : tie.Need-add-climbs Inv-loop μ-loop
+add-climbs c = omega arith
+
+climbs-requires : tie.Need-climbs-requires Inv-loop μ-loop
+climbs-requires c κs = omega arith
 
 add-i : tie.Need-add-i Inv-loop μ-loop
 add-i c = omega arith
@@ -39,19 +43,28 @@ loop-less c = omega arith
 
 loop-again : tie.Need-loop-again Inv-loop μ-loop
 loop-again c =
-    let l = c .before .before .before .before .before .before .args .energies .now in
-    let head = c .before .before .before .loop in
-    let kept = head .inv in
-    (omega arith, omega arith, here l (head .i) (head .last) (kept .0) (kept .2), climb-on l (head .i) (head .last) (kept .0) (kept .2) (kept .3) (c .if2 .taken))
+    let head = c .before .before .before in
+    let l = head .before .before .before .args .energies .now in
+    (omega arith, stretched (λ (k : ℕ). T (le (at l k) (at l (suc k)))) (head .loop .i) _ (head .loop .inv .1) (c .before .climbs .ensures (c .if2 .taken)))
 
 returns-2 : tie.Need-returns-2 Inv-loop μ-loop
 returns-2 c = λ e. absurd (true≢false (sym e))
 
+climbs-requires-2 : tie.Need-climbs-requires-2 Inv-loop μ-loop
+climbs-requires-2 c κs = omega arith
+
+shared-slice-read-result : tie.Need-shared-slice-read-result Inv-loop μ-loop
+shared-slice-read-result c = omega arith
+
 returns-3 : tie.Need-returns-3 Inv-loop μ-loop
 returns-3 c = λ e.
-    let l = c .before .before .before .before .args .energies .now in
-    let head = c .before .loop in
-    climbed l (head .i) (head .last) (c .loop-test .left) (head .inv .1) (head .inv .2) (head .inv .3) e
+    let test = c .before in
+    let head = test .before .before .before in
+    let l = head .before .before .before .args .energies .now in
+    climbed l (stretched (λ (k : ℕ). T (le (at l k) (at l (suc k)))) (head .loop .i) _ (head .loop .inv .1) (test .before .climbs2 .ensures (test .if3 .taken))) e
+
+returns-4 : tie.Need-returns-4 Inv-loop μ-loop
+returns-4 c = λ e. absurd (true≢false (sym e))
 
 pub rises-spec : {M : Type 1} → statement M
 rises-spec =
@@ -60,12 +73,16 @@ rises-spec =
     Inv-loop
     μ-loop
     returns
-    shared-slice-read-first
+    sub-last
     loop-holds
-    mul-x
-    shared-slice-read-x
+    sub-loop
+    add-climbs
+    climbs-requires
     add-i
     loop-less
     loop-again
     returns-2
-    returns-3)
+    climbs-requires-2
+    shared-slice-read-result
+    returns-3
+    returns-4)

@@ -9,9 +9,9 @@ use lib.Ieee.{Float}
 use lib.ListN.{length, take, drop, length-append, length-drop}
 use lib.Seq.{length-take-le, length-sets, take-at, drop-at}
 use Rattle.refusals.specs.Outcome.{says}
-use Rattle.ordering.specs.Order.{inOrder, allAbove, ordered}
-use Rattle.ordering.proofs.Perms.{perm-length}
-use Rattle.ordering.proofs.InOrder.{in-order-perm}
+use Rattle.rising_order.specs.Order.{inOrder, allAbove, ordered}
+use Rattle.rising_order.proofs.Perms.{perm-length}
+use Rattle.rising_order.proofs.InOrder.{in-order-perm}
 use Rattle.rising_range.specs.Rising.{listedSpan}
 use Rattle.queue_range.specs.Listed.{anyNan}
 use Rattle.queue_range.specs.Inner.{heldIn}
@@ -22,24 +22,24 @@ use borrow.Author.Needs.{needs}
 use Rattle.queue_range.proofs.in_order.Statement.{statement}
 use Rattle.queue_range.proofs.in_order.Tie as tie
 
-abbrev work : tie.After-look → List Float
-work k = now (k .before .before .before .args .work)
+abbrev work : tie.After-slice-known → List Float
+work k = now (k .before .before .args .work)
 
 -- the energies held, and how many
-abbrev held : tie.After-look → List Float
+abbrev held : tie.After-slice-known → List Float
 held k =
-    let a = k .before .before .before .args in
+    let a = k .before .before .args in
     heldIn (now (a .energies)) (take (a .count) (a .entries))
 
-count : (k : tie.After-look) → k .look .result .blocks ≡ length (held k)
-count k = k .look .ensures .0
+count : (k : tie.After-slice-known) → k .before .before .args .seen .blocks ≡ length (held k)
+count k = k .before .before .pre .3 .blocks-are
 
 -- ---- copied
-abbrev seen : tie.After-copy-all → tie.After-look
+abbrev seen : tie.After-copy-all → tie.After-slice-known
 seen p = p .before .before .before .before
 
 abbrev blocks : tie.After-copy-all → ℕ
-blocks p = seen p .look .result .blocks
+blocks p = seen p .before .before .args .seen .blocks
 
 abbrev copied : tie.After-copy-all → List Float
 copied p = p .copy-all .last .1 .1 .1 .0
@@ -48,7 +48,7 @@ fits : (p : tie.After-copy-all) → length (held (seen p)) ≤ length (work (see
 fits p = omega (arith, count (seen p), p .before .before .before .if1 .left)
 
 no-nan : (p : tie.After-copy-all) → anyNan (held (seen p)) ≡ false
-no-nan p = sym (seen p .look .ensures .1) ∙ p .before .before .if2 .left
+no-nan p = sym (seen p .before .before .pre .3 .nan-is) ∙ p .before .before .if2 .left
 
 copied-is : (p : tie.After-copy-all) → copied p ≡ held (seen p) ++ drop (length (held (seen p))) (work (seen p))
 copied-is p = p .copy-all .ensures ∙ sets-front (work (seen p)) (held (seen p)) (fits p)
@@ -67,7 +67,7 @@ other-places p =
 -- ---- in order
 above-zero : (p : tie.After-copy-all) → allAbove (held (seen p)) ≡ true
 above-zero p =
-    let s = seen p .before .before .before in
+    let s = seen p .before .before in
     above-held (held (seen p)) (none-below-held (now (s .args .energies)) (take (s .args .count) (s .args .entries)) (s .pre .2)) (no-nan p)
 
 ordered-above : (l : List Float) → allAbove l ≡ true → ordered l ≡ inOrder l
@@ -90,24 +90,21 @@ first-places o =
     let p = o .before .before .before .before in
     take-at (o .order .last .0) (drop (blocks p) (copied p)) (blocks p) (ordered-length o)
 
-look-requires : tie.Need-look-requires
-look-requires c κs = search needs
-
 returns : tie.Need-returns
 returns c =
     let k = c .before in
-    rw (listed-room (held k) (work k) (omega (arith, k .look .ensures .0, c .if1 .taken))) (refl, refl)
+    rw (listed-room (held k) (work k) (omega (arith, count k, c .if1 .taken))) (refl, refl)
 
 returns-2 : tie.Need-returns-2
 returns-2 c =
     let k = c .before .before in
-    rw (listed-nan (held k) (work k) (omega (arith, k .look .ensures .0, c .before .if1 .left)) (sym (k .look .ensures .1) ∙ c .if2 .taken)) (refl, refl)
+    rw (listed-nan (held k) (work k) (omega (arith, count k, c .before .if1 .left)) (sym (k .before .before .pre .3 .nan-is) ∙ c .if2 .taken)) (refl, refl)
 
 copy-all-requires : tie.Need-copy-all-requires
 copy-all-requires c κs =
     let k = c .before .before .before in
-    let s = k .before .before .before in
-    (s .pre .0, s .pre .1, s .pre .2, omega (arith, k .look .ensures .0, c .before .before .if1 .left))
+    let s = k .before .before in
+    (s .pre .0, s .pre .1, s .pre .2, omega (arith, count k, c .before .before .if1 .left))
 
 slice-relend-prefix-order : tie.Need-slice-relend-prefix-order
 slice-relend-prefix-order c = let p = c .before .before in omega (arith, copied-length p, count (seen p), fits p)
@@ -154,7 +151,6 @@ pub in-order-spec : {M : Type 1} → statement M
 in-order-spec =
     tie.close
     (tie.spec
-    look-requires
     returns
     returns-2
     copy-all-requires

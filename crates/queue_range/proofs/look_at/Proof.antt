@@ -1,47 +1,82 @@
--- `queue_range::look_at` meets its contract: what an entry holds stands in two parts. Assumes nothing.
+-- `queue_range::look_at` meets its contract. The invariant: what was seen before `i`, with what the energies from there on give, is what all give.
+-- Assumes nothing.
+use mathlib.Core.Path.{_≡_, refl, sym, _∙_}
+use mathlib.Core.Bool.{_&&_, _||_}
+use Prim.Native.Nat.{_-_, _≤_}
 use native.Mathlib.Omega.{arith}
 use denote.Ref.{now}
-use Rattle.queue_range.specs.Inner.{StandIn}
-use Rattle.queue_range.proofs.Looking.{parts-count, parts-nan}
+use lib.Ieee.{nan}
+use Rattle.history.specs.Set.{noneBelow}
+use Rattle.history.proofs.Slices.{slice-length}
+use Rattle.queue_range.specs.Listed.{anyNan}
+use Rattle.queue_range.specs.Inner.{part}
+use Rattle.queue_range.proofs.Looking.{nan-turn, nan-end, fine-turn, fine-end}
 use borrow.Author.Needs.{needs}
-use mathlib.Core.Path.{sym}
 use Rattle.queue_range.proofs.look_at.Statement.{statement}
 use Rattle.queue_range.proofs.look_at.Tie as tie
 
-stand : (p : tie.After-parts-of) → StandIn (p .before .before .args .entry .shape) (p .parts-of .result)
-stand p = p .parts-of .ensures
+abbrev Inv-loop : tie.InvT-loop
+Inv-loop energies from until least fine₀ found₀ i₀ fine found i =
+    (i ≤ until)
+    × (fine && noneBelow (part i until energies) ≡ noneBelow (part from until energies))
+    × (found || anyNan (part i until energies) ≡ anyNan (part from until energies))
 
-parts-of-requires : tie.Need-parts-of-requires
-parts-of-requires c κs = search needs
+abbrev μ-loop : tie.MeasureT-loop
+μ-loop energies from until least fine₀ found₀ i₀ fine found i = until - i
 
-has-nan-requires : tie.Need-has-nan-requires
-has-nan-requires c κs = let f = stand c in let s = c .before .before in (omega arith, omega (arith, s .pre .0))
+lowest-boundary-requires : tie.Need-lowest-boundary-requires Inv-loop μ-loop
+lowest-boundary-requires c κs = search needs
 
-has-nan-requires-2 : tie.Need-has-nan-requires-2
-has-nan-requires-2 c κs = let f = stand (c .before) in let s = c .before .before .before in (omega arith, omega (arith, s .pre .0))
+loop-holds : tie.Need-loop-holds Inv-loop μ-loop
+loop-holds c = (omega arith, refl, refl)
 
-sub-t6 : tie.Need-sub-t6
-sub-t6 c = let f = stand (c .before .before .before) in omega arith
+mul-energy : tie.Need-mul-energy Inv-loop μ-loop
+mul-energy c = search needs
 
-sub-t7 : tie.Need-sub-t7
-sub-t7 c = let f = stand (c .before .before .before .before) in omega arith
+shared-slice-read-energy : tie.Need-shared-slice-read-energy Inv-loop μ-loop
+shared-slice-read-energy c = search needs
 
-add-t8 : tie.Need-add-t8
-add-t8 c = let f = stand (c .before .before .before .before) in omega arith
+add-i : tie.Need-add-i Inv-loop μ-loop
+add-i c = search needs
 
-returns : tie.Need-returns
-returns c =
-    let two = c .before .before in
-    let p = two .before .before in
-    let s = p .before .before in
-    let f = stand p in
-    let energies = now (s .args .energies) in (
-      sym (parts-count energies (s .args .entry) (p .parts-of .result) f (s .pre .0)),
-      parts-nan energies (s .args .entry) (p .parts-of .result) f (s .pre .0) (two .before .has-nan .result) (two .has-nan2 .result) (two .before .has-nan .ensures) (two .has-nan2 .ensures),
-      f .few,
+loop-less : tie.Need-loop-less Inv-loop μ-loop
+loop-less c = search needs
+
+loop-again : tie.Need-loop-again Inv-loop μ-loop
+loop-again c =
+    let l = c .before .before in
+    let a = l .before .before .before .args in (
+      omega arith,
+      fine-turn (now (a .energies)) (l .loop .i) (a .until) (l .loop .fine) _ nan (l .before .lowest-boundary .ensures) (omega arith) (omega arith) ∙ l .loop .inv .1,
+      nan-turn (now (a .energies)) (l .loop .i) (a .until) (l .loop .nan) nan (omega arith) (omega arith) ∙ l .loop .inv .2,
     )
+
+sub-t14 : tie.Need-sub-t14 Inv-loop μ-loop
+sub-t14 c = search needs
+
+returns : tie.Need-returns Inv-loop μ-loop
+returns c =
+    let l = c .before in
+    let s = l .before .before .before in
+    let energies = now (s .args .energies) in
+    record {
+      blocks-are = sym (slice-length (s .args .from) (s .args .until) energies (s .pre .1));
+      fine-is = sym (fine-end energies (l .loop .i) (s .args .until) (l .loop .fine) (omega arith)) ∙ l .loop .inv .1;
+      nan-is = sym (nan-end energies (l .loop .i) (s .args .until) (l .loop .nan) (omega arith)) ∙ l .loop .inv .2;
+    }
 
 pub look-at-spec : {M : Type 1} → statement M
 look-at-spec =
     tie.close
-    (tie.spec parts-of-requires has-nan-requires has-nan-requires-2 sub-t6 sub-t7 add-t8 returns)
+    (tie.spec
+    Inv-loop
+    μ-loop
+    lowest-boundary-requires
+    loop-holds
+    mul-energy
+    shared-slice-read-energy
+    add-i
+    loop-less
+    loop-again
+    sub-t14
+    returns)

@@ -1,12 +1,14 @@
 -- `queue_range::of_queues` meets its contract: the set's refusals first, then what its queues hold. Assumes nothing.
 use mathlib.Core.Path.{_≡_, sym, ap, _∙_}
+use mathlib.Core.Bool.{true, false}
 use mathlib.Core.List.{List}
 use denote.Ref.{now}
 use lib.Ieee.{Float}
 use lib.ListN.{length}
-use Rattle.history.specs.Set.{Histories, histories, chosen, refusalOf, sound}
+use Rattle.refusals.specs.Refusal.{SET, STORE}
+use Rattle.history.specs.Set.{Histories, histories, chosen, outsideSet, allSound}
 use Rattle.history.proofs.Entries.{stores-inside}
-use Rattle.history.proofs.Verdicts.{Kept, kept, number-none}
+use Rattle.history.proofs.Verdicts.{none-outside, set-refused, one-unsound, all-well}
 use Rattle.queue_range.specs.Listed.{listedRange, queueRange}
 use Rattle.queue_range.specs.Inner.{heldIn}
 use Rattle.queue_range.proofs.Looking.{held-any}
@@ -16,32 +18,40 @@ use Rattle.queue_range.proofs.of_queues.Statement.{statement}
 use Rattle.queue_range.proofs.of_queues.Tie as tie
 
 -- the set, as it was given, and the work slice
-abbrev given : tie.After-checked → Histories
+abbrev given : tie.After-outside-set → Histories
 given k =
     let a = k .before .before .before .before .args in
     histories (a .entries) (a .count) (now (a .counters)) (now (a .energies))
 
-abbrev work : tie.After-checked → List Float
+abbrev work : tie.After-outside-set → List Float
 work k = now (k .before .before .before .before .args .work)
 
--- nothing refuses it
-passed : (e : tie.Else1) → refusalOf (given (e .before)) ≡ sound
-passed e = number-none (refusalOf (given (e .before))) (sym (e .before .checked .ensures) ∙ e .if1 .left)
+inside : (e : tie.Else1) → outsideSet (given (e .before)) ≡ false
+inside e = sym (e .before .outside-set .ensures) ∙ e .if1 .left
 
-well : (e : tie.Else1) → Kept (given (e .before))
-well e = kept (given (e .before)) (passed e)
+sound : (f : tie.Then2) → let h = given (f .before .before .before) in allSound (h .energies) (chosen h) ≡ true
+sound f = sym (f .before .look .ensures .0) ∙ f .if2 .taken
 
-checked-requires : tie.Need-checked-requires
-checked-requires c κs = search needs
+outside-set-requires : tie.Need-outside-set-requires
+outside-set-requires c κs = search needs
 
 returns : tie.Need-returns
-returns c = let k = c .before in queues-refused (given k) (work k) (k .checked .result) (k .checked .ensures) (c .if1 .taken)
+returns c =
+    let k = c .before in
+    queues-refused (given k) (work k) SET (set-refused (given k) (sym (k .outside-set .ensures) ∙ c .if1 .taken))
+
+look-requires : tie.Need-look-requires
+look-requires c κs =
+    let h = given (c .before) in
+    let w = none-outside h (inside c) in
+    (w .0, stores-inside (length (h .counters)) (length (h .energies)) (chosen h) (w .1))
 
 in-order-requires : tie.Need-in-order-requires
 in-order-requires c κs =
-    let e = c .before in
-    let h = given (e .before) in
-    (well e .few, stores-inside (length (h .counters)) (length (h .energies)) (chosen h) (well e .inside), well e .stores)
+    let f = c .before in
+    let h = given (f .before .before .before) in
+    let w = none-outside h (inside (f .before .before)) in
+    (w .0, stores-inside (length (h .counters)) (length (h .energies)) (chosen h) (w .1), sound f, f .before .look .ensures .1 (sound f))
 
 same-length : tie.Need-same-length
 same-length c = search needs
@@ -49,13 +59,28 @@ same-length c = search needs
 returns-2 : tie.Need-returns-2
 returns-2 c =
     let o = c .before .before in
-    let e = o .before .before in
-    let h = given (e .before) in
-    let w = work (e .before) in
+    let f = o .before .before in
+    let k = f .before .before .before in
+    let h = given k in
+    let w = work k in
     let is : queueRange h w ≡ listedRange (heldIn (h .energies) (chosen h)) w =
-    queues-asked h w (passed e) ∙ ap (λ (l : List Float). listedRange l w) (sym (held-any (h .counters) (h .energies) (chosen h))) in
+    queues-asked h w (all-well h (inside (f .before .before)) (sound f)) ∙ ap (λ (l : List Float). listedRange l w) (sym (held-any (h .counters) (h .energies) (chosen h))) in
     rw is (o .in-order .ensures .0, o .in-order .ensures .1)
+
+returns-3 : tie.Need-returns-3
+returns-3 c =
+    let e = c .before .before in
+    let k = e .before in
+    queues-refused (given k) (work k) STORE (one-unsound (given k) (inside e) (sym (c .before .look .ensures .0) ∙ c .if2 .left))
 
 pub of-queues-spec : {M : Type 1} → statement M
 of-queues-spec =
-    tie.close (tie.spec checked-requires returns in-order-requires same-length returns-2)
+    tie.close
+    (tie.spec
+    outside-set-requires
+    returns
+    look-requires
+    in-order-requires
+    same-length
+    returns-2
+    returns-3)

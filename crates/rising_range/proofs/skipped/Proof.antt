@@ -1,5 +1,5 @@
 -- `rising_range::skipped` meets its contract. The invariant: what the energies from `i` on leave is what all leave. Assumes nothing.
-use mathlib.Core.Path.{_≡_, refl, _∙_}
+use mathlib.Core.Path.{_≡_, _∙_}
 use Prim.Native.Nat.{_-_, _≤_}
 use native.Mathlib.Omega.{arith}
 use denote.Ref.{now}
@@ -17,8 +17,11 @@ Inv-loop rising gate i₀ i = (i ≤ length rising) × (fromGate gate (drop i ri
 abbrev μ-loop : tie.MeasureT-loop
 μ-loop rising gate i₀ i = length rising - i
 
+stretches-requires : tie.Need-stretches-requires Inv-loop μ-loop
+stretches-requires c κs = search needs
+
 loop-holds : tie.Need-loop-holds Inv-loop μ-loop
-loop-holds c = (omega arith, refl)
+loop-holds c = c .stretches .ensures
 
 mul-if1 : tie.Need-mul-if1 Inv-loop μ-loop
 mul-if1 c = search needs
@@ -35,19 +38,19 @@ loop-less c = search needs
 loop-again : tie.Need-loop-again Inv-loop μ-loop
 loop-again c =
     let l = c .before .before .before in
-    let a = l .before .args in
+    let a = l .before .before .before .args in
     (omega arith, skip-on (a .gate) (now (a .rising)) (l .loop .i) nan (omega arith) (c .if1 .taken) ∙ l .loop .inv .1)
 
 returns : tie.Need-returns Inv-loop μ-loop
 returns c =
     let l = c .before .before .before in
-    let a = l .before .args in
+    let a = l .before .before .before .args in
     (l .loop .inv .0, skip-here (a .gate) (now (a .rising)) (l .loop .i) nan (omega arith) (c .if1 .left) ∙ l .loop .inv .1)
 
 returns-2 : tie.Need-returns-2 Inv-loop μ-loop
 returns-2 c =
     let l = c .before in
-    let a = l .before .args in
+    let a = l .before .before .before .args in
     (l .loop .inv .0, skip-end (a .gate) (now (a .rising)) (l .loop .i) (omega arith) ∙ l .loop .inv .1)
 
 pub skipped-spec : {M : Type 1} → statement M
@@ -56,6 +59,7 @@ skipped-spec =
     (tie.spec
     Inv-loop
     μ-loop
+    stretches-requires
     loop-holds
     mul-if1
     shared-slice-read-if1

@@ -1,0 +1,63 @@
+-- `heap_order::build_heap` meets its contract: from the middle on no place has a child, and each turn lets one more energy sink. Assumes nothing.
+use Prim.Native.Nat.{_/_}
+use native.Mathlib.Omega.{arith}
+use mathlib.Core.Path.{refl, sym}
+use lib.Dec.{T}
+use lib.ListN.{length}
+use lib.Ieee.Positive.{above}
+use Rattle.rising_order.specs.Arrangement.{both, Above}
+use Rattle.heap_order.specs.Inner.{Heaped}
+use Rattle.rising_order.proofs.Perms.{perm-refl, perm-length, all-perm}
+use Rattle.heap_order.proofs.Heap.{heap-start}
+use Rattle.heap_order.proofs.build_heap.Statement.{statement}
+use Rattle.heap_order.proofs.build_heap.Tie as tie
+
+abbrev Inv-loop : tie.InvT-loop
+Inv-loop part₀ from₀ part from = Above part × Heaped from part₀ part
+
+abbrev μ-loop : tie.MeasureT-loop
+μ-loop part₀ from₀ part from = from
+
+loop-holds : tie.Need-loop-holds Inv-loop μ-loop
+loop-holds c =
+    let l = c .before .args .part .now in
+    (c .before .pre, record { same = perm-refl l; heap = heap-start l (length l / 2) refl })
+
+sub-from : tie.Need-sub-from Inv-loop μ-loop
+sub-from c = omega arith
+
+sift-requires : tie.Need-sift-requires Inv-loop μ-loop
+sift-requires c κs =
+    let kept = c .before .before .loop .inv in
+    (kept .0, λ p k f d g. kept .1 .heap p k (omega arith) d g)
+
+loop-less : tie.Need-loop-less Inv-loop μ-loop
+loop-less c = omega arith
+
+loop-again : tie.Need-loop-again Inv-loop μ-loop
+loop-again c =
+    let kept = c .before .before .before .before .before .loop .inv in
+    let sunk = c .before .before .sift .ensures in
+    (all-perm (λ x. T (above x)) (sunk .same) (kept .0), record { same = both (kept .1 .same) (sunk .same); heap = sunk .heap })
+
+same-length : tie.Need-same-length Inv-loop μ-loop
+same-length c = sym (perm-length (c .before .loop .inv .1 .same))
+
+returns : tie.Need-returns Inv-loop μ-loop
+returns c =
+    let kept = c .before .loop .inv .1 in
+    record { same = kept .same; heap = λ p k f d g. kept .heap p k (omega arith) d g }
+
+pub build-heap-spec : {M : Type 1} → statement M
+build-heap-spec =
+    tie.close
+    (tie.spec
+    Inv-loop
+    μ-loop
+    loop-holds
+    sub-from
+    sift-requires
+    loop-less
+    loop-again
+    same-length
+    returns)

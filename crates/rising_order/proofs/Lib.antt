@@ -1,0 +1,6 @@
+pub mod Perms
+pub mod Energies
+pub mod InOrder
+pub mod Places
+pub mod AllAbove
+pub mod Answers

@@ -1,0 +1,38 @@
+-- What the steps of an ordering are stated by: the same energies in another order, and energies that rise.
+use Prim.Native.Nat.{ℕ}
+use mathlib.Core.List.{List, [], _∷_}
+use lib.Dec.{T}
+use lib.ListN.{getD, set}
+use lib.Ieee.{Float, nan, le}
+use lib.Ieee.Positive.{above}
+
+-- the same energies in another order
+pub data Perm : List Float → List Float → Type 0 where
+  none : Perm [] []
+  keep : (x : Float) {l k : List Float} → Perm l k → Perm (x ∷ l) (x ∷ k)
+  swap : (x y : Float) (l : List Float) → Perm (x ∷ y ∷ l) (y ∷ x ∷ l)
+  both : {l k j : List Float} → Perm l k → Perm k j → Perm l j
+
+abbrev pub at : List Float → ℕ → Float
+at l i = getD l i nan
+
+abbrev pub All : (Float → Type 0) → List Float → Type 0
+All P [] = Unit
+All P (x ∷ l) = P x × All P l
+
+abbrev pub Above : List Float → Type 0
+Above l = All (λ x. T (above x)) l
+
+-- each energy is at most every later one
+abbrev pub Rising : List Float → Type 0
+Rising [] = Unit
+Rising (x ∷ l) = All (λ y. T (le x y)) l × Rising l
+
+-- `new` has the energies of `old`, and they rise
+pub record Ordered (old new : List Float) : Type 0 where
+  pub same : Perm old new
+  pub rising : Rising new
+
+-- what stood at i stands at j, and the other way round
+abbrev pub exchanged : List Float → ℕ → ℕ → List Float
+exchanged l i j = set (set l i (at l j)) j (at l i)

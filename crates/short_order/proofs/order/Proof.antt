@@ -1,0 +1,59 @@
+-- `short_order::order` meets its contract: what is copied back is the order. Assumes nothing.
+use mathlib.Core.Path.{_≡_, sym, _∙_}
+use mathlib.Core.Bool.{true}
+use borrow.Author.Needs.{needs}
+use Rattle.rising_order.specs.Order.{allAbove}
+use Rattle.short_order.proofs.Answers.{too-many, in-order, left-alone}
+use Rattle.short_order.proofs.order.Statement.{statement}
+use Rattle.short_order.proofs.order.Tie as tie
+
+returns : tie.Need-returns
+returns c = too-many (c .before .before .args .energies .now) (c .if1 .taken)
+
+slice-aggregate-put-in-place : tie.Need-slice-aggregate-put-in-place
+slice-aggregate-put-in-place c = search needs
+
+put-in-place-requires : tie.Need-put-in-place-requires
+put-in-place-requires c κs = search needs
+
+slice-aggregate-copy-back : tie.Need-slice-aggregate-copy-back
+slice-aggregate-copy-back c = search needs
+
+copy-back-requires : tie.Need-copy-back-requires
+copy-back-requires c κs = search needs
+
+same-length : tie.Need-same-length
+same-length c = search needs
+
+returns-2 : tie.Need-returns-2
+returns-2 c =
+    let copied = c .before .before .copy-back in
+    let test = c .before .before .before .before .before in
+    let placed = test .before .before .put-in-place in
+    let few = test .before .before .before .before .before in
+    let l = few .before .before .args .energies .now in
+    let fine : allAbove l ≡ true = sym (placed .ensures .0) ∙ test .if2 .taken in
+    in-order l (few .if1 .left) fine (copied .last .0) (copied .ensures ∙ placed .ensures .1 fine)
+
+same-length-2 : tie.Need-same-length-2
+same-length-2 c = search needs
+
+returns-3 : tie.Need-returns-3
+returns-3 c =
+    let placed = c .before .before .put-in-place in
+    let few = c .before .before .before .before .before in
+    left-alone (few .before .before .args .energies .now) (few .if1 .left) (sym (placed .ensures .0) ∙ c .if2 .left)
+
+pub order-spec : {M : Type 1} → statement M
+order-spec =
+    tie.close
+    (tie.spec
+    returns
+    slice-aggregate-put-in-place
+    put-in-place-requires
+    slice-aggregate-copy-back
+    copy-back-requires
+    same-length
+    returns-2
+    same-length-2
+    returns-3)

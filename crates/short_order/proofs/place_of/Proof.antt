@@ -1,0 +1,88 @@
+-- `short_order::place_of` meets its contract: the energies before i and those from i on are counted apart. Assumes nothing.
+use mathlib.Core.Path.{_≡_, sym, ap, _∙_}
+use Prim.Native.Nat.{_+_}
+use native.Mathlib.Omega.{arith}
+use borrow.Author.Needs.{needs}
+use lib.ListN.{take, drop, length-drop}
+use lib.Seq.{length-take-le}
+use lib.Ieee.{le, lt}
+use Rattle.rising_order.specs.Arrangement.{at}
+use Rattle.short_order.specs.Inner.{count, placeOf}
+use Rattle.short_order.proofs.Counting.{count-within}
+use Rattle.rising_order.proofs.Places.{last-part}
+use Rattle.short_order.proofs.place_of.Statement.{statement}
+use Rattle.short_order.proofs.place_of.Tie as tie
+
+mul-x : tie.Need-mul-x
+mul-x c = search needs
+
+shared-slice-read-x : tie.Need-shared-slice-read-x
+shared-slice-read-x c = search needs
+
+slice-aggregate-at-most : tie.Need-slice-aggregate-at-most
+slice-aggregate-at-most c =
+    let start = c .before .before .before in
+    sym (length-take-le (start .args .i) (start .args .part .now) (omega (arith, start .pre)))
+
+at-most-requires : tie.Need-at-most-requires
+at-most-requires c κs = search needs
+
+mul-below : tie.Need-mul-below
+mul-below c = search needs
+
+sub-below : tie.Need-sub-below
+sub-below c = search needs
+
+part-below-start : tie.Need-part-below-start
+part-below-start c = search needs
+
+part-below-end : tie.Need-part-below-end
+part-below-end c = search needs
+
+below-requires : tie.Need-below-requires
+below-requires c κs = search needs
+
+is-place : (c : tie.After-below)
+    → c .before .before .at-most .result + c .below .result
+    ≡ placeOf (c .before .before .before .before .before .before .args .part .now) (c .before .before .before .before .before .before .args .i)
+is-place c =
+    let start = c .before .before .before .before .before .before in
+    let l = start .args .part .now in
+    let i = start .args .i in
+    let lower = c .before .before .at-most .ensures in
+    let rest = c .below .ensures ∙ ap (count (λ y. lt y (at l i))) (last-part i l) in
+    omega arith
+
+add-result : tie.Need-add-result
+add-result c =
+    let start = c .before .before .before .before .before .before in
+    let l = start .args .part .now in
+    let i = start .args .i in
+    omega (
+      arith,
+      is-place c,
+      count-within (λ y. le y (at l i)) (take i l),
+      count-within (λ y. lt y (at l i)) (drop i l),
+      length-take-le i l (omega (arith, start .pre)),
+      length-drop i l,
+      start .good .0 .1,
+    )
+
+returns : tie.Need-returns
+returns c = is-place c
+
+pub place-of-spec : {M : Type 1} → statement M
+place-of-spec =
+    tie.close
+    (tie.spec
+    mul-x
+    shared-slice-read-x
+    slice-aggregate-at-most
+    at-most-requires
+    mul-below
+    sub-below
+    part-below-start
+    part-below-end
+    below-requires
+    add-result
+    returns)

@@ -1,0 +1,85 @@
+-- `split_order::split` meets its contract: what goes before the pivot is below it; where nothing does, the pivot is the lowest, and its equals are gathered.
+-- Assumes nothing.
+use Prim.Native.Nat.{ℕ, _+_, _-_}
+use native.Mathlib.Omega.{arith}
+use mathlib.Core.Path.{_≡_, refl, subst}
+use borrow.Author.Needs.{needs}
+use lib.Dec.{T}
+use lib.ListN.{length}
+use lib.Ieee.Positive.{above}
+use Rattle.rising_order.specs.Arrangement.{Above}
+use Rattle.rising_order.proofs.Perms.{all-perm}
+use Rattle.split_order.specs.Inner.{Parted}
+use Rattle.split_order.proofs.Parting.{parted, parted-equal}
+use Rattle.split_order.proofs.Joining.{parted-from, lowest-of}
+use Rattle.split_order.proofs.split.Statement.{statement}
+use Rattle.split_order.proofs.split.Tie as tie
+
+-- the pivot goes to the front, and then to its own place
+apart : (c : tie.After-exchange)
+    → Parted (c .before .before .before .before .gather .result - 1) (c .before .before .before .before .gather .result - 1 + 1)
+    (c .before .before .before .before .before .before .before .before .before .args .part .now) (c .exchange .last .0)
+apart c = parted (c .before .before .before .before .gather .ensures) (omega arith) (c .exchange .last .0) (c .exchange .ensures)
+
+all-above : (c : tie.After-exchange) → Above (c .exchange .last .0)
+all-above c = all-perm (λ x. T (above x)) (apart c .same) (c .before .before .before .before .before .before .before .before .before .pre .1)
+
+pivot-place-requires : tie.Need-pivot-place-requires
+pivot-place-requires c κs = search needs
+
+gather-requires : tie.Need-gather-requires
+gather-requires c κs = search needs
+
+sub-place : tie.Need-sub-place
+sub-place c = search needs
+
+exchange-requires : tie.Need-exchange-requires
+exchange-requires c κs =
+    let cut = c .before .before .before .gather .ensures in
+    (omega (arith, cut .some, cut .within), omega (arith, cut .some, cut .within))
+
+add-t14 : tie.Need-add-t14
+add-t14 c = search needs
+
+same-length : tie.Need-same-length
+same-length c = search needs
+
+returns : tie.Need-returns
+returns c = apart (c .before .before .before)
+
+-- where nothing went before the pivot it stands first
+first : (c : tie.Else1)
+    → Parted 0 1 (c .before .before .before .before .before .before .before .before .before .before .before .before .args .part .now)
+    (c .before .before .before .exchange .last .0)
+first c =
+    let done = c .before .before .before in
+    let low = done .before .before .before .before .gather .result in
+    let none : low - 1 ≡ 0 = omega (arith, c .if1 .left) in
+    subst (λ (r : ℕ). Parted r (r + 1) (done .before .before .before .before .before .before .before .before .before .args .part .now) (done .exchange .last .0)) none (apart done)
+
+gather-requires-2 : tie.Need-gather-requires-2
+gather-requires-2 c κs = (omega (arith, first (c .before) .inside), all-above (c .before .before .before .before))
+
+same-length-2 : tie.Need-same-length-2
+same-length-2 c = search needs
+
+returns-2 : tie.Need-returns-2
+returns-2 c =
+    let least = c .before .before .before .before in
+    let equal = c .before .before .gather2 .ensures in
+    parted-from (first least .same) (parted-equal equal (omega arith) (lowest-of (all-above (least .before .before .before)) (first least)) refl)
+
+pub split-spec : {M : Type 1} → statement M
+split-spec =
+    tie.close
+    (tie.spec
+    pivot-place-requires
+    gather-requires
+    sub-place
+    exchange-requires
+    add-t14
+    same-length
+    returns
+    gather-requires-2
+    same-length-2
+    returns-2)
