@@ -262,6 +262,12 @@ pub(crate) fn weigh_block(
         let n = weigh_next(c, w, channels, count, block, map, dest, part, to, k);
         w = n.state;
         k = n.next;
+        // A second call keeps weigh_next a function of its own, whose sums the compiler does two channels at a time.
+        if k < channels {
+            let m = weigh_next(c, w, channels, count, block, map, dest, part, to, k);
+            w = m.state;
+            k = m.next;
+        }
     }
     w
 }

@@ -15,14 +15,28 @@ use Rattle.weighting.proofs.Destinations.{parts-end}
 use Rattle.weighting.proofs.block.weigh_block.Statement.{statement}
 use Rattle.weighting.proofs.block.weigh_block.Tie as tie
 
+module _ (a b block : List Float) (channels count part to : ℕ) (map : List ℕ) (v₀ dest₀ : List Float) where
+  -- the channels from k on are left
+  abbrev Left : List Float → ℕ → List Float → Type 0
+  Left v k dest =
+      (k ≤ channels)
+      × ((length dest ≡ length dest₀)
+      × ((overUsed (moves a block channels count) (drop k map) k v ≡ overUsed (moves a block channels count) map 0 v₀)
+      × ((overParts (writes a b v₀ block channels count) part to (drop k map) k dest ≡ overParts (writes a b v₀ block channels count) part to map 0 dest₀)
+      × ((j : ℕ) → k ≤ j → memoryOf v j ≡ memoryOf v₀ j))))
+
+  -- a call more
+  fewer : (v v′ : List Float) (k k′ : ℕ) (d d′ : List Float) → (k < k′) × (k′ ≤ channels) → length d′ ≡ length d
+      → overUsed (moves a block channels count) (drop k′ map) k′ v′ ≡ overUsed (moves a block channels count) (drop k map) k v
+      → ((u : List Float) → ((j : ℕ) → k ≤ j → memoryOf v j ≡ memoryOf u j)
+      → overParts (writes a b u block channels count) part to (drop k′ map) k′ d′ ≡ overParts (writes a b u block channels count) part to (drop k map) k d)
+      → ((j : ℕ) → k′ ≤ j → memoryOf v′ j ≡ memoryOf v j)
+      → Left v k d → Left v′ k′ d′
+  fewer v v′ k k′ d d′ on size e g m i =
+      (on .1, (size ∙ i .1 .0, (e ∙ i .1 .1 .0, (g v₀ (i .1 .1 .1 .1) ∙ i .1 .1 .1 .0, λ j h. m j h ∙ i .1 .1 .1 .1 j (omega (arith, on .0))))))
+
 abbrev Inv-loop : tie.InvT-loop
-Inv-loop c channels count block map dest₀ part to w₀ k₀ dest w k =
-    (k ≤ channels)
-    × ((length dest ≡ length dest₀)
-    × ((overUsed (moves (c .a) block channels count) (drop k map) k (w .values) ≡ overUsed (moves (c .a) block channels count) map 0 (w₀ .values))
-    × ((overParts (writes (c .a) (c .b) (w₀ .values) block channels count) part to (drop k map) k dest
-    ≡ overParts (writes (c .a) (c .b) (w₀ .values) block channels count) part to map 0 dest₀)
-    × ((j : ℕ) → k ≤ j → memoryOf (w .values) j ≡ memoryOf (w₀ .values) j))))
+Inv-loop c channels count block map dest₀ part to w₀ k₀ dest w k = Left (c .a) (c .b) block channels count part to map (w₀ .values) dest₀ (w .values) k dest
 
 abbrev μ-loop : tie.MeasureT-loop
 μ-loop c channels count block map dest₀ part to w₀ k₀ dest w k = channels - k
@@ -36,28 +50,42 @@ weigh-next-requires c κs =
     let s = q .before .before .before .before .before in
     (q .loop-test .taken, (s .pre .0, record { few = s .pre .1 .few; bytes = s .pre .1 .bytes; parts = s .pre .1 .parts ∙ sym (q .before .loop .inv .1 .0); fits = s .pre .1 .fits }))
 
+weigh-next-requires-2 : tie.Need-weigh-next-requires-2 Inv-loop μ-loop
+weigh-next-requires-2 c κs =
+    let q = c .before in
+    let w = q .before .before .before .before in
+    let l = w .before .before .before in
+    let s = l .before .before .before .before in
+    let p = s .pre .1 in (
+      q .if1 .taken,
+      (
+        s .pre .0,
+        record { few = p .few; bytes = p .bytes; parts = p .parts ∙ sym (w .weigh-next .kept .1 .1 .1 .1 .1 .1 .0 ∙ l .loop .inv .1 .0); fits = p .fits },
+      ),
+    )
+
 loop-less : tie.Need-loop-less Inv-loop μ-loop
-loop-less c = let w = c .before .before .before in omega (arith, w .weigh-next .ensures .0)
+loop-less c =
+    let t = c .before .before .before in
+    omega (arith, t .weigh-next2 .ensures .0, t .before .before .before .before .before .before .weigh-next .ensures .0)
 
 loop-again : tie.Need-loop-again Inv-loop μ-loop
 loop-again c =
-    let w = c .before .before .before in
-    let l = w .before .before .before .loop in
-    let a = w .before .before .before .before .before .before .before .args in
-    let i = l .inv .1 in
-    let e = w .weigh-next .ensures in (
-      e .0 .1,
-      (
-        w .weigh-next .kept .1 .1 .1 .1 .1 .1 .0 ∙ i .0,
-        (
-          e .1 .0 ∙ i .1 .0,
-          (
-            e .1 .1 .0 (a .s .values) (i .1 .1 .1) ∙ i .1 .1 .0,
-            λ j h. e .1 .1 .1 j h ∙ i .1 .1 .1 j (omega (arith, e .0 .0)),
-          ),
-        ),
-      ),
-    )
+    let t = c .before .before .before in
+    let w = t .before .before .before .before .before .before in
+    let e = t .weigh-next2 .ensures in
+    let f = w .weigh-next .ensures in
+    fewer _ _ _ _ _ _ _ _ _ _ _ _ _ _ _ _ (e .0) (t .weigh-next2 .kept .1 .1 .1 .1 .1 .1 .0) (e .1 .0) (e .1 .1 .0) (e .1 .1 .1)
+    (fewer _ _ _ _ _ _ _ _ _ _ _ _ _ _ _ _ (f .0) (w .weigh-next .kept .1 .1 .1 .1 .1 .1 .0) (f .1 .0) (f .1 .1 .0) (f .1 .1 .1) (w .before .before .before .loop .inv))
+
+loop-less-2 : tie.Need-loop-less-2 Inv-loop μ-loop
+loop-less-2 c = let w = c .before .before .before .before in omega (arith, w .weigh-next .ensures .0)
+
+loop-again-2 : tie.Need-loop-again-2 Inv-loop μ-loop
+loop-again-2 c =
+    let w = c .before .before .before .before in
+    let f = w .weigh-next .ensures in
+    fewer _ _ _ _ _ _ _ _ _ _ _ _ _ _ _ _ (f .0) (w .weigh-next .kept .1 .1 .1 .1 .1 .1 .0) (f .1 .0) (f .1 .1 .0) (f .1 .1 .1) (w .before .before .before .loop .inv)
 
 same-length : tie.Need-same-length Inv-loop μ-loop
 same-length c = c .before .loop .inv .1 .0
@@ -74,4 +102,17 @@ returns c =
     )
 
 pub weigh-block-spec : {M : Type 1} → statement M
-weigh-block-spec = tie.close (tie.spec Inv-loop μ-loop loop-holds weigh-next-requires loop-less loop-again same-length returns)
+weigh-block-spec =
+    tie.close
+    (tie.spec
+    Inv-loop
+    μ-loop
+    loop-holds
+    weigh-next-requires
+    weigh-next-requires-2
+    loop-less
+    loop-again
+    loop-less-2
+    loop-again-2
+    same-length
+    returns)
