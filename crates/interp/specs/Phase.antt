@@ -7,7 +7,6 @@ use lib.Dec.{eqb}
 use lib.ListN.{take, getD, replicate}
 use lib.Ieee.{Float, nan, add, mul, ofBits, binary32}
 use Rattle.interp.specs.declared.Interp.{Interp}
-use Rattle.interp.specs.declared.Twelve.{Twelve}
 use Rattle.interp.specs.declared.Four.{Four}
 use Rattle.interp.specs.declared.Two.{Two}
 use Rattle.interp.specs.Taps.{fourfold as fourfoldTaps, twofold as twofoldTaps, fourfoldAt, twofoldAt}
@@ -63,16 +62,8 @@ unfolding phasesByFrom
 phasesBy taps i history = phasesByFrom taps i history 0 (i .factor)
 
 -- ---- the code's types as lists
-abbrev pub listed : Twelve → List Float
-listed x = x .v0 ∷ x .v1 ∷ x .v2 ∷ x .v3 ∷ x .v4 ∷ x .v5 ∷ x .v6 ∷ x .v7 ∷ x .v8 ∷ x .v9 ∷ x .v10 ∷ x .v11 ∷ []
-
 abbrev pub four : Four → List Float
 four r = r .p0 ∷ r .p1 ∷ r .p2 ∷ r .p3 ∷ []
 
 abbrev pub two : Two → List Float
 two r = r .p0 ∷ r .p1 ∷ []
-
--- the sum carried on over twelve samples at once
-abbrev pub carriedOn : Float → Twelve → Twelve → Float
-carriedOn sum x c =
-    plus (plus (plus (plus (plus (plus (plus (plus (plus (plus (plus (plus sum (x .v0) (c .v0)) (x .v1) (c .v1)) (x .v2) (c .v2)) (x .v3) (c .v3)) (x .v4) (c .v4)) (x .v5) (c .v5)) (x .v6) (c .v6)) (x .v7) (c .v7)) (x .v8) (c .v8)) (x .v9) (c .v9)) (x .v10) (c .v10)) (x .v11) (c .v11)

@@ -2,7 +2,7 @@
 use filter::Filter;
 use filter::Filtered;
 use filter::Switches;
-use interp::Twelve;
+use phases::Twelve;
 use recurrence::Coefficients;
 use refusals::Answer;
 use sample_peak::Peaks;
@@ -188,13 +188,13 @@ fn twelve_at(case: &[u8], from: usize) -> Twelve {
 }
 
 fn fourfold_same(case: &[u8]) -> bool {
-    let p = interp::fourfold_phases(twelve_at(case, 2));
+    let p = phases::fourfold_phases(twelve_at(case, 2));
     let phases = [p.p0, p.p1, p.p2, p.p3];
     narrow_same(case, 98, 4, &phases)
 }
 
 fn twofold_same(case: &[u8]) -> bool {
-    let p = interp::twofold_phases(twelve_at(case, 2), twelve_at(case, 50));
+    let p = phases::twofold_phases(twelve_at(case, 2), twelve_at(case, 50));
     let phases = [p.p0, p.p1];
     narrow_same(case, 98, 2, &phases)
 }

@@ -1,4 +1,3 @@
 pub mod Written
 pub mod Exact
-pub mod Fill
 pub mod Columns

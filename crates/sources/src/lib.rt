@@ -23,13 +23,13 @@ pub fn fill(block: &mut [f64], ints: &[i16], floats: &[f32], at: usize)
         if floats.len() <= at {
             return;
         }
-        samples::fill_f64_f32(block, &floats[at..]);
+        fills::fill_f64_f32(block, &floats[at..]);
         return;
     }
     if ints.len() <= at {
         return;
     }
-    samples::fill_f64_i16(block, &ints[at..]);
+    fills::fill_f64_i16(block, &ints[at..]);
 }
 
 // The smaller: as many frames as a block has places for, or those that are left.

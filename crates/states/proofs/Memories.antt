@@ -11,7 +11,7 @@ use mathlib.Core.Bool.{Bool, true, false, cond}
 use lib.ListN.{length, getD, drop, drop-of-length-le, List·getD-eq-default}
 use lib.Seq.{sets, length-sets, set-getD, drop-cons}
 use lib.Ieee.{Float, nan}
-use Rattle.samples.proofs.Fill.{past-end}
+use Rattle.fills.proofs.Fill.{past-end}
 use Rattle.calls.specs.Calls.{mostChannels, used}
 use Rattle.sources.proofs.Stores.{sets-comm, sets-again, at-before, at-after, at-within}
 use Rattle.recurrence.specs.declared.Memory.{Memory}

@@ -56,7 +56,7 @@ fn hear(
     requires { ⌜ size ≤ length (now block) ⌝ }
     ensures { λ r. ⌜ r ≡ measured (kindOf rate) (record { channels = channels; samples = take size (drop from (samplesOf16 (now (ints .entry)))) }) t ⌝ }
 {
-    samples::fill_f32_i16(block, &ints[from..]);
+    fills::fill_f32_i16(block, &ints[from..]);
     let m = true_peak::process(rate, t, channels, &block[..size]);
     m.state
 }

@@ -1,9 +1,10 @@
 -- `exports_interp::xel_phases_fourfold` meets its contract: the phases are those of the twelve samples. Assumes nothing.
 use mathlib.Core.Path.{ap, _∙_}
 use borrow.Author.Needs.{needs}
-use Rattle.interp.specs.declared.Twelve.{Twelve}
+use Rattle.phases.specs.declared.Twelve.{Twelve}
 use Rattle.interp.specs.Interp.{fourfold}
-use Rattle.interp.specs.Phase.{phases, listed}
+use Rattle.interp.specs.Phase.{phases}
+use Rattle.phases.specs.Twelve.{listed}
 use Rattle.exports_interp.proofs.xel_phases_fourfold.Statement.{statement}
 use Rattle.exports_interp.proofs.xel_phases_fourfold.Tie as tie
 
