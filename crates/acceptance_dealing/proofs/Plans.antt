@@ -16,8 +16,10 @@ use Rattle.refusals.specs.Outcome.{Outcome, went, NoValues, done}
 use Rattle.histogram_bins.specs.Bin.{bins, binOf}
 use Rattle.histogram_bins.proofs.Bins.{bin-below}
 use Rattle.histogram_bins.specs.Energy.{dropped}
-use Rattle.histogram.specs.Histogram.{largestCount, empty, oneMore, addTo, room, mergeInto}
-use Rattle.histogram.proofs.Counters.{add-dropped, add-went, merge-went}
+use Rattle.histogram.specs.Histogram.{largestCount, empty, oneMore, addTo}
+use Rattle.histogram_merge.specs.Merge.{room, mergeInto}
+use Rattle.histogram.proofs.Counters.{add-dropped, add-went}
+use Rattle.histogram_merge.proofs.Cases.{merge-went}
 use Rattle.acceptance_dealing.specs.Dealing.{countIn, tally, countersOf, next, addEach, Plan, fresh, filled, merged, run, partsOf, inOneRun}
 use Rattle.acceptance_dealing.proofs.Tallies.{tally-length, tally-at, tally-empty, tally-sums, tally-is, tally-same}
 use Rattle.acceptance_dealing.proofs.Counts.{one, one-dropped, one-there, one-elsewhere, count-append, run-append}

@@ -14,7 +14,8 @@ use lib.Ieee.{Float}
 use Rattle.refusals.specs.Outcome.{Outcome, went, refused, NoValues, done, keptBy}
 use Rattle.histogram_bins.specs.Bin.{bins, binOf}
 use Rattle.histogram_bins.specs.Energy.{dropped}
-use Rattle.histogram.specs.Histogram.{largestCount, empty, addTo, mergeInto}
+use Rattle.histogram.specs.Histogram.{largestCount, empty, addTo}
+use Rattle.histogram_merge.specs.Merge.{mergeInto}
 use Rattle.history.specs.declared.set.Entry.{Entry}
 use Rattle.history.specs.declared.set.Shape.the-variants.{Histogram}
 use Rattle.history.specs.Set.{mostHistories, Histories, chosen}

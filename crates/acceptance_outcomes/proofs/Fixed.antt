@@ -9,9 +9,9 @@ use Rattle.refusals.specs.declared.Answer.{Answer}
 use Rattle.refusals.specs.declared.Answer.the-variants.{Done, Refused}
 use Rattle.refusals.specs.Outcome.{Outcome, Said, says, refusal, NoValues, done}
 use Rattle.refusals.specs.Answer.{said as saidAnswer}
-use Rattle.histogram_bins.specs.declared.Level.{Level}
-use Rattle.histogram_bins.specs.declared.Level.the-variants.{Tenths, Refused as Refused-level}
-use Rattle.histogram_bins.specs.Reading.{said as saidLevel}
+use Rattle.bin_search.specs.declared.Level.{Level}
+use Rattle.bin_search.specs.declared.Level.the-variants.{Tenths, Refused as Refused-level}
+use Rattle.bin_search.specs.Reading.{said as saidLevel}
 use Rattle.queue.specs.Queue.{Stored}
 use Rattle.blocks.specs.declared.Totals.{Totals}
 use Rattle.gate.specs.declared.Gated.{Gated}

@@ -8,7 +8,7 @@ use Prim.Native.Nat.{ℕ}
 use lib.Ieee.{Float}
 use Rattle.refusals.specs.Outcome.{Outcome, Said, saidBy, keptBy}
 use Rattle.refusals.specs.Answer.{said as saidAnswer}
-use Rattle.histogram_bins.specs.Reading.{said as saidLevel}
+use Rattle.bin_search.specs.Reading.{said as saidLevel}
 use Rattle.queue.specs.Queue.{Stored}
 use Rattle.gate.specs.Gate.{said as saidGated}
 use Rattle.gate.specs.GatedEnergy.{said as saidEnergy}

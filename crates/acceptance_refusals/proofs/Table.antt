@@ -8,10 +8,12 @@ use lib.ListN.{length, drop, set}
 use lib.Ieee.{Float, isNan}
 use Rattle.refusals.specs.Refusal.{STORE, FULL, SET, MODE, NONE, NAN, SCALE, ROOM}
 use Rattle.refusals.specs.Outcome.{Outcome, went, refused, Question, answers, NoValues, done}
-use Rattle.histogram_bins.specs.Reading.{offScale, readingOf, tenthsOf}
+use Rattle.bin_search.specs.Reading.{offScale, readingOf, tenthsOf}
 use Rattle.histogram_bins.specs.Energy.{dropped}
-use Rattle.histogram.specs.Histogram.{isHistogram, takesOne, oneMore, empty, room, sums, addTo, mergeInto, cleared}
-use Rattle.queue.specs.Queue.{Stored, over, suits, advanced, nextPlace, enqueued}
+use Rattle.histogram.specs.Histogram.{isHistogram, takesOne, oneMore, empty, sums, addTo, cleared}
+use Rattle.histogram_merge.specs.Merge.{room, mergeInto}
+use Rattle.queue.specs.Queue.{Stored, over, suits}
+use Rattle.queue_add.specs.Adding.{advanced, nextPlace, enqueued}
 use Rattle.history.specs.declared.set.Entry.{Entry}
 use Rattle.history.specs.Set.{mostHistories, Histories, chosen, historiesOf, shows, anyOutside, allSound, Verdict, sound, refusing, refusalOf, unlessRefused}
 use Rattle.blocks.specs.declared.Totals.{Totals}

@@ -9,10 +9,12 @@ use lib.Ieee.{Float, isNan, lt, le}
 use Rattle.refusals.specs.Refusal.{STORE, FULL, SET, MODE, NONE, NAN, SCALE, ROOM}
 use Rattle.tables.specs.Tables.{boundaryAt}
 use Rattle.histogram_bins.specs.Bin.{bins}
-use Rattle.histogram_bins.specs.Reading.{readingOf}
+use Rattle.bin_search.specs.Reading.{readingOf}
 use Rattle.histogram_bins.specs.Energy.{dropped}
-use Rattle.histogram.specs.Histogram.{isHistogram, takesOne, room, addTo, mergeInto, cleared}
-use Rattle.queue.specs.Queue.{Stored, suits, enqueued}
+use Rattle.histogram.specs.Histogram.{isHistogram, takesOne, addTo, cleared}
+use Rattle.histogram_merge.specs.Merge.{room, mergeInto}
+use Rattle.queue.specs.Queue.{Stored, suits}
+use Rattle.queue_add.specs.Adding.{enqueued}
 use Rattle.history.specs.declared.set.Entry.{Entry}
 use Rattle.history.specs.Set.{mostHistories, Histories, chosen, historiesOf, shows, anyOutside, allSound}
 use Rattle.blocks.specs.declared.Totals.{Totals}

@@ -130,7 +130,7 @@ pub fn start_bin(threshold: f64) -> usize
     if threshold < histogram_bins::lowest_boundary() {
         return 0;
     }
-    let bin = histogram_bins::find_histogram_index(threshold);
+    let bin = bin_search::find_histogram_index(threshold);
     if threshold > histogram_bins::energy(bin) {
         bin + 1
     } else {

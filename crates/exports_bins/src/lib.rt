@@ -2,9 +2,9 @@
 ghost use mathlib.Core.Path.{_≡_};
 ghost use Rattle.tables.specs.Tables.{boundaryAt, energyAt};
 ghost use Rattle.histogram_bins.specs.Bin.{binOf};
-ghost use Rattle.histogram_bins.specs.Reading.{readingOf};
+ghost use Rattle.bin_search.specs.Reading.{readingOf};
 ghost use Rattle.codes.specs.Codes.{code, valueOr};
-use histogram_bins::Level;
+use bin_search::Level;
 
 #[no_mangle]
 pub extern "C" fn xel_boundary(i: usize) -> f64
@@ -24,14 +24,14 @@ pub extern "C" fn xel_energy(i: usize) -> f64
 pub extern "C" fn xel_find_histogram_index(energy: f64) -> usize
     ensures { λ r. ⌜ r ≡ binOf energy ⌝ }
 {
-    histogram_bins::find_histogram_index(energy)
+    bin_search::find_histogram_index(energy)
 }
 
 #[no_mangle]
 pub extern "C" fn xel_reading(energy: f64, tenths: &mut i32) -> u8
     ensures { λ r. ⌜ (r ≡ code (readingOf energy)) × (now (tenths .exit) ≡ valueOr (now (tenths .entry)) (readingOf energy)) ⌝ }
 {
-    match histogram_bins::reading(energy) {
+    match bin_search::reading(energy) {
         Level::Tenths(t) => {
             *tenths = t;
             0

@@ -3,7 +3,8 @@ use Prim.Native.Nat.{ℕ}
 use mathlib.Core.List.{List}
 use lib.Ieee.{Float}
 use Rattle.refusals.specs.Outcome.{keptBy}
-use Rattle.queue.specs.Queue.{Stored, over, enqueued}
+use Rattle.queue.specs.Queue.{Stored, over}
+use Rattle.queue_add.specs.Adding.{enqueued}
 
 abbrev pub queueOver : ℕ → ℕ → ℕ → List Float → Stored
 queueOver maximum head held store = over (record { maximum = maximum; head = head; held = held }) store

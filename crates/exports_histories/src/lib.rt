@@ -2,8 +2,9 @@
 ghost use mathlib.Core.Path.{_≡_};
 ghost use Rattle.refusals.specs.Outcome.{keptBy};
 ghost use Rattle.codes.specs.Codes.{code};
-ghost use Rattle.histogram.specs.Histogram.{addTo, mergeInto, cleared};
-ghost use Rattle.queue.specs.Queue.{enqueued};
+ghost use Rattle.histogram.specs.Histogram.{addTo, cleared};
+ghost use Rattle.histogram_merge.specs.Merge.{mergeInto};
+ghost use Rattle.queue_add.specs.Adding.{enqueued};
 ghost use Rattle.exports_histories.specs.Queues.{queueOver, afterAdd};
 use codes::number_of;
 use queue::Queue;
@@ -21,7 +22,7 @@ pub extern "C" fn xel_histogram_merge(into: &mut [u32], from: &[u32]) -> u8
     ensures { λ r. ⌜ (r ≡ code (mergeInto (now (into .entry)) (now (from .entry))))
         × (now (into .exit) ≡ keptBy (now (into .entry)) (mergeInto (now (into .entry)) (now (from .entry)))) ⌝ }
 {
-    number_of(histogram::merge(into, from))
+    number_of(histogram_merge::merge(into, from))
 }
 
 #[no_mangle]
@@ -50,7 +51,7 @@ pub extern "C" fn xel_queue_add(
         head: *head,
         held: *held,
     };
-    let queued = given.add(store, energy);
+    let queued = queue_add::add(given, store, energy);
     let after = queued.queue;
     *head = after.head;
     *held = after.held;

@@ -9,9 +9,10 @@ use lib.ListN.{length, length-append}
 use lib.Ieee.{Float, binary64, add, lt}
 use Rattle.refusals.specs.Outcome.{Question}
 use Rattle.histogram_bins.specs.Energy.{dropped}
-use Rattle.queue.specs.Queue.{over, started, heldOf, fedTo, taken}
+use Rattle.queue.specs.Queue.{over, started, heldOf}
+use Rattle.queue_add.specs.Adding.{fedTo, taken}
 use Rattle.history.specs.Set.{History, listed}
-use Rattle.queue.proofs.Fed.{held-of-new}
+use Rattle.queue_add.proofs.Fed.{held-of-new}
 use Rattle.blocks.specs.declared.Totals.{Totals}
 use Rattle.blocks.specs.Totals.{none, withBlocks, energiesFrom}
 use Rattle.sums.specs.Sums.{allTotals}

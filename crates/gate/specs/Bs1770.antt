@@ -13,7 +13,8 @@ use lib.ListN.{length}
 use lib.Ieee.{Float, binary64, add, lt, eq, isNan, ofBits}
 use Rattle.refusals.specs.Outcome.{Question}
 use Rattle.tables.specs.Tables.{boundaryAt}
-use Rattle.queue.specs.Queue.{longest, over, started, heldOf, fedTo, taken}
+use Rattle.queue.specs.Queue.{longest, over, started, heldOf}
+use Rattle.queue_add.specs.Adding.{fedTo, taken}
 use Rattle.history.specs.Set.{History, listed}
 use Rattle.blocks.specs.declared.Totals.{Totals}
 use Rattle.gate.specs.Gate.{thresholdOf, someLeft, unlessNone, unlessNan}

@@ -1,7 +1,7 @@
--- What `addTo`, `mergeInto` and `cleared` come to, case by case. Each picks its case by tests on numbers, and each law settles those tests.
+-- What `addTo` and `cleared` come to, case by case. Each picks its case by tests on numbers, and each law settles those tests.
 -- Assumes nothing.
 use mathlib.Core.Path.{_≡_, ap, _∙_}
-use mathlib.Core.Bool.{true, false, _&&_, cond}
+use mathlib.Core.Bool.{true, false, cond}
 use mathlib.Core.List.{List, _++_, append-nil}
 use Prim.Native.Nat.{ℕ, _+_, _≤_, _<_}
 use borrow.Author.Tests.{eq-eqb, ne-eqb, le-leb, lt-leb}
@@ -12,7 +12,7 @@ use Rattle.refusals.specs.Refusal.{STORE, FULL}
 use Rattle.refusals.specs.Outcome.{went, refused, done}
 use Rattle.histogram_bins.specs.Bin.{bins, binOf}
 use Rattle.histogram_bins.specs.Energy.{dropped}
-use Rattle.histogram.specs.Histogram.{largestCount, empty, oneMore, addTo, sums, room, mergeInto, cleared}
+use Rattle.histogram.specs.Histogram.{largestCount, empty, oneMore, addTo, cleared}
 
 module _ (counters : List ℕ) (energy : Float) where
   pub add-store : (length counters ≡ bins → ⊥) → addTo counters energy ≡ refused STORE
@@ -50,20 +50,3 @@ all-zero counters n h e =
     ∙ ap {B = List ℕ} (λ (l : List ℕ). replicate (length counters) 0 ++ l) (drop-length counters)
     ∙ append-nil (replicate (length counters) 0)
     ∙ ap (λ (k : ℕ). replicate k 0) h
-
-module _ (into from : List ℕ) where
-  pub merge-store : (length into ≡ bins → ⊥) → mergeInto into from ≡ refused STORE
-  unfolding mergeInto
-  merge-store h = rw (ne-eqb (length into) bins h)
-
-  pub merge-store-from : length into ≡ bins → (length from ≡ bins → ⊥) → mergeInto into from ≡ refused STORE
-  unfolding mergeInto
-  merge-store-from h g = rw (eq-eqb (length into) bins h, ne-eqb (length from) bins g)
-
-  pub merge-full : length into ≡ bins → length from ≡ bins → room into from ≡ false → mergeInto into from ≡ refused FULL
-  unfolding mergeInto
-  merge-full h g f = rw (eq-eqb (length into) bins h, eq-eqb (length from) bins g, f)
-
-  pub merge-went : length into ≡ bins → length from ≡ bins → room into from ≡ true → mergeInto into from ≡ went (sums into from) done
-  unfolding mergeInto
-  merge-went h g f = rw (eq-eqb (length into) bins h, eq-eqb (length from) bins g, f)

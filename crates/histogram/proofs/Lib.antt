@@ -1,2 +1,2 @@
 pub mod Counters
-pub mod Merging
+pub mod Sums

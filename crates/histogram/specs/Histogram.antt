@@ -1,6 +1,6 @@
--- The histogram, 1,000 counters (01, step 7 and 'Merge'): what adding an energy comes to, merging one histogram into another, and clearing one.
+-- The histogram, 1,000 counters (01, step 7): what adding an energy comes to, and clearing one; and the sums of two histograms.
 use Prim.Native.Nat.{ℕ, _+_}
-use mathlib.Core.Bool.{Bool, true, false, _&&_, cond}
+use mathlib.Core.Bool.{Bool, cond}
 use mathlib.Core.List.{List, [], _∷_}
 use lib.Dec.{eqb, leb}
 use lib.ListN.{length, getD, set, replicate}
@@ -41,16 +41,6 @@ abbrev pub sums : List ℕ → List ℕ → List ℕ
 sums [] from = []
 sums (x ∷ into) [] = x ∷ into
 sums (x ∷ into) (y ∷ from) = (x + y) ∷ sums into from
-
--- no sum passes the largest count
-abbrev pub room : List ℕ → List ℕ → Bool
-room [] from = true
-room (x ∷ into) [] = true
-room (x ∷ into) (y ∷ from) = leb (x + y) largestCount && room into from
-
-unfoldable pub mergeInto : List ℕ → List ℕ → Outcome (List ℕ) NoValues
-mergeInto into from =
-    cond (isHistogram into && isHistogram from) (cond (room into from) (went (sums into from) done) (refused FULL)) (refused STORE)
 
 unfoldable pub cleared : List ℕ → Outcome (List ℕ) NoValues
 cleared counters = cond (isHistogram counters) (went empty done) (refused STORE)

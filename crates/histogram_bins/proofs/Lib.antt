@@ -1,5 +1,1 @@
 pub mod Bins
-pub mod Ends
-pub mod Between
-pub mod Halving
-pub mod Readings

@@ -1,3 +1,2 @@
 pub mod Bin
-pub mod Reading
 pub mod Energy

@@ -208,7 +208,7 @@ pub fn of_histograms(
 ) -> Range
     ensures { λ r. ⌜ said r ≡ saidBy (histogramRange (histories entries count (now (counters .entry)) (now (energies .entry)))) ⌝ }
 {
-    let refusal = history::set::checked(entries, count, counters, energies);
+    let refusal = sound_stores::checked(entries, count, counters, energies);
     if refusal != 0 {
         return Range::Refused(refusal);
     }

@@ -1,25 +1,9 @@
 // A set of histories, as a question takes it: up to 16 entries by value, over one lent slice of counters and one of energies. Entries may overlap or repeat.
 use queue::Queue;
 ghost use mathlib.Core.Path.{_≡_};
-ghost use mathlib.Core.Bool.{false, _&&_};
-ghost use Prim.Native.Nat.{ℕ, _+_, _≤_};
-ghost use lib.ListN.{length, take};
-ghost use Rattle.queue.specs.Queue.{suits, heldOf};
-ghost use Rattle.history.specs.Set.{
-  mostHistories,
-  histories,
-  queueAt,
-  storeEnd,
-  storesInside,
-  isOutside,
-  anyOutside,
-  outsideSet,
-  noneBelow,
-  isSound,
-  allSound,
-  refusalOf,
-  numbered,
-};
+ghost use Prim.Native.Nat.{_≤_};
+ghost use lib.ListN.{take};
+ghost use Rattle.history.specs.Set.{mostHistories, histories, isOutside, anyOutside, outsideSet};
 
 // The most histories of a set.
 pub const MOST: usize = 16;
@@ -73,67 +57,6 @@ fn any_outside(entries: [Entry; MOST], count: usize, counters: usize, energies: 
     false
 }
 
-// Whether none of these energies is below boundary 0. No turn branches, so that several are looked at in one step.
-pub fn none_below(part: &[f64]) -> bool
-    ensures { λ r. ⌜ r ≡ noneBelow (now (part .entry)) ⌝ }
-{
-    let least = histogram_bins::lowest_boundary();
-    let mut fine = true;
-    let mut i = 0;
-    while i < part.len() {
-        fine = fine & !(part[i] < least);
-        i += 1;
-    }
-    fine
-}
-
-// Whether a queue whose store starts there suits it and holds no energy below boundary 0.
-fn sound_queue(energies: &[f64], start: usize, queue: Queue) -> bool
-    requires { ⌜ start + queue .maximum ≤ length (now energies) ⌝ }
-    ensures { λ r. ⌜ r ≡ (suits queue (queue .maximum) && noneBelow (heldOf (queueAt (now (energies .entry)) start queue))) ⌝ }
-{
-    let head = queue.head;
-    let held = queue.held;
-    if queue.suits(queue.maximum) {
-        let first = queue.first_part();
-        let from = start + head;
-        let until = from + first;
-        let end = start + (held - first);
-        none_below(&energies[from..until]) & none_below(&energies[start..end])
-    } else {
-        false
-    }
-}
-
-// Whether the store of an entry that is inside its slice is as it has to be.
-fn sound(entry: Entry, energies: &[f64]) -> bool
-    requires { ⌜ storeEnd (entry .shape) ≤ length (now energies) ⌝ }
-    ensures { λ r. ⌜ r ≡ isSound (now (energies .entry)) entry ⌝ }
-{
-    let shape = entry.shape;
-    match shape {
-        Shape::Histogram(_) => true,
-        Shape::Queue(start, queue) => sound_queue(energies, start, queue),
-    }
-}
-
-// Whether the stores of the first `count` entries are.
-fn all_sound(entries: [Entry; MOST], count: usize, energies: &[f64]) -> bool
-    requires { ⌜ (count ≤ mostHistories) × (storesInside (length (now energies)) (take count entries)) ⌝ }
-    ensures { λ r. ⌜ r ≡ allSound (now (energies .entry)) (take count entries) ⌝ }
-{
-    let mut i = 0;
-    while i < count {
-        let entry = entries[i];
-        if sound(entry, energies) {
-            i += 1;
-        } else {
-            return false;
-        }
-    }
-    true
-}
-
 // Whether SET refuses a set: too many entries, or one that reaches outside.
 pub fn outside_set(entries: [Entry; MOST], count: usize, counters: &[u32], energies: &[f64]) -> bool
     ensures { λ r. ⌜ r ≡ outsideSet (histories entries count (now (counters .entry)) (now (energies .entry))) ⌝ }
@@ -142,18 +65,4 @@ pub fn outside_set(entries: [Entry; MOST], count: usize, counters: &[u32], energ
         return true;
     }
     any_outside(entries, count, counters.len(), energies.len())
-}
-
-// The number of the first refusal that a set of histories gets, or 0.
-pub fn checked(entries: [Entry; MOST], count: usize, counters: &[u32], energies: &[f64]) -> u8
-    ensures { λ r. ⌜ r ≡ numbered (refusalOf (histories entries count (now (counters .entry)) (now (energies .entry)))) ⌝ }
-{
-    if outside_set(entries, count, counters, energies) {
-        return refusals::SET;
-    }
-    if all_sound(entries, count, energies) {
-        0
-    } else {
-        refusals::STORE
-    }
 }

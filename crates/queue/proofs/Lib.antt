@@ -1,3 +1,2 @@
 pub mod Ring
 pub mod Held
-pub mod Fed

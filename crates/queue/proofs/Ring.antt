@@ -1,24 +1,17 @@
--- What `suits` says of a queue, and what `enqueued` comes to, case by case. Each picks its case by tests on numbers, and each law settles those tests.
--- Assumes nothing.
+-- What `suits` says of a queue: it is a test on numbers, and each part is a fact about them. Assumes nothing.
 use mathlib.Core.Path.{_≡_, refl, sym}
-use mathlib.Core.Bool.{Bool, true, false, _&&_, cond, true≢false}
-use mathlib.Core.List.{List}
-use Prim.Native.Nat.{ℕ, _+_, _%_, _≤_, _<_}
-use borrow.Author.Tests.{leb-true, ltb-true, eqb-true, le-leb, lt-ltb, le-ltb, eq-eqb}
+use mathlib.Core.Bool.{Bool, true, false, _&&_, true≢false}
+use Prim.Native.Nat.{ℕ, _≤_, _<_}
+use borrow.Author.Tests.{leb-true, ltb-true, eqb-true, le-leb, lt-ltb, eq-eqb}
 use lib.Dec.{eqb, leb, ltb}
-use lib.ListN.{length, set}
-use lib.Ieee.{Float}
-use Rattle.refusals.specs.Refusal.{STORE}
-use Rattle.refusals.specs.Outcome.{went, refused, done}
 use Rattle.queue.specs.declared.Queue.{Queue}
-use Rattle.histogram_bins.specs.Energy.{dropped}
-use Rattle.queue.specs.Queue.{longest, Stored, over, suits, nextPlace, advanced, enqueued}
+use Rattle.queue.specs.Queue.{longest, suits}
 
 both : (a b : Bool) → a && b ≡ true → (a ≡ true) × (b ≡ true)
 both true b h = (refl, h)
 both false b h = absurd (true≢false (sym h))
 
--- ---- a queue that suits a store of some length
+-- a queue that suits a store of some length
 pub record Suited (queue : Queue) (places : ℕ) : Type 0 where
   pub least : 1 ≤ queue .maximum
   pub most : queue .maximum ≤ longest
@@ -52,26 +45,3 @@ suits-it queue places s =
       lt-ltb (queue .head) (queue .maximum) (s .within),
       le-leb (queue .held) (queue .maximum) (s .full),
     )
-
--- ---- adding
-module _ (queue : Queue) (store : List Float) (energy : Float) where
-  pub enqueue-store : suits queue (length store) ≡ false → enqueued (over queue store) energy ≡ refused STORE
-  unfolding enqueued
-  enqueue-store h = rw h
-
-  pub enqueue-dropped : suits queue (length store) ≡ true → dropped energy ≡ true → enqueued (over queue store) energy ≡ went (over queue store) done
-  unfolding enqueued
-  enqueue-dropped h d = rw (h, d)
-
-  pub enqueue-went : suits queue (length store) ≡ true → dropped energy ≡ false
-      → enqueued (over queue store) energy ≡ went (over (advanced queue) (set store (nextPlace queue) energy)) done
-  unfolding enqueued
-  enqueue-went h d = rw (h, d)
-
-pub advance-more : (queue : Queue) → queue .held < queue .maximum
-    → advanced queue ≡ record { maximum = queue .maximum; head = queue .head; held = queue .held + 1 }
-advance-more queue h = rw (lt-ltb (queue .held) (queue .maximum) h)
-
-pub advance-full : (queue : Queue) → queue .maximum ≤ queue .held
-    → advanced queue ≡ record { maximum = queue .maximum; head = (queue .head + 1) % queue .maximum; held = queue .held }
-advance-full queue h = rw (le-ltb (queue .held) (queue .maximum) h)

@@ -1,11 +1,6 @@
 // The queue: the last energies, oldest first, in a lent store that is gone through round and round.
-use refusals::Answer;
 ghost use mathlib.Core.Path.{_≡_};
-ghost use Prim.Native.Nat.{_+_, _%_, _<_};
-ghost use lib.ListN.{length};
-ghost use Rattle.refusals.specs.Outcome.{saidBy, keptBy};
-ghost use Rattle.refusals.specs.Answer.{said};
-ghost use Rattle.queue.specs.Queue.{over, suits, enqueued, started, firstPart};
+ghost use Rattle.queue.specs.Queue.{suits, started, firstPart};
 
 // The longest queue: an hour of blocks, one every 100 ms.
 const LONGEST: usize = 36000;
@@ -15,24 +10,6 @@ pub struct Queue {
     pub maximum: usize,
     pub head: usize,
     pub held: usize,
-}
-
-// The answer of `add`, with the queue as it is afterwards.
-pub struct Queued {
-    pub answer: Answer,
-    pub queue: Queue,
-}
-
-// The place on the ring of a store: no more than one turn too far.
-fn on_ring(place: usize, maximum: usize) -> usize
-    requires { ⌜ place < maximum + maximum ⌝ }
-    ensures { λ r. ⌜ r ≡ place % maximum ⌝ }
-{
-    if place < maximum {
-        place
-    } else {
-        place - maximum
-    }
 }
 
 impl Queue {
@@ -82,48 +59,5 @@ impl Queue {
         }
         let room = self.maximum - self.head;
         if self.held <= room { self.held } else { room }
-    }
-
-    // The energy is the newest in the queue, and a full queue drops its oldest. Below boundary 0 the energy is dropped.
-    pub fn add(self, store: &mut [f64], energy: f64) -> Queued
-        ensures { λ r. ⌜ (said (r .answer) ≡ saidBy (enqueued (over self (now (store .entry))) energy))
-            × (over (r .queue) (now (store .exit)) ≡ keptBy (over self (now (store .entry))) (enqueued (over self (now (store .entry))) energy)) ⌝ }
-    {
-        if self.suits(store.len()) {
-            if energy < histogram_bins::lowest_boundary() {
-                return Queued {
-                    answer: Answer::Done,
-                    queue: self,
-                };
-            }
-            let maximum = self.maximum;
-            let head = self.head;
-            let held = self.held;
-            let place = on_ring(head + held, maximum);
-            store[place] = energy;
-            if held < maximum {
-                return Queued {
-                    answer: Answer::Done,
-                    queue: Queue {
-                        maximum,
-                        head,
-                        held: held + 1,
-                    },
-                };
-            }
-            Queued {
-                answer: Answer::Done,
-                queue: Queue {
-                    maximum,
-                    head: on_ring(head + 1, maximum),
-                    held,
-                },
-            }
-        } else {
-            Queued {
-                answer: Answer::Refused(refusals::STORE),
-                queue: self,
-            }
-        }
     }
 }

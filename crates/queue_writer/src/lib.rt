@@ -37,7 +37,7 @@ fn sound(queue: Queue, store: &[f64]) -> bool
         let first = queue.first_part();
         let until = head + first;
         let rest = held - first;
-        history::set::none_below(&store[head..until]) & history::set::none_below(&store[..rest])
+        sound_stores::none_below(&store[head..until]) & sound_stores::none_below(&store[..rest])
     } else {
         false
     }

@@ -60,7 +60,7 @@ pub fn loudness_range(
     if queues == count {
         return queue_range::of_queues(entries, count, counters, energies, work);
     }
-    let refusal = history::set::checked(entries, count, counters, energies);
+    let refusal = sound_stores::checked(entries, count, counters, energies);
     if refusal != 0 {
         return Range::Refused(refusal);
     }

@@ -1,6 +1,6 @@
 // Prints the reading of each energy on standard input: a line of tenths of a LUFS, or `refused` and the number.
 // An energy is the pattern of an f64, 8 bytes, low byte first.
-use histogram_bins::Level;
+use bin_search::Level;
 use libc::STDIN_FILENO;
 use libc::STDOUT_FILENO;
 
@@ -26,7 +26,7 @@ fn read_one() -> bool {
 }
 
 fn print_reading(energy: f64) {
-    match histogram_bins::reading(energy) {
+    match bin_search::reading(energy) {
         Level::Tenths(tenths) => print_tenths(tenths as i64),
         Level::Refused(number) => {
             io::write_all(STDOUT_FILENO, b"refused ");

@@ -87,7 +87,7 @@ fn merged(case: &[u8], into: &mut [u32], from: &[u32]) -> bool {
     if from.len() < length {
         return false;
     }
-    let answer = histogram::merge(into, &from[..length]);
+    let answer = histogram_merge::merge(into, &from[..length]);
     number_of(answer) == fields::number_at(case, 0, 2)
 }
 
@@ -149,7 +149,7 @@ fn all_queued(case: &[u8], store: &mut [f64]) -> bool {
     let mut at = 8;
     while at < 176 {
         let energy = floats::float_of(fields::number_at(case, at, 8));
-        let queued = queue.add(store, energy);
+        let queued = queue_add::add(queue, store, energy);
         let answer = queued.answer;
         queue = queued.queue;
         if !queued_same(case, at, answer, queue) {

@@ -4,7 +4,7 @@
 mod histories;
 mod questions;
 
-use histogram_bins::Level;
+use bin_search::Level;
 use libc::STDIN_FILENO;
 use libc::STDOUT_FILENO;
 
@@ -126,7 +126,7 @@ fn table_same(case: &[u8]) -> bool {
 // u64 pattern of the energy, u16 bin
 fn bin_same(case: &[u8]) -> bool {
     let energy = floats::float_of(fields::number_at(case, 0, 8));
-    histogram_bins::find_histogram_index(energy) as u64 == fields::number_at(case, 8, 2)
+    bin_search::find_histogram_index(energy) as u64 == fields::number_at(case, 8, 2)
 }
 
 // u64 pattern of the energy, u16 refusal (0 where there is none), u16 tenths above -700
@@ -134,7 +134,7 @@ fn reading_same(case: &[u8]) -> bool {
     let energy = floats::float_of(fields::number_at(case, 0, 8));
     let refusal = fields::number_at(case, 8, 2);
     let above = fields::number_at(case, 10, 2);
-    match histogram_bins::reading(energy) {
+    match bin_search::reading(energy) {
         Level::Tenths(tenths) => refusal == 0 && tenths == from_lowest(above),
         Level::Refused(number) => refusal == number as u64,
     }

@@ -61,8 +61,8 @@ fn figures(counters: &[u32]) -> Summary
     let mut work = [0.0f64; 0];
     match range::loudness_range(entries, 1, counters, &energies, &mut work) {
         Range::Found(low, high) => {
-            let low = histogram_bins::find_histogram_index(low);
-            let high = histogram_bins::find_histogram_index(high);
+            let low = bin_search::find_histogram_index(low);
+            let high = bin_search::find_histogram_index(high);
             Summary::Ranged {
                 blocks,
                 low,

@@ -2,7 +2,7 @@
 use mathlib.Core.Path.{_∙_}
 use borrow.Author.Needs.{needs}
 use denote.Ref.{now}
-use Rattle.histogram.specs.Histogram.{mergeInto}
+use Rattle.histogram_merge.specs.Merge.{mergeInto}
 use Rattle.codes.proofs.Told.{answer-told}
 use Rattle.exports_histories.proofs.xel_histogram_merge.Statement.{statement}
 use Rattle.exports_histories.proofs.xel_histogram_merge.Tie as tie

@@ -2,7 +2,8 @@
 use mathlib.Core.Path.{ap, _∙_}
 use borrow.Author.Needs.{needs}
 use denote.Ref.{now}
-use Rattle.queue.specs.Queue.{Stored, enqueued}
+use Rattle.queue.specs.Queue.{Stored}
+use Rattle.queue_add.specs.Adding.{enqueued}
 use Rattle.exports_histories.specs.Queues.{queueOver}
 use Rattle.codes.proofs.Told.{answer-told}
 use Rattle.exports_histories.proofs.xel_queue_add.Statement.{statement}

@@ -7,7 +7,7 @@ use borrow.Author.Needs.{needs}
 use lib.Ieee.{div, ofBits}
 use Rattle.tables.specs.Tables.{boundaryAt}
 use Rattle.tables.proofs.Rules.{boundary-past}
-use Rattle.tables.proofs.Rows.{boundary-entry}
+use Rattle.boundary_rows.proofs.BoundaryRows.{boundary-entry}
 use Rattle.histogram_bins.proofs.boundary.Statement.{statement}
 use Rattle.histogram_bins.proofs.boundary.Tie as tie
 

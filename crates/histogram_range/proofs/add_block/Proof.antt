@@ -5,7 +5,7 @@ use native.Mathlib.Omega.{arith}
 use denote.Ref.{now}
 use lib.ListN.{length, length-set, getD, set}
 use Rattle.histogram_bins.specs.Bin.{bins}
-use Rattle.histogram.proofs.Merging.{sumsFirst, sums-all, sums-read, sums-turn}
+use Rattle.histogram.proofs.Sums.{sumsFirst, sums-all, sums-read, sums-turn}
 use borrow.Author.Needs.{needs}
 use Rattle.histogram_range.proofs.add_block.Statement.{statement}
 use Rattle.histogram_range.proofs.add_block.Tie as tie

@@ -2,7 +2,7 @@
 use native.Mathlib.Omega.{arith}
 use mir.Syntax.{w32}
 use mir.ValLaws.{toZ-pos}
-use Rattle.histogram_bins.proofs.Readings.{tenths-fit}
+use Rattle.bin_search.proofs.Readings.{tenths-fit}
 use Rattle.replay.proofs.from_lowest.Statement.{statement}
 use Rattle.replay.proofs.from_lowest.Tie as tie
 

@@ -1,0 +1,4 @@
+pub mod Ends
+pub mod Between
+pub mod Halving
+pub mod Readings

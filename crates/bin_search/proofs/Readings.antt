@@ -1,0 +1,52 @@
+-- The reading by its cases: each test that puts an energy off the scale, and the tenths of one that is on it. Assumes nothing.
+use mathlib.Core.Path.{_≡_, refl, ap, _∙_}
+use mathlib.Core.Bool.{Bool, true, false, _||_, cond}
+use Prim.Native.Nat.{ℕ, suc, _-_, _<_, _≤_, _^_}
+use native.Mathlib.Omega.{arith}
+use lib.Dec.{ltb}
+use lib.IntN.{ℤ, pos, negsuc, _+ℤ_}
+use lib.Signed.{mag}
+use lib.Ieee.{Float, lt, le, isNan}
+use mir.Syntax.{w32}
+use mir.Val.{SFits}
+use Rattle.refusals.specs.Refusal.{SCALE}
+use Rattle.refusals.specs.Outcome.{refused, answers}
+use Rattle.tables.specs.Tables.{boundaryAt}
+use Rattle.bin_search.specs.Reading.{offScale, readingOf, tenthsOf}
+
+or-true : (a : Bool) → a || true ≡ true
+or-true true = refl
+or-true false = refl
+
+module _ (energy : Float) where
+  pub off-scale : offScale energy ≡ true → readingOf energy ≡ refused SCALE
+  unfolding readingOf
+  off-scale h = rw h
+
+  pub on-scale : offScale energy ≡ false → readingOf energy ≡ answers (tenthsOf energy)
+  unfolding readingOf
+  on-scale h = rw h
+
+  pub nan-off : isNan energy ≡ true → offScale energy ≡ true
+  unfolding offScale
+  nan-off h = rw h
+
+  pub low-off : lt energy (boundaryAt 0) ≡ true → offScale energy ≡ true
+  unfolding offScale
+  low-off h = rw h (or-true (isNan energy))
+
+  pub high-off : le (boundaryAt 1000) energy ≡ true → offScale energy ≡ true
+  unfolding offScale
+  high-off h = rw (h, or-true (lt energy (boundaryAt 0))) (or-true (isNan energy))
+
+  pub none-off : isNan energy ≡ false → lt energy (boundaryAt 0) ≡ false → le (boundaryAt 1000) energy ≡ false → offScale energy ≡ false
+  unfolding offScale
+  none-off h k l = rw (h, k, l)
+
+-- the tenths fit an i32, those of boundary 1000 too
+pub tenths-fit : (bin : ℕ) → bin ≤ 1000 → SFits w32 (negsuc 699 +ℤ pos bin)
+tenths-fit bin h = go (ltb bin 700)
+  where
+    go : (b : Bool) → SFits w32 (cond b (negsuc (700 - suc bin)) (pos (bin - 700)))
+    go true = record { sfits = omega arith }
+    go false = record { sfits = omega arith }

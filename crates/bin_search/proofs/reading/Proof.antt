@@ -1,0 +1,71 @@
+-- `bin_search::reading` meets its contract: each refusing test puts the energy off the scale, and past all three it is on it.
+-- Assumes nothing.
+use mathlib.Core.Path.{_≡_, sym, ap, _∙_}
+use mathlib.Core.Bool.{false}
+use Prim.Native.Nat.{_<_}
+use borrow.Author.Needs.{needs}
+use native.Mathlib.Nat.{le-of-lt}
+use native.Mathlib.Omega.{arith}
+use lib.Ieee.{Float, lt, le}
+use lib.IntN.{negsuc, pos, _+ℤ_}
+use mir.Syntax.{w32}
+use mir.Val.{SFits, toZ}
+use mir.ValLaws.{toZ-ofZ, toZ-pos}
+use Rattle.refusals.specs.Outcome.{saidBy}
+use Rattle.floats.proofs.Nan.{differs}
+use Rattle.bin_search.specs.Reading.{readingOf}
+use Rattle.histogram_bins.proofs.Bins.{bin-below}
+use Rattle.bin_search.proofs.Readings.{off-scale, on-scale, nan-off, low-off, high-off, none-off, tenths-fit}
+use Rattle.bin_search.proofs.reading.Statement.{statement}
+use Rattle.bin_search.proofs.reading.Tie as tie
+
+returns : tie.Need-returns
+returns c = let e = c .before .args .energy in rw (off-scale e (nan-off e (sym (differs e) ∙ c .if1 .taken)))
+
+lowest-boundary-requires : tie.Need-lowest-boundary-requires
+lowest-boundary-requires c κs = search needs
+
+returns-2 : tie.Need-returns-2
+returns-2 c =
+    let e = c .before .before .before .args .energy in
+    rw (off-scale e (low-off e (ap (lt e) (sym (c .before .lowest-boundary .ensures)) ∙ c .if2 .taken)))
+
+highest-boundary-requires : tie.Need-highest-boundary-requires
+highest-boundary-requires c κs = search needs
+
+returns-3 : tie.Need-returns-3
+returns-3 c =
+    let e = c .before .before .before .before .before .args .energy in
+    rw (off-scale e (high-off e (ap (λ (b : Float). le b e) (sym (c .before .highest-boundary .ensures)) ∙ c .if3 .taken)))
+
+find-histogram-index-requires : tie.Need-find-histogram-index-requires
+find-histogram-index-requires c κs = search needs
+
+small : (c : tie.After-find-histogram-index) → c .find-histogram-index .result < 1000
+small c = omega (arith, c .find-histogram-index .ensures, bin-below (c .before .before .before .before .before .before .args .energy))
+
+cast-t5 : tie.Need-cast-t5
+cast-t5 c = record { sfits = omega (arith, small c) }
+
+signed : (c : tie.After-find-histogram-index) → toZ w32 (c .find-histogram-index .result) ≡ pos (c .find-histogram-index .result)
+signed c = toZ-pos w32 (c .find-histogram-index .result) (omega (arith, small c))
+
+add-t6 : tie.Need-add-t6
+add-t6 c = rw (signed c) (tenths-fit (c .find-histogram-index .result) (le-of-lt (small c)))
+
+returns-4 : tie.Need-returns-4
+returns-4 c =
+    let e = c .before .before .before .before .before .before .args .energy in
+    let bin = c .find-histogram-index .result in
+    rw (
+      on-scale e (none-off e (sym (differs e) ∙ c .before .before .before .before .before .if1 .left)
+          (ap (lt e) (sym (c .before .before .before .before .lowest-boundary .ensures)) ∙ c .before .before .before .if2 .left)
+          (ap (λ (b : Float). le b e) (sym (c .before .before .highest-boundary .ensures)) ∙ c .before .if3 .left)),
+      signed c,
+      toZ-ofZ w32 (negsuc 699 +ℤ pos bin) (tenths-fit bin (le-of-lt (small c))),
+      ← c .find-histogram-index .ensures,
+    )
+
+pub reading-spec : {M : Type 1} → statement M
+reading-spec =
+    tie.close (tie.spec returns lowest-boundary-requires returns-2 highest-boundary-requires returns-3 find-histogram-index-requires cast-t5 add-t6 returns-4)

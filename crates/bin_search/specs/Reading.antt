@@ -1,0 +1,29 @@
+-- The reading of an energy (01, 'Added by us'): "-700 + its bin, in tenths", and SCALE "of NaN, below boundary 0, or at or above boundary 1000".
+use mathlib.Core.Bool.{Bool, _||_, cond}
+use lib.IntN.{ℤ, pos, negℤ, _+ℤ_}
+use lib.Ieee.{Float, lt, le, isNan}
+use Rattle.refusals.specs.Refusal.{SCALE}
+use Rattle.refusals.specs.Outcome.{Question, answers, refused, Said, says, refusal}
+use Rattle.bin_search.specs.declared.Level.{Level}
+use Rattle.bin_search.specs.declared.Level.the-variants.{Tenths, Refused}
+use Rattle.tables.specs.Tables.{boundaryAt}
+use Rattle.histogram_bins.specs.Bin.{binOf, bins}
+
+-- the reading of bin 0, in tenths: -70.0 LUFS
+abbrev pub lowest : ℤ
+lowest = negℤ (pos 700)
+
+unfoldable pub offScale : Float → Bool
+offScale energy = isNan energy || (lt energy (boundaryAt 0) || le (boundaryAt bins) energy)
+
+-- the tenths of an energy that is on the scale
+abbrev pub tenthsOf : Float → ℤ
+tenthsOf energy = lowest +ℤ pos (binOf energy)
+
+unfoldable pub readingOf : Float → Question ℤ
+readingOf energy = cond (offScale energy) (refused SCALE) (answers (tenthsOf energy))
+
+-- what each case of `Level` says
+abbrev pub said : Level → Said ℤ
+said (Tenths t) = says t
+said (Refused n) = refusal n

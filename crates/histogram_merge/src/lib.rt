@@ -1,0 +1,53 @@
+// One histogram added to another, bin by bin, where every bin has room.
+use refusals::Answer;
+ghost use mathlib.Core.Path.{_≡_};
+ghost use mathlib.Core.Bool.{true};
+ghost use lib.ListN.{length};
+ghost use Rattle.refusals.specs.Outcome.{saidBy, keptBy};
+ghost use Rattle.refusals.specs.Answer.{said};
+ghost use Rattle.histogram.specs.Histogram.{sums};
+ghost use Rattle.histogram_merge.specs.Merge.{room, mergeInto};
+
+// Whether no two counters add up to more than the largest count. No turn branches, so that several bins are looked at in one step.
+fn has_room(into: &[u32], from: &[u32]) -> bool
+    requires { ⌜ length (now into) ≡ length (now from) ⌝ }
+    ensures { λ r. ⌜ r ≡ room (now (into .entry)) (now (from .entry)) ⌝ }
+{
+    let mut fits = true;
+    let mut bin = 0;
+    while bin < into.len() {
+        fits = fits & (from[bin] <= histogram::LARGEST_COUNT - into[bin]);
+        bin += 1;
+    }
+    fits
+}
+
+fn add_all(into: &mut [u32], from: &[u32])
+    requires { ⌜ (length (now into) ≡ length (now from)) × (room (now into) (now from) ≡ true) ⌝ }
+    ensures { λ _. ⌜ now (into .exit) ≡ sums (now (into .entry)) (now (from .entry)) ⌝ }
+{
+    let mut bin = 0;
+    while bin < into.len() {
+        into[bin] = into[bin] + from[bin];
+        bin += 1;
+    }
+}
+
+// The counters of `from` are added to those of `into`, or none is.
+pub fn merge(into: &mut [u32], from: &[u32]) -> Answer
+    ensures { λ r. ⌜ (said r ≡ saidBy (mergeInto (now (into .entry)) (now (from .entry))))
+        × (now (into .exit) ≡ keptBy (now (into .entry)) (mergeInto (now (into .entry)) (now (from .entry)))) ⌝ }
+{
+    if into.len() != histogram_bins::BINS {
+        return Answer::Refused(refusals::STORE);
+    }
+    if from.len() != histogram_bins::BINS {
+        return Answer::Refused(refusals::STORE);
+    }
+    if has_room(into, from) {
+        add_all(into, from);
+        Answer::Done
+    } else {
+        Answer::Refused(refusals::FULL)
+    }
+}

@@ -1,0 +1,3 @@
+pub mod Adding
+pub mod Newest
+pub mod Fed

@@ -1,0 +1,70 @@
+// An energy added to a queue.
+use queue::Queue;
+use refusals::Answer;
+ghost use mathlib.Core.Path.{_≡_};
+ghost use Prim.Native.Nat.{_+_, _%_, _<_};
+ghost use Rattle.refusals.specs.Outcome.{saidBy, keptBy};
+ghost use Rattle.refusals.specs.Answer.{said};
+ghost use Rattle.queue.specs.Queue.{over};
+ghost use Rattle.queue_add.specs.Adding.{enqueued};
+
+// The answer of `add`, with the queue as it is afterwards.
+pub struct Queued {
+    pub answer: Answer,
+    pub queue: Queue,
+}
+
+// The place on the ring of a store: no more than one turn too far.
+fn on_ring(place: usize, maximum: usize) -> usize
+    requires { ⌜ place < maximum + maximum ⌝ }
+    ensures { λ r. ⌜ r ≡ place % maximum ⌝ }
+{
+    if place < maximum {
+        place
+    } else {
+        place - maximum
+    }
+}
+
+// The energy is the newest in the queue, and a full queue drops its oldest. Below boundary 0 the energy is dropped.
+pub fn add(queue: Queue, store: &mut [f64], energy: f64) -> Queued
+    ensures { λ r. ⌜ (said (r .answer) ≡ saidBy (enqueued (over queue (now (store .entry))) energy))
+        × (over (r .queue) (now (store .exit)) ≡ keptBy (over queue (now (store .entry))) (enqueued (over queue (now (store .entry))) energy)) ⌝ }
+{
+    if queue.suits(store.len()) {
+        if energy < histogram_bins::lowest_boundary() {
+            return Queued {
+                answer: Answer::Done,
+                queue,
+            };
+        }
+        let maximum = queue.maximum;
+        let head = queue.head;
+        let held = queue.held;
+        let place = on_ring(head + held, maximum);
+        store[place] = energy;
+        if held < maximum {
+            return Queued {
+                answer: Answer::Done,
+                queue: Queue {
+                    maximum,
+                    head,
+                    held: held + 1,
+                },
+            };
+        }
+        Queued {
+            answer: Answer::Done,
+            queue: Queue {
+                maximum,
+                head: on_ring(head + 1, maximum),
+                held,
+            },
+        }
+    } else {
+        Queued {
+            answer: Answer::Refused(refusals::STORE),
+            queue,
+        }
+    }
+}

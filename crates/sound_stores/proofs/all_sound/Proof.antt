@@ -1,0 +1,84 @@
+-- `sound_stores::all_sound` meets its contract. The invariant: the entries from `i` on give what all give, so each before is sound.
+-- Assumes nothing.
+use Prim.Native.Nat.{ℕ, _+_, _-_, _≤_}
+use native.Mathlib.Omega.{arith}
+use mathlib.Core.Path.{_≡_, refl, sym, ap, _∙_}
+use mathlib.Core.Bool.{true, false}
+use borrow.Author.Needs.{needs}
+use denote.Ref.{now}
+use lib.ListN.{length, getD, take, drop}
+use Rattle.history.specs.Set.{isSound, allSound, storesInside}
+use Rattle.history.proofs.Entries.{past-the-last, all-found, all-passed, all-end, inside-first}
+use Rattle.sound_stores.proofs.all_sound.Statement.{statement}
+use Rattle.sound_stores.proofs.all_sound.Tie as tie
+
+abbrev Inv-loop : tie.InvT-loop
+Inv-loop count energies entries i₀ i =
+    (i ≤ count)
+    × (allSound energies (drop i (take count entries)) ≡ allSound energies (take count entries))
+    × storesInside (length energies) (drop i (take count entries))
+
+abbrev μ-loop : tie.MeasureT-loop
+μ-loop count energies entries i₀ i = count - i
+
+loop-holds : tie.Need-loop-holds Inv-loop μ-loop
+loop-holds c = (omega arith, refl, c .before .pre .1)
+
+mul-entry : tie.Need-mul-entry Inv-loop μ-loop
+mul-entry c = search needs
+
+array-copy-out-entry : tie.Need-array-copy-out-entry Inv-loop μ-loop
+array-copy-out-entry c = search needs
+
+sound-requires : tie.Need-sound-requires Inv-loop μ-loop
+sound-requires c κs =
+    let l = c .before .before in
+    let a = l .before .before .args in
+    inside-first (now (a .energies)) (a .t1) (a .count) (l .loop .i) (omega arith) (omega arith) (l .loop .inv .2) .0
+
+add-i : tie.Need-add-i Inv-loop μ-loop
+add-i c = search needs
+
+loop-less : tie.Need-loop-less Inv-loop μ-loop
+loop-less c = search needs
+
+loop-again : tie.Need-loop-again Inv-loop μ-loop
+loop-again c =
+    let l = c .before .before .before .before in
+    let a = l .before .before .args in
+    let energies = now (a .energies) in
+    let here : isSound energies (getD (a .t1) (l .loop .i) past-the-last) ≡ true = sym (c .before .sound .ensures) ∙ c .if1 .taken in (
+      omega arith,
+      sym (all-passed energies (a .t1) (a .count) (l .loop .i) (omega arith) (omega arith) here) ∙ l .loop .inv .1,
+      inside-first energies (a .t1) (a .count) (l .loop .i) (omega arith) (omega arith) (l .loop .inv .2) .1,
+    )
+
+returns : tie.Need-returns Inv-loop μ-loop
+returns c =
+    let l = c .before .before .before .before in
+    let a = l .before .before .args in
+    let energies = now (a .energies) in
+    let here : isSound energies (getD (a .t1) (l .loop .i) past-the-last) ≡ false = sym (c .before .sound .ensures) ∙ c .if1 .left in
+    sym (sym (l .loop .inv .1) ∙ all-found energies (a .t1) (a .count) (l .loop .i) (omega arith) (omega arith) here)
+
+returns-2 : tie.Need-returns-2 Inv-loop μ-loop
+returns-2 c =
+    let l = c .before in
+    let a = l .before .before .args in
+    sym (sym (l .loop .inv .1) ∙ all-end (now (a .energies)) (a .t1) (a .count) (l .loop .i) (omega arith))
+
+pub all-sound-spec : {M : Type 1} → statement M
+all-sound-spec =
+    tie.close
+    (tie.spec
+    Inv-loop
+    μ-loop
+    loop-holds
+    mul-entry
+    array-copy-out-entry
+    sound-requires
+    add-i
+    loop-less
+    loop-again
+    returns
+    returns-2)

@@ -1,0 +1,68 @@
+-- `sound_stores::none_below` meets its contract. The invariant: what was found before `i`, with what the energies from there on give, is what all give.
+-- Assumes nothing.
+use Prim.Native.Nat.{ℕ, _+_, _-_, _≤_}
+use native.Mathlib.Omega.{arith}
+use mathlib.Core.Path.{_≡_, refl, sym, ap, _∙_}
+use mathlib.Core.Bool.{not, _&&_}
+use borrow.Author.Needs.{needs}
+use denote.Ref.{now}
+use lib.Ieee.{Float, nan, lt}
+use lib.ListN.{length, getD, drop}
+use Rattle.history.specs.Set.{noneBelow}
+use Rattle.history.proofs.Entries.{below-turn, below-end}
+use Rattle.sound_stores.proofs.none_below.Statement.{statement}
+use Rattle.sound_stores.proofs.none_below.Tie as tie
+
+abbrev Inv-loop : tie.InvT-loop
+Inv-loop part least fine₀ i₀ fine i = (i ≤ length part) × (fine && noneBelow (drop i part) ≡ noneBelow part)
+
+abbrev μ-loop : tie.MeasureT-loop
+μ-loop part least fine₀ i₀ fine i = length part - i
+
+lowest-boundary-requires : tie.Need-lowest-boundary-requires Inv-loop μ-loop
+lowest-boundary-requires c κs = search needs
+
+loop-holds : tie.Need-loop-holds Inv-loop μ-loop
+loop-holds c = (omega arith, refl)
+
+mul-fine : tie.Need-mul-fine Inv-loop μ-loop
+mul-fine c = search needs
+
+shared-slice-read-fine : tie.Need-shared-slice-read-fine Inv-loop μ-loop
+shared-slice-read-fine c = search needs
+
+add-i : tie.Need-add-i Inv-loop μ-loop
+add-i c = search needs
+
+loop-less : tie.Need-loop-less Inv-loop μ-loop
+loop-less c = search needs
+
+loop-again : tie.Need-loop-again Inv-loop μ-loop
+loop-again c =
+    let l = c .before .before in
+    let part = now (l .before .before .before .args .part) in (
+      omega arith,
+      ap (λ (least : Float). (l .loop .fine && not (lt (getD part (l .loop .i) nan) least)) && noneBelow (drop (l .loop .i + 1) part)) (l .before .lowest-boundary .ensures)
+          ∙ below-turn part (l .loop .fine) (l .loop .i) nan (omega arith)
+          ∙ l .loop .inv .1,
+    )
+
+returns : tie.Need-returns Inv-loop μ-loop
+returns c =
+    let l = c .before in
+    sym (below-end (now (l .before .before .before .args .part)) (l .loop .fine) (l .loop .i) (omega arith)) ∙ l .loop .inv .1
+
+pub none-below-spec : {M : Type 1} → statement M
+none-below-spec =
+    tie.close
+    (tie.spec
+    Inv-loop
+    μ-loop
+    lowest-boundary-requires
+    loop-holds
+    mul-fine
+    shared-slice-read-fine
+    add-i
+    loop-less
+    loop-again
+    returns)

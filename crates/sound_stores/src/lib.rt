@@ -1,0 +1,97 @@
+// What refuses a set of histories: after SET, which `history` asks, STORE, entry by entry. A store is sound where it suits its queue and holds no energy below boundary 0.
+use history::set::Entry;
+use history::set::MOST;
+use history::set::Shape;
+use queue::Queue;
+ghost use mathlib.Core.Path.{_≡_};
+ghost use mathlib.Core.Bool.{_&&_};
+ghost use Prim.Native.Nat.{_+_, _≤_};
+ghost use lib.ListN.{length, take};
+ghost use Rattle.queue.specs.Queue.{suits, heldOf};
+ghost use Rattle.history.specs.Set.{
+  mostHistories,
+  histories,
+  queueAt,
+  storeEnd,
+  storesInside,
+  noneBelow,
+  isSound,
+  allSound,
+  refusalOf,
+  numbered,
+};
+
+// Whether none of these energies is below boundary 0. No turn branches, so that several are looked at in one step.
+pub fn none_below(part: &[f64]) -> bool
+    ensures { λ r. ⌜ r ≡ noneBelow (now (part .entry)) ⌝ }
+{
+    let least = histogram_bins::lowest_boundary();
+    let mut fine = true;
+    let mut i = 0;
+    while i < part.len() {
+        fine = fine & !(part[i] < least);
+        i += 1;
+    }
+    fine
+}
+
+// Whether a queue whose store starts there suits it and holds no energy below boundary 0.
+fn sound_queue(energies: &[f64], start: usize, queue: Queue) -> bool
+    requires { ⌜ start + queue .maximum ≤ length (now energies) ⌝ }
+    ensures { λ r. ⌜ r ≡ (suits queue (queue .maximum) && noneBelow (heldOf (queueAt (now (energies .entry)) start queue))) ⌝ }
+{
+    let head = queue.head;
+    let held = queue.held;
+    if queue.suits(queue.maximum) {
+        let first = queue.first_part();
+        let from = start + head;
+        let until = from + first;
+        let end = start + (held - first);
+        none_below(&energies[from..until]) & none_below(&energies[start..end])
+    } else {
+        false
+    }
+}
+
+// Whether the store of an entry that is inside its slice is as it has to be.
+fn sound(entry: Entry, energies: &[f64]) -> bool
+    requires { ⌜ storeEnd (entry .shape) ≤ length (now energies) ⌝ }
+    ensures { λ r. ⌜ r ≡ isSound (now (energies .entry)) entry ⌝ }
+{
+    let shape = entry.shape;
+    match shape {
+        Shape::Histogram(_) => true,
+        Shape::Queue(start, queue) => sound_queue(energies, start, queue),
+    }
+}
+
+// Whether the stores of the first `count` entries are.
+fn all_sound(entries: [Entry; MOST], count: usize, energies: &[f64]) -> bool
+    requires { ⌜ (count ≤ mostHistories) × (storesInside (length (now energies)) (take count entries)) ⌝ }
+    ensures { λ r. ⌜ r ≡ allSound (now (energies .entry)) (take count entries) ⌝ }
+{
+    let mut i = 0;
+    while i < count {
+        let entry = entries[i];
+        if sound(entry, energies) {
+            i += 1;
+        } else {
+            return false;
+        }
+    }
+    true
+}
+
+// The number of the first refusal that a set of histories gets, or 0.
+pub fn checked(entries: [Entry; MOST], count: usize, counters: &[u32], energies: &[f64]) -> u8
+    ensures { λ r. ⌜ r ≡ numbered (refusalOf (histories entries count (now (counters .entry)) (now (energies .entry)))) ⌝ }
+{
+    if history::set::outside_set(entries, count, counters, energies) {
+        return refusals::SET;
+    }
+    if all_sound(entries, count, energies) {
+        0
+    } else {
+        refusals::STORE
+    }
+}
