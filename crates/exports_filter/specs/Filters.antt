@@ -2,12 +2,10 @@
 use Prim.Native.Nat.{ℕ, _/_, _%_}
 use mathlib.Core.List.{List}
 use lib.Dec.{eqb}
-use lib.ListN.{replicate}
 use lib.Ieee.{Float}
-use Rattle.samples.specs.Frames.{silence}
-use Rattle.calls.specs.Calls.{mostChannels}
 use Rattle.filter.specs.declared.Switches.{Switches}
 use Rattle.filter.specs.declared.Filter.{Filter}
+use Rattle.filter.specs.Filter.{noPeaks}
 
 -- what is on, by the sum of 1 for loudness, 2 for the sample peak and 4 for the true peak
 abbrev pub switchesOf : ℕ → Switches
@@ -27,4 +25,4 @@ filterOf channels rate on a b state peaks memory truePeaks =
 
 -- a seed call looks at no output coefficient and at no peak
 abbrev pub seedFilterOf : ℕ → ℕ → ℕ → List Float → List Float → List Float → Filter
-seedFilterOf channels rate on a state memory = filterOf channels rate on a a state (replicate mostChannels silence) memory (replicate mostChannels silence)
+seedFilterOf channels rate on a state memory = filterOf channels rate on a a state noPeaks memory noPeaks

@@ -1,6 +1,5 @@
 // The C interface of the filter. include/xelamphoun.h declares it.
 ghost use mathlib.Core.Path.{_≡_};
-ghost use lib.ListN.{replicate};
 ghost use Rattle.samples.specs.Sample.{samplesOf16, samplesOfF32};
 ghost use Rattle.codes.specs.Codes.{code};
 ghost use Rattle.filter.specs.Call.{callOf, seedOf, kept};

@@ -3,13 +3,38 @@ use Prim.Native.Nat.{ℕ}
 use mathlib.Core.Bool.{cond}
 use mathlib.Core.List.{List}
 use lib.Dec.{ltb}
-use lib.ListN.{getD}
+use lib.ListN.{getD, replicate}
 use lib.Ieee.{Float}
 use Rattle.samples.specs.Frames.{silence}
+use Rattle.calls.specs.Calls.{mostChannels}
+use Rattle.recurrence.specs.declared.Coefficients.{Coefficients}
 use Rattle.states.specs.declared.State.{State}
+use Rattle.states.specs.Channels.{statePlaces}
 use Rattle.sample_peak.specs.declared.Peaks.{Peaks}
 use Rattle.true_peak.specs.declared.TruePeak.{TruePeak}
+use Rattle.true_peak.specs.TruePeak.{silent}
+use Rattle.filter.specs.declared.Switches.{Switches}
 use Rattle.filter.specs.declared.Filter.{Filter}
+
+-- every channel's weighting at rest, and every channel's peak 0
+abbrev pub atRest : State
+atRest = record { values = replicate statePlaces silence }
+
+abbrev pub noPeaks : List Float
+noPeaks = replicate mostChannels silence
+
+-- a filter that has heard nothing
+abbrev pub resting : ℕ → ℕ → Switches → Coefficients → Filter
+resting channels rate switches coefficients =
+    record {
+      channels = channels;
+      rate = rate;
+      switches = switches;
+      coefficients = coefficients;
+      state = atRest;
+      peaks = record { values = noPeaks };
+      «true_peak» = silent;
+    }
 
 -- the filter with another state, other peaks and other true peaks
 abbrev pub moved : Filter → State → Peaks → TruePeak → Filter

@@ -1,11 +1,9 @@
 // The filter of a measurement: what it keeps between its calls, at rest and afterwards. Crates `filter_process` and `filter_seed` have its calls.
 ghost use mathlib.Core.Path.{_≡_};
-ghost use lib.ListN.{getD, replicate};
+ghost use lib.ListN.{getD};
 ghost use Rattle.samples.specs.Frames.{silence};
-ghost use Rattle.calls.specs.Calls.{mostChannels};
-ghost use Rattle.states.specs.Channels.{statePlaces};
 ghost use Rattle.true_peak.specs.TruePeak.{silent};
-ghost use Rattle.filter.specs.Filter.{moved, peakOf};
+ghost use Rattle.filter.specs.Filter.{atRest, noPeaks, resting, moved, peakOf};
 use recurrence::Coefficients;
 use sample_peak::Peaks;
 use states::State;
@@ -37,7 +35,7 @@ pub struct Filtered {
 
 // A filter at rest. A channel count that is 0 or above 8 is refused by each call.
 pub fn new(channels: usize, rate: u32, switches: Switches, coefficients: Coefficients) -> Filter
-    ensures { λ r. ⌜ r ≡ record { channels = channels; rate = rate; switches = switches; coefficients = coefficients; state = record { values = replicate statePlaces silence }; peaks = record { values = replicate mostChannels silence }; «true_peak» = silent } ⌝ }
+    ensures { λ r. ⌜ r ≡ resting channels rate switches coefficients ⌝ }
 {
     Filter {
         channels: channels,
@@ -69,7 +67,7 @@ pub fn with(filter: Filter, state: State, peaks: Peaks, trues: TruePeak) -> Filt
 
 // The filter with peaks of 0, a state at rest and an interpolator that has heard nothing.
 pub fn reset(filter: Filter) -> Filter
-    ensures { λ r. ⌜ r ≡ moved filter (record { values = replicate statePlaces silence }) (record { values = replicate mostChannels silence }) silent ⌝ }
+    ensures { λ r. ⌜ r ≡ moved filter atRest (record { values = noPeaks }) silent ⌝ }
 {
     let switches = filter.switches;
     let coefficients = filter.coefficients;
@@ -78,7 +76,7 @@ pub fn reset(filter: Filter) -> Filter
 
 // The filter with peaks of 0.
 pub fn reset_peaks(filter: Filter) -> Filter
-    ensures { λ r. ⌜ r ≡ moved filter (filter .state) (record { values = replicate mostChannels silence }) (record { memory = filter .«true_peak» .memory; peaks = replicate mostChannels silence }) ⌝ }
+    ensures { λ r. ⌜ r ≡ moved filter (filter .state) (record { values = noPeaks }) (record { memory = filter .«true_peak» .memory; peaks = noPeaks }) ⌝ }
 {
     let state = filter.state;
     let mut trues = filter.true_peak;

@@ -9,7 +9,7 @@ use Rattle.interp.specs.Interp.{kindOf}
 use Rattle.true_peak.specs.declared.TruePeak.{TruePeak}
 use Rattle.true_peak.specs.TruePeak.{measured}
 use Rattle.filter.specs.Filter.{moved}
-use Rattle.filter.specs.Call.{Call, Kept, weighing, hearing, weighedState}
+use Rattle.filter.specs.Call.{Call, Kept, hearing, weighedState}
 
 -- the interpolator's memory moves, where the true peak is on, and its peaks stay
 abbrev pub rememberedTruePeaks : Call → TruePeak

@@ -1,5 +1,4 @@
 -- What each case of `Took` says, and what an answer of the call over the slice says among these.
-use Prim.Native.Nat.{ℕ}
 use Rattle.refusals.specs.Outcome.{Said, says, refusal, NoValues}
 use Rattle.interleaved_filter.specs.Over.{Taken, taken, otherChannels}
 use Rattle.interleaved_filter.specs.declared.Took.{Took}

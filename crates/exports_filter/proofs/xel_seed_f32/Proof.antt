@@ -2,12 +2,10 @@
 use mathlib.Core.Path.{ap}
 use denote.Ref.{now}
 use borrow.Author.Needs.{needs}
-use lib.ListN.{replicate}
 use lib.Ieee.{ofBits}
 use Rattle.samples.specs.Sample.{samplesOfF32}
-use Rattle.samples.specs.Frames.{silence}
-use Rattle.calls.specs.Calls.{mostChannels}
 use Rattle.filter.specs.declared.Filter.{Filter}
+use Rattle.filter.specs.Filter.{noPeaks}
 use Rattle.filter.specs.Call.{seedOf}
 use Rattle.exports_filter.proofs.Told.{switched, seeded-told}
 use Rattle.exports_filter.proofs.xel_seed_f32.Statement.{statement}
@@ -27,9 +25,8 @@ unfolding ofBits
 returns c =
     let given = c .before .before .before .before .before .before .before .before .before .before .before .before .before .before .args in
     let call = c .before .before .before .before .before .before .seed-f32 in
-    let none = replicate mostChannels silence in
     let filter =
-    switched (given .channels) (given .rate) (given .on) (now (given .a)) (now (given .a)) (now (given .state)) none (now (given .memory)) none
+    switched (given .channels) (given .rate) (given .on) (now (given .a)) (now (given .a)) (now (given .state)) noPeaks (now (given .memory)) noPeaks
     (c .before .before .before .before .before .before .before .before .before .before .before .switches-of .result) (c .before .before .before .before .before .before .before .before .before .before .before .switches-of .ensures) in
     seeded-told _ _ (call .result .answer) (call .result .filter) _
     (ap (λ (f : Filter). seedOf f (samplesOfF32 (now (given .«data»))) (now (given .map))) filter)
