@@ -2,14 +2,14 @@
 use mathlib.Core.Path.{_≡_, refl, sym, ap, _∙_}
 use mathlib.Core.Bool.{Bool, true, false, not, _&&_, cond}
 use mathlib.Core.List.{List, [], _∷_, _++_}
-use Prim.Native.Nat.{ℕ, suc, _+_, _-_, _≤_, _<_}
+use Prim.Native.Nat.{ℕ, suc, _+_, _-_}
 use native.Mathlib.Nat.{zero-add, add-assoc}
 use native.Mathlib.Omega.{arith}
 use borrow.Author.Tests.{eq-eqb, ne-eqb}
 use lib.Dec.{eqb}
 use lib.ListN.{length}
 use lib.Ieee.{Float}
-use Rattle.histogram_bins.specs.Bin.{bins, binOf}
+use Rattle.histogram_bins.specs.Bin.{binOf}
 use Rattle.histogram_bins.proofs.Bins.{bin-below}
 use Rattle.histogram_bins.specs.Energy.{dropped}
 use Rattle.histogram_range.specs.Counted.{blocksIn}

@@ -1,8 +1,8 @@
 -- Demand 3, proved. "Each merged counter is the number of listed energies that 01 puts in that bin"; the whole sentence stands above the definitions, in
 -- specs/Dealing.antt. Tallies, Counts, Plans and Together carry the steps. Assumes nothing.
 use mathlib.Core.Path.{_≡_, refl, sym, ap, _∙_, subst}
-use mathlib.Core.List.{List, [], _∷_, _++_, append-nil}
-use Prim.Native.Nat.{ℕ, zero, suc, _+_, _≤_, _<_}
+use mathlib.Core.List.{List, [], _∷_, append-nil}
+use Prim.Native.Nat.{ℕ, _≤_, _<_}
 use native.Mathlib.Omega.{arith}
 use lib.ListN.{length, getD}
 use lib.Ieee.{Float}
@@ -12,26 +12,7 @@ use Rattle.histogram.specs.Histogram.{largestCount, empty}
 use Rattle.history.specs.Set.{mostHistories, Histories}
 use Rattle.histogram_range.specs.Counted.{countedSpan, blocksIn}
 use Rattle.range.specs.Range.{rangeOf}
-use Rattle.acceptance_dealing.specs.Dealing.{
-  countIn,
-  tally,
-  countersOf,
-  droppedOf,
-  Plan,
-  filled,
-  run,
-  storeOf,
-  storesOf,
-  partsOf,
-  inOneRun,
-  Reordered,
-  Dealt,
-  Asks,
-  ForEach,
-  rangeOfBins,
-  Met,
-  Demand3,
-}
+use Rattle.acceptance_dealing.specs.Dealing.{countIn, countersOf, Plan, filled, run, storeOf, storesOf, partsOf, inOneRun, Dealt, Asks, ForEach, rangeOfBins, Demand3}
 use Rattle.acceptance_dealing.proofs.Tallies.{tally-length, tally-at, tally-same}
 use Rattle.acceptance_dealing.proofs.Counts.{count-append, count-reordered, run-reordered, blocks-counted}
 use Rattle.acceptance_dealing.proofs.Plans.{fill, planned, run-plan}

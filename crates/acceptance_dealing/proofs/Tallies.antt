@@ -1,12 +1,9 @@
 -- Histograms as tables of a number for each bin: an empty one, two added bin by bin, and how many blocks one has. Each law goes up the bins. Assumes nothing.
 use mathlib.Core.Path.{_≡_, refl, sym, ap, _∙_, subst}
-use mathlib.Core.Bool.{cond}
-use mathlib.Core.List.{List, [], _∷_}
+use mathlib.Core.List.{List, _∷_}
 use Prim.Native.Nat.{ℕ, zero, suc, _+_, _<_}
 use native.Mathlib.Nat.{le-of-suc-le-suc, not-suc-le-zero}
 use native.Mathlib.Omega.{arith}
-use borrow.Author.Tests.{eq-eqb, ne-eqb}
-use lib.Dec.{eqb}
 use lib.ListN.{length, getD, replicate}
 use lib.Seq.{ext-getD}
 use Rattle.histogram_bins.specs.Bin.{bins}

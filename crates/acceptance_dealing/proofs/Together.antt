@@ -1,9 +1,9 @@
 -- The set question over histograms that stand block after block: nothing refuses it, it shows each store, and its range is that of their counters added up.
 -- Assumes nothing.
 use mathlib.Core.Path.{_≡_, refl, sym, ap, _∙_, subst}
-use mathlib.Core.Bool.{Bool, true, false, _||_, _&&_}
+use mathlib.Core.Bool.{true, false}
 use mathlib.Core.List.{List, [], _∷_, _++_, append-assoc}
-use Prim.Native.Nat.{ℕ, zero, suc, _+_, _*_, _≤_, _<_}
+use Prim.Native.Nat.{ℕ, suc, _+_, _*_, _≤_}
 use native.Mathlib.Omega.{arith}
 use borrow.Author.Tests.{le-ltb}
 use lib.ListN.{length, take, drop, length-append}
@@ -11,10 +11,9 @@ use lib.Seq.{take-append-seam, drop-append-seam}
 use lib.Ieee.{Float}
 use Rattle.refusals.specs.Outcome.{went}
 use Rattle.histogram_bins.specs.Bin.{bins}
-use Rattle.histogram.specs.Histogram.{empty, sums}
-use Rattle.history.specs.Set.{mostHistories, History, counted, Histories, chosen, blockAt, allShow, historiesOf, anyOutside, allSound, refusalOf, sound}
+use Rattle.histogram.specs.Histogram.{empty}
+use Rattle.history.specs.Set.{mostHistories, History, counted, Histories, blockAt, allShow, historiesOf, anyOutside, allSound, refusalOf, sound}
 use Rattle.history.proofs.Verdicts.{all-well, not-too-many}
-use Rattle.spans.specs.Span.{Span}
 use Rattle.histogram_range.specs.Counted.{addedTo, countedSpan}
 use Rattle.range.specs.Range.{queuesIn, rangeOf}
 use Rattle.range.proofs.Answers.{range-asked, over-histograms}

@@ -7,7 +7,7 @@ use lib.IntN.{ℤ}
 use lib.Ieee.{Float}
 use Rattle.refusals.specs.declared.Answer.{Answer}
 use Rattle.refusals.specs.declared.Answer.the-variants.{Done, Refused}
-use Rattle.refusals.specs.Outcome.{Outcome, Said, says, refusal, NoValues, done}
+use Rattle.refusals.specs.Outcome.{Said, says, refusal, NoValues, done}
 use Rattle.refusals.specs.Answer.{said as saidAnswer}
 use Rattle.bin_search.specs.declared.Level.{Level}
 use Rattle.bin_search.specs.declared.Level.the-variants.{Tenths, Refused as Refused-level}
@@ -27,7 +27,7 @@ use Rattle.spans.specs.declared.Range.{Range}
 use Rattle.spans.specs.declared.Range.the-variants.{Found, Nothing, NotANumber, Refused as Refused-range}
 use Rattle.spans.specs.Span.{Span, found, nothing, notANumber}
 use Rattle.spans.specs.Span.{said as saidRange}
-use Rattle.acceptance_outcomes.specs.Fixed.{Meets, Fixes, EachFixed}
+use Rattle.acceptance_outcomes.specs.Fixed.{Fixes, EachFixed}
 
 -- where there is a way back from what is said, a statement fixes its outcome
 pub fixes : {Answer Values : Type 0} (Kept : Type 0) (said : Answer → Said Values) (back : Said Values → Answer) → ((a : Answer) → back (said a) ≡ a) → Fixes Kept said

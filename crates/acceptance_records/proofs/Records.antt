@@ -1,14 +1,14 @@
 -- Demand 1 for the records, proved: "Read order: under 6 bytes LENGTH; KIND; ..". Each definition goes down its rows: by cases on the tests. Assumes nothing.
-use mathlib.Core.Path.{_≡_, refl, sym, ap, _∙_}
+use mathlib.Core.Path.{_≡_, refl, ap, _∙_}
 use mathlib.Core.Bool.{Bool, true, false, not, _&&_, cond}
-use mathlib.Core.List.{List, [], _∷_, _++_}
+use mathlib.Core.List.{List, _++_}
 use Prim.Native.Nat.{ℕ, _+_, _-_, _*_}
 use lib.Dec.{eqb, leb, ltb}
 use lib.ListN.{length, drop}
 use lib.Ieee.{Float}
 use Rattle.refusals.specs.Refusal.{STORE, LENGTH, KIND, CONTENT, ROOM}
 use Rattle.refusals.specs.Answer.{said as saidAnswer}
-use Rattle.refusals.specs.Outcome.{Outcome, went, refused, answers, NoValues, done, Said, says, refusal}
+use Rattle.refusals.specs.Outcome.{Outcome, went, refused, answers, done, Said, says, refusal}
 use Rattle.queue.specs.declared.Queue.{Queue}
 use Rattle.histogram.specs.Histogram.{isHistogram}
 use Rattle.queue.specs.Queue.{Stored, suits, heldOf}
@@ -19,7 +19,8 @@ use Rattle.layout.specs.declared.Written.{Written}
 use Rattle.layout.specs.declared.Written.the-variants.{Bytes, Refused}
 use Rattle.layout.specs.Layout.{headWidth, lengthWidth, kindIn, numberOf, lengthIn, canBe, frameOf, andThen, writtenTo}
 use Rattle.layout.specs.Written.{said as saidWritten}
-use Rattle.records.specs.Record.{countersIn, histogramRecord, readHistogram, writeHistogram}
+use Rattle.histogram_reader.specs.Record.{countersIn, readHistogram}
+use Rattle.histogram_writer.specs.Writing.{histogramRecord, writeHistogram}
 use Rattle.queue_reader.specs.declared.Received.{Received}
 use Rattle.queue_reader.specs.declared.Received.the-variants.{Held, Refused as Refused-received}
 use Rattle.queue_reader.specs.QueueRecord.{energyWidth, maximumIn, heldIn, patternsIn, numbersFit, allFit, stored, queueIn, bodyRead, readQueue, said as saidReceived}

@@ -3,26 +3,24 @@
 -- is what refuses its record. Assumes nothing.
 use mathlib.Core.Path.{_≡_, refl, sym, ap, _∙_}
 use mathlib.Core.Bool.{Bool, true, false}
-use mathlib.Core.List.{List, [], _∷_, _++_, append-nil}
-use Prim.Native.Nat.{ℕ, _-_, _≤_, _<_, _^_}
+use mathlib.Core.List.{List, [], _∷_, append-nil}
+use Prim.Native.Nat.{ℕ, _-_, _<_, _^_}
 use native.Mathlib.Omega.{arith}
 use borrow.Author.Tests.{leb-true, leb-false}
 use lib.Dec.{leb}
 use lib.ListN.{length, getD, length-replicate, List·getD-eq-default}
 use lib.Ieee.{Float}
-use Rattle.refusals.specs.Outcome.{Outcome, went, answers, NoValues, done}
+use Rattle.refusals.specs.Outcome.{went, answers}
 use Rattle.histogram_bins.specs.Bin.{bins}
-use Rattle.histogram.specs.Histogram.{largestCount, empty}
-use Rattle.spans.specs.Span.{Span}
-use Rattle.histogram_range.specs.Counted.{blocksIn}
+use Rattle.histogram.specs.Histogram.{empty}
 use Rattle.range.specs.Range.{rangeOf}
 use Rattle.layout.specs.declared.Kind.the-variants.{Histogram}
-use Rattle.records.specs.Record.{histogramRecord, readHistogram}
-use Rattle.records.proofs.Again.{Counting, read-what-was-written}
-use Rattle.summary.specs.Summary.{Figures, alone, figuresBy, figuresOf, figuresRead, summaryOf}
+use Rattle.histogram_writer.specs.Writing.{histogramRecord}
+use Rattle.histogram_writer.proofs.Again.{Counting, read-what-was-written}
+use Rattle.summary.specs.Summary.{alone, figuresBy, figuresOf, figuresRead, summaryOf}
 use Rattle.summary.proofs.Alone.{figuresFrom, summary-is}
 use Rattle.acceptance_refusals.proofs.Rows.{by-rows}
-use Rattle.acceptance_dealing.specs.Dealing.{countIn, Plan, Dealt, storeOf, droppedOf, Asks, rangeOfBins, Met}
+use Rattle.acceptance_dealing.specs.Dealing.{Plan, Dealt, storeOf, droppedOf, Asks, rangeOfBins, Met}
 use Rattle.acceptance_dealing.proofs.Dealing.{demand-3}
 use Rattle.acceptance_records.specs.Records.{frameRows}
 use Rattle.acceptance_records.specs.Report.{ReportTells, ReportRefused}

@@ -16,7 +16,8 @@ use Rattle.layout.specs.declared.Kind.{Kind}
 use Rattle.layout.specs.declared.Kind.the-variants.{Histogram, Queue}
 use Rattle.layout.specs.Layout.{headWidth, lengthWidth, kindIn, numberOf, lengthIn, canBe}
 use Rattle.layout.specs.Written.{said as saidWritten}
-use Rattle.records.specs.Record.{histogramRecord, readHistogram, writeHistogram}
+use Rattle.histogram_reader.specs.Record.{readHistogram}
+use Rattle.histogram_writer.specs.Writing.{histogramRecord, writeHistogram}
 use Rattle.queue_reader.specs.QueueRecord.{energyWidth, maximumIn, heldIn, patternsIn, numbersFit, allFit, readQueue, said as saidReceived}
 use Rattle.queue_writer.specs.Writing.{queueRecord, writeQueue}
 use Rattle.summary.specs.Summary.{said as saidSummary}

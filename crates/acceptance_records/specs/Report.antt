@@ -9,7 +9,7 @@ use lib.ListN.{length}
 use lib.Ieee.{Float}
 use Rattle.refusals.specs.Outcome.{went}
 use Rattle.layout.specs.declared.Kind.the-variants.{Histogram}
-use Rattle.records.specs.Record.{histogramRecord}
+use Rattle.histogram_writer.specs.Writing.{histogramRecord}
 use Rattle.summary.specs.Summary.{figuresBy, summaryOf}
 use Rattle.acceptance_refusals.specs.Rows.{RefusedBy}
 use Rattle.acceptance_dealing.specs.Dealing.{Plan, Dealt, storeOf, droppedOf, rangeOfBins}

@@ -4,7 +4,7 @@ use mathlib.Core.Logic.{_⊎_, inl, inr}
 use mathlib.Core.Bool.{Bool, true, false, cond, true≢false}
 use mathlib.Core.List.{List, [], _∷_}
 use Prim.Native.Nat.{ℕ}
-use Rattle.refusals.specs.Refusal.{Refusal, number}
+use Rattle.refusals.specs.Refusal.{number}
 use Rattle.refusals.specs.Outcome.{Outcome, went, refused, Said, says, refusal, saidBy, keptBy}
 use Rattle.acceptance_refusals.specs.Rows.{Row, FirstIs, RefusedBy}
 

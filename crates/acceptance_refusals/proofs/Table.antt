@@ -1,12 +1,12 @@
 -- Demand 1, proved: "Given exactly when". Each operation's definition goes down its rows: by cases on the tests. Assumes nothing.
-use mathlib.Core.Path.{_≡_, refl, sym, ap, _∙_}
+use mathlib.Core.Path.{_≡_, refl, ap, _∙_}
 use mathlib.Core.Bool.{Bool, true, false, not, _&&_, _||_, cond}
 use mathlib.Core.List.{List, [], _∷_, _++_}
 use Prim.Native.Nat.{ℕ}
 use lib.Dec.{eqb, ltb}
 use lib.ListN.{length, drop, set}
 use lib.Ieee.{Float, isNan}
-use Rattle.refusals.specs.Refusal.{STORE, FULL, SET, MODE, NONE, NAN, SCALE, ROOM}
+use Rattle.refusals.specs.Refusal.{STORE, FULL, SET, MODE, NONE, NAN, ROOM}
 use Rattle.refusals.specs.Outcome.{Outcome, went, refused, Question, answers, NoValues, done}
 use Rattle.bin_search.specs.Reading.{offScale, readingOf, tenthsOf}
 use Rattle.histogram_bins.specs.Energy.{dropped}
@@ -15,7 +15,7 @@ use Rattle.histogram_merge.specs.Merge.{room, mergeInto}
 use Rattle.queue.specs.Queue.{Stored, over, suits}
 use Rattle.queue_add.specs.Adding.{advanced, nextPlace, enqueued}
 use Rattle.history.specs.declared.set.Entry.{Entry}
-use Rattle.history.specs.Set.{mostHistories, Histories, chosen, historiesOf, shows, anyOutside, allSound, Verdict, sound, refusing, refusalOf, unlessRefused}
+use Rattle.history.specs.Set.{mostHistories, Histories, chosen, historiesOf, shows, anyOutside, allSound, sound, refusing, refusalOf, unlessRefused}
 use Rattle.blocks.specs.declared.Totals.{Totals}
 use Rattle.blocks.specs.Totals.{none, meanOf}
 use Rattle.sums.specs.Sums.{totalsOf}
@@ -29,21 +29,8 @@ use Rattle.histogram_range.specs.Counted.{addedTo, countedSpan}
 use Rattle.queue_range.specs.Listed.{allHeld, anyNan, listedRange}
 use Rattle.rising_range.specs.Rising.{listedSpan}
 use Rattle.range.specs.Range.{queuesIn, rangeOver, rangeOf}
-use Rattle.acceptance_refusals.specs.Rows.{Row, row, RefusedBy}
-use Rattle.acceptance_refusals.specs.Table.{
-  readingRows,
-  addRows,
-  mergeRows,
-  resetRows,
-  queueRows,
-  setRows,
-  allOf,
-  gateRows,
-  relativeRows,
-  someQueue,
-  rangeRows,
-  Demand1,
-}
+use Rattle.acceptance_refusals.specs.Rows.{Row, row}
+use Rattle.acceptance_refusals.specs.Table.{readingRows, addRows, mergeRows, resetRows, queueRows, allOf, gateRows, relativeRows, someQueue, rangeRows, Demand1}
 use Rattle.acceptance_refusals.proofs.Rows.{downRows, by-rows}
 
 reads : (energy : Float) → readingOf energy ≡ downRows (readingRows energy) tt (tenthsOf energy)

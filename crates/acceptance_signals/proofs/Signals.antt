@@ -1,13 +1,10 @@
 -- Demand 1 for the calls over samples, proved: "Given exactly when". Each definition goes down its rows: by cases on the tests. Assumes nothing.
-use mathlib.Core.Path.{_≡_, refl, sym, ap, _∙_}
-use mathlib.Core.Bool.{Bool, true, false, not, _&&_, _||_, cond}
-use mathlib.Core.List.{List}
-use Prim.Native.Nat.{ℕ, _%_}
-use lib.Dec.{eqb, ltb}
+use mathlib.Core.Path.{_≡_, refl}
+use mathlib.Core.Bool.{Bool, true, false, _&&_, cond}
 use lib.ListN.{length}
 use Rattle.refusals.specs.Refusal.{CHANNELS, SAMPLES, MAP, DEST}
 use Rattle.refusals.specs.Answer.{said}
-use Rattle.refusals.specs.Outcome.{Outcome, went, refused, NoValues, done}
+use Rattle.refusals.specs.Outcome.{went, refused, done}
 use Rattle.filter.specs.Call.{Call, Kept}
 use Rattle.calls.specs.Check.{passes, fails, then, unless}
 use Rattle.calls.specs.Calls.{wrongChannels, wrongSamples, wrongMap, wrongDest, checkFrames, checkMap, checkDest}

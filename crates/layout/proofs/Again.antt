@@ -1,21 +1,20 @@
 -- A record that was written passes and has its body again; bytes that pass are the record of their body. So a record and its body determine each other.
 -- Assumes nothing.
-use mathlib.Core.Path.{_≡_, refl, sym, ap, _∙_}
+use mathlib.Core.Path.{_≡_, sym, ap, _∙_}
 use mathlib.Core.Bool.{true}
-use mathlib.Core.List.{List, [], _∷_, _++_, append-assoc, append-nil}
-use Prim.Native.Nat.{ℕ, _+_, _-_, _*_, _^_, _≤_, _<_}
+use mathlib.Core.List.{List, [], _++_, append-assoc, append-nil}
+use Prim.Native.Nat.{ℕ, _+_, _*_, _^_, _<_}
 use native.Mathlib.Omega.{arith}
-use lib.ListN.{length, getD, take, drop, length-append, length-drop, take-append-drop}
+use lib.ListN.{length, getD, take, length-drop, take-append-drop}
 use lib.Seq.{drop-at, take-all, take-add}
-use Rattle.refusals.specs.Outcome.{answers, done}
 use Rattle.fields.specs.Field.{fieldAt, lowBytes}
 use Rattle.fields.proofs.Written.{low-length, field-from, read-low, low-field}
 use Rattle.layout.specs.declared.Kind.{Kind}
 use Rattle.layout.specs.declared.Kind.the-variants.{Histogram, Queue}
-use Rattle.layout.specs.Layout.{Order, numberOf, canBe, kindWidth, headWidth, lengthIn, kindIn, bodyIn, numbersIn, allBytes, frameOf, headOf, recordOf}
-use Rattle.layout.proofs.Frames.{Framed, passes}
+use Rattle.layout.specs.Layout.{Order, numberOf, canBe, kindWidth, headWidth, lengthIn, kindIn, bodyIn, numbersIn, allBytes, headOf, recordOf}
+use Rattle.layout.proofs.Frames.{Framed}
 use Rattle.layout.proofs.Heads.{head-length, record-length}
-use Rattle.layout.proofs.Runs.{all-length, all-read, all-written}
+use Rattle.layout.proofs.Runs.{all-read, all-written}
 
 -- ---- what was written
 module _ (kind : Kind) (body : List ℕ) where

@@ -1,5 +1,5 @@
 -- What the length and the kind in front of a record come to, case by case, what bytes that pass have, and what comes after a test. Assumes nothing.
-use mathlib.Core.Path.{_≡_, refl, sym, ap, _∙_}
+use mathlib.Core.Path.{_≡_, refl, ap, _∙_}
 use mathlib.Core.Bool.{Bool, true, false, _&&_, cond}
 use mathlib.Core.List.{List}
 use Prim.Native.Nat.{ℕ, _-_, _≤_, _<_}
@@ -8,7 +8,7 @@ use borrow.Author.Tests.{lt-ltb, le-ltb, ltb-false, eq-eqb, ne-eqb, eqb-true}
 use lib.Dec.{eqb, ltb}
 use lib.ListN.{length}
 use Rattle.refusals.specs.Refusal.{LENGTH, KIND, number}
-use Rattle.refusals.specs.Outcome.{Outcome, went, refused, Question, answers, NoValues, done, Said, says, refusal, saidBy, keptBy}
+use Rattle.refusals.specs.Outcome.{Outcome, went, refused, Question, answers, NoValues, done, says, refusal, saidBy, keptBy}
 use Rattle.layout.specs.declared.Kind.{Kind}
 use Rattle.layout.specs.Layout.{numberOf, canBe, headWidth, lengthWidth, lengthIn, kindIn, frameOf, andThen}
 

@@ -1,6 +1,6 @@
 -- The head of a record: its width; that two fields put into an output one after the other are a head at its first places; and that a head and then a
 -- body put into an output are the record of the body there. Assumes nothing.
-use mathlib.Core.Path.{_≡_, refl, sym, ap, _∙_}
+use mathlib.Core.Path.{_≡_, sym, ap, _∙_}
 use mathlib.Core.List.{List, _++_, append-assoc}
 use Prim.Native.Nat.{ℕ, _+_, _≤_, _<_}
 use native.Mathlib.Omega.{arith}

@@ -1,12 +1,11 @@
 -- Fields of one width, one after the other: how many bytes they are; that numbers written so are read again, and numbers read so are written again.
 -- Each is an induction on how many there are. Assumes nothing.
-use mathlib.Core.Path.{_≡_, refl, sym, ap, _∙_}
+use mathlib.Core.Path.{_≡_, refl, ap}
 use mathlib.Core.List.{List, [], _∷_, _++_, append-assoc}
-use Prim.Native.Nat.{ℕ, zero, suc, _+_, _-_, _*_, _^_, _≤_, _<_}
+use Prim.Native.Nat.{ℕ, zero, suc, _+_, _*_, _^_, _≤_, _<_}
 use native.Mathlib.Omega.{arith}
 use lib.ListN.{length, getD, take, drop, length-append, length-drop}
-use lib.Seq.{drop-at, take-add, getD-drop, getD-take}
-use Rattle.fields.specs.Field.{fieldAt, lowBytes}
+use lib.Seq.{drop-at, take-add, getD-drop}
 use Rattle.fields.proofs.Written.{low-length, read-low, low-field}
 use Rattle.layout.specs.Layout.{Order, lowFirst, numberIn, bytesOf, numbersIn, allBytes}
 

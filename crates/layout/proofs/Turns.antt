@@ -1,11 +1,11 @@
 -- One turn of a loop that reads or writes fields of one width: what is left gives what all of it gives. Assumes nothing.
-use mathlib.Core.Path.{_≡_, refl, sym, ap, _∙_}
+use mathlib.Core.Path.{_≡_, sym, ap}
 use mathlib.Core.List.{List, [], _∷_, _++_, append-assoc, append-nil}
-use Prim.Native.Nat.{ℕ, zero, suc, _+_, _-_, _*_, _≤_, _<_}
+use Prim.Native.Nat.{ℕ, suc, _+_, _-_, _≤_, _<_}
 use native.Mathlib.Numerals.{add-one}
 use native.Mathlib.Omega.{arith}
 use lib.ListN.{length, getD, take, drop, set}
-use lib.Seq.{sets, drop-cons, drop-drop, take-suc-set, take-all, drop-length}
+use lib.Seq.{sets, drop-cons, drop-drop, take-suc-set, take-all}
 use lib.ListN.{drop-of-length-le}
 use Rattle.layout.specs.Layout.{Order, numberIn, bytesOf, numbersIn, allBytes}
 use Rattle.layout.proofs.Runs.{bytes-length}

@@ -1,6 +1,6 @@
 -- What records have in common (01, 'Records'): "little-endian: u32 length of what follows, u16 kind", then a body of fields. One description of these
 -- fields stands behind readers, writers and their statements.
-use Prim.Native.Nat.{ℕ, zero, suc, _+_, _-_, _*_}
+use Prim.Native.Nat.{ℕ, zero, suc, _+_, _-_}
 use mathlib.Core.Bool.{Bool, _&&_, cond}
 use mathlib.Core.List.{List, [], _∷_, _++_}
 use lib.Dec.{eqb, leb, ltb}

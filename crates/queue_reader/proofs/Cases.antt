@@ -1,20 +1,20 @@
 -- What reading a queue comes to, case by case. Assumes nothing.
 use mathlib.Core.Path.{_≡_, refl, sym, ap, _∙_}
 use mathlib.Core.Bool.{Bool, true, false, _&&_, true≢false}
-use mathlib.Core.List.{List, [], _∷_, _++_, map}
-use Prim.Native.Nat.{ℕ, zero, suc, _+_, _-_, _*_, _≤_, _<_}
+use mathlib.Core.List.{List, [], _∷_, _++_}
+use Prim.Native.Nat.{ℕ, suc, _+_, _-_, _*_, _≤_}
 use native.Mathlib.Omega.{arith}
 use borrow.Author.Tests.{eq-eqb, ne-eqb, leb-true}
 use lib.Dec.{leb}
 use lib.ListN.{length, drop}
 use lib.Seq.{sets, sets-eq}
-use lib.Ieee.{Float, ofBits, binary64}
+use lib.Ieee.{Float}
 use Rattle.refusals.specs.Refusal.{STORE, LENGTH, CONTENT}
-use Rattle.refusals.specs.Outcome.{Outcome, went, refused, done, says, refusal, saidBy, keptBy}
+use Rattle.refusals.specs.Outcome.{went, refused, done, says, refusal, saidBy, keptBy}
 use Rattle.queue.specs.Queue.{longest}
 use Rattle.layout.specs.declared.Kind.the-variants.{Queue as QueueKind}
-use Rattle.layout.specs.Layout.{orderOf, lengthIn, numbersIn, frameOf}
-use Rattle.layout.proofs.Frames.{Framed, framed, went-on, then-went, then-refused, then-kept}
+use Rattle.layout.specs.Layout.{orderOf, lengthIn, frameOf}
+use Rattle.layout.proofs.Frames.{framed, went-on, then-went, then-refused, then-kept}
 use Rattle.layout.proofs.Runs.{numbers-length}
 use Rattle.queue_reader.specs.QueueRecord.{
   energyWidth,

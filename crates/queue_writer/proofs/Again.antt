@@ -22,10 +22,10 @@ use Rattle.queue.specs.Queue.{longest, over, heldOf}
 use Rattle.history.specs.Set.{noneBelow}
 use Rattle.queue.proofs.Ring.{Suited, suits-it}
 use Rattle.layout.specs.declared.Kind.the-variants.{Queue as QueueKind}
-use Rattle.layout.specs.Layout.{Order, lowFirst, numberIn, numbersIn, allBytes, bodyIn, lengthIn, frameOf, andThen, recordOf}
+use Rattle.layout.specs.Layout.{Order, lowFirst, numbersIn, allBytes, lengthIn, frameOf, andThen, recordOf}
 use Rattle.layout.proofs.Frames.{Framed, framed, passes, then-went}
 use Rattle.layout.proofs.Heads.{with-room}
-use Rattle.layout.proofs.Runs.{all-length, numbers-length}
+use Rattle.layout.proofs.Runs.{numbers-length}
 use Rattle.layout.proofs.Again.{record-body, record-passes, record-again, whole-read, whole-written}
 use Rattle.queue_reader.specs.QueueRecord.{maximumIn, heldIn, patternsIn, numbersFit, allFit, energiesOf, patternsOf, stored, queueIn, bodyRead, readQueue}
 use Rattle.queue_reader.proofs.Cases.{body-went}

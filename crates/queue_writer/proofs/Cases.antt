@@ -1,6 +1,6 @@
 -- What writing a queue comes to, case by case, and how long its record is. Assumes nothing.
-use mathlib.Core.Path.{_≡_, refl, sym, ap, _∙_}
-use mathlib.Core.Bool.{Bool, true, false, _&&_, cond}
+use mathlib.Core.Path.{_≡_, sym, ap, _∙_}
+use mathlib.Core.Bool.{Bool, true, false, _&&_}
 use mathlib.Core.List.{List, _++_}
 use Prim.Native.Nat.{ℕ, _+_, _*_, _≤_, _<_}
 use native.Mathlib.Omega.{arith}
@@ -11,7 +11,7 @@ use Rattle.refusals.specs.Refusal.{STORE, ROOM}
 use Rattle.refusals.specs.Outcome.{went, refused}
 use Rattle.fields.specs.Field.{lowBytes}
 use Rattle.fields.proofs.Written.{low-length}
-use Rattle.queue.specs.Queue.{Stored, over, suits, heldOf}
+use Rattle.queue.specs.Queue.{Stored, suits, heldOf}
 use Rattle.history.specs.Set.{noneBelow}
 use Rattle.layout.specs.declared.Kind.the-variants.{Queue as QueueKind}
 use Rattle.layout.specs.Layout.{lowFirst, allBytes, withHead}

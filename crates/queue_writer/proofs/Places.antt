@@ -1,12 +1,12 @@
 -- Where bytes go: a field written into a part of the output, the patterns of energies one after the other, and of two parts of a store. Assumes nothing.
 use mathlib.Core.Path.{_≡_, refl, sym, ap, _∙_}
-use mathlib.Core.List.{List, [], _∷_, _++_, map, append-assoc}
+use mathlib.Core.List.{List, [], _∷_, _++_, append-assoc}
 use Prim.Native.Nat.{ℕ, zero, suc, _+_, _-_, _*_, _≤_, _<_}
 use native.Mathlib.Nat.{not-suc-le-zero, le-of-suc-le-suc}
 use native.Mathlib.Omega.{arith}
-use borrow.Rule.Slice.PartMut.{putMid, postOf}
+use borrow.Rule.Slice.PartMut.{putMid}
 use lib.ListN.{length, getD, take, drop, length-take, length-drop}
-use lib.Seq.{sets, sets-eq, drop-drop, length-take-le}
+use lib.Seq.{sets, sets-eq, drop-drop}
 use lib.Ieee.{Float, nan, toBits, binary64}
 use Rattle.queue.specs.declared.Queue.{Queue}
 use Rattle.queue.specs.Queue.{over, heldOf, firstPart}

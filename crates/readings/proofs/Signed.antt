@@ -1,7 +1,7 @@
 -- The magnitude of a signed number by its two cases: as it is, or one more than its distance from -1, which always fits. Assumes nothing.
 use mathlib.Core.Path.{_≡_, refl, sym}
 use mathlib.Core.Bool.{Bool, true, false, cond, true≢false}
-use Prim.Native.Nat.{ℕ, suc, _-_, _<_, _^_}
+use Prim.Native.Nat.{suc, _-_, _<_, _^_}
 use native.Mathlib.Omega.{arith}
 use borrow.Author.Tests.{ltb-true, leb-false}
 use lib.Dec.{T, ltb}

@@ -75,7 +75,7 @@ fn read_part(case: &[u8], bytes: &[u8], counters: &mut [u32]) -> bool {
 }
 
 fn counters_read(case: &[u8], bytes: &[u8], counters: &mut [u32]) -> bool {
-    let answer = records::read_histogram(bytes, counters);
+    let answer = histogram_reader::read_histogram(bytes, counters);
     number_of(answer) == fields::number_at(case, 4, 2) && counters_same(case, counters)
 }
 
@@ -130,7 +130,7 @@ fn write_part(case: &[u8], counters: &[u32], out: &mut [u8]) -> bool {
 }
 
 fn record_written(case: &[u8], counters: &[u32], out: &mut [u8]) -> bool {
-    let written = records::write_histogram(counters, out);
+    let written = histogram_writer::write_histogram(counters, out);
     crate::written_same(case, 4, 6, written)
 }
 

@@ -17,7 +17,7 @@ use Rattle.range.specs.Range.{queuesIn, rangeOver, rangeOf}
 use Rattle.layout.specs.declared.Kind.the-variants.{Histogram}
 use Rattle.layout.specs.Layout.{orderOf, bodyIn, frameOf, andThen}
 use Rattle.layout.proofs.Runs.{numbers-length}
-use Rattle.records.specs.Record.{countWidth, countersIn, readHistogram}
+use Rattle.histogram_reader.specs.Record.{countWidth, countersIn, readHistogram}
 use Rattle.summary.specs.Summary.{Figures, ranged, rangeless, figuresBy, alone, figuresOf, figuresRead, summaryOf}
 use Rattle.summary.proofs.Rising.{Rising, counted-rises}
 

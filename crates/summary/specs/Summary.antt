@@ -4,15 +4,14 @@ use Prim.Native.Nat.{ℕ, _-_}
 use mathlib.Core.List.{List, []}
 use lib.ListN.{replicate}
 use lib.Ieee.{Float}
-use Rattle.refusals.specs.Outcome.{Outcome, went, refused, Question, answers, NoValues, done, Said, says, refusal}
+use Rattle.refusals.specs.Outcome.{Outcome, went, refused, Question, answers, NoValues, Said, says, refusal}
 use Rattle.histogram_bins.specs.Bin.{binOf}
-use Rattle.history.specs.declared.set.Entry.{Entry}
 use Rattle.history.specs.declared.set.Shape.the-variants.{Histogram}
 use Rattle.histogram.specs.Histogram.{empty}
 use Rattle.history.specs.Set.{mostHistories, Histories, histories}
 use Rattle.range.specs.Range.{Span, found, nothing, notANumber, rangeOf}
 use Rattle.histogram_range.specs.Counted.{blocksIn}
-use Rattle.records.specs.Record.{readHistogram}
+use Rattle.histogram_reader.specs.Record.{readHistogram}
 use Rattle.summary.specs.declared.Summary.{Summary}
 use Rattle.summary.specs.declared.Summary.the-variants.{Ranged, Rangeless, Refused}
 

@@ -81,7 +81,7 @@ pub fn of_record(bytes: &[u8]) -> Summary
     ensures { λ r. ⌜ said r ≡ saidBy (summaryOf (now (bytes .entry))) ⌝ }
 {
     let mut counters = [0u32; 1000];
-    match records::read_histogram(bytes, &mut counters) {
+    match histogram_reader::read_histogram(bytes, &mut counters) {
         Answer::Done => figures(&counters),
         Answer::Refused(number) => Summary::Refused(number),
     }

@@ -1,13 +1,8 @@
 -- `layout::frame` meets its contract: each test is one of the definition's, in its order. Assumes nothing.
 use mathlib.Core.Path.{_≡_, sym, ap, _∙_}
-use mathlib.Core.List.{List}
-use Prim.Native.Nat.{ℕ, _-_, _≤_}
-use native.Mathlib.Omega.{arith}
 use borrow.Author.Needs.{needs}
 use denote.Ref.{now}
-use lib.ListN.{length}
-use Rattle.layout.specs.declared.Kind.{Kind}
-use Rattle.layout.specs.Layout.{numberOf, canBe, lengthIn, kindIn}
+use Rattle.layout.specs.Layout.{numberOf, canBe, kindIn}
 use Rattle.layout.proofs.Frames.{frame-short, frame-kind, frame-length, frame-rest}
 use Rattle.layout.proofs.frame.Statement.{statement}
 use Rattle.layout.proofs.frame.Tie as tie

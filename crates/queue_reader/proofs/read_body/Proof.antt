@@ -1,16 +1,14 @@
 -- `queue_reader::read_body` meets its contract: each test is one of the definition's, in its order, and past the last the energies are stored.
 -- Assumes nothing.
 use mathlib.Core.Path.{_≡_, refl, sym, ap, _∙_}
-use mathlib.Core.Bool.{Bool, true, false}
-use mathlib.Core.List.{List}
-use Prim.Native.Nat.{ℕ, _+_, _-_, _*_, _≤_}
+use mathlib.Core.Bool.{true}
+use Prim.Native.Nat.{ℕ, _+_, _*_, _≤_}
 use native.Mathlib.Omega.{arith}
 use borrow.Author.Needs.{needs}
 use borrow.Author.Tests.{not-true, not-false}
 use denote.Ref.{now}
 use lib.ListN.{length, drop}
 use lib.Seq.{sets}
-use lib.Ieee.{Float}
 use Rattle.refusals.specs.Outcome.{says, saidBy, keptBy}
 use Rattle.fields.proofs.Written.{field-from}
 use Rattle.queue.specs.declared.Queue.{Queue}

@@ -1,9 +1,8 @@
 -- `queue_reader::read_queue` meets its contract: the frame first, then the body. Assumes nothing.
-use mathlib.Core.Path.{_≡_, refl, sym, ap, _∙_}
-use native.Mathlib.Omega.{arith}
+use mathlib.Core.Path.{_≡_, sym, ap, _∙_}
 use borrow.Author.Needs.{needs}
 use denote.Ref.{now}
-use Rattle.refusals.specs.Outcome.{says, done, refusal, saidBy, keptBy}
+use Rattle.refusals.specs.Outcome.{says, done, refusal, saidBy}
 use Rattle.refusals.specs.Answer.{said}
 use Rattle.layout.specs.declared.Kind.the-variants.{Queue as QueueKind}
 use Rattle.layout.specs.Layout.{frameOf}

@@ -1,16 +1,14 @@
 -- `queue_writer::sound` meets its contract: the energies held are two parts of the store, and none is below boundary 0 where none in either is.
 -- Assumes nothing.
-use mathlib.Core.Path.{_≡_, sym, ap, _∙_}
+use mathlib.Core.Path.{_≡_, sym, _∙_}
 use mathlib.Core.Bool.{true, false}
-use mathlib.Core.List.{List, _++_}
-use Prim.Native.Nat.{ℕ, _+_, _-_}
+use Prim.Native.Nat.{_+_, _-_}
 use native.Mathlib.Omega.{arith}
 use borrow.Author.Needs.{needs}
 use denote.Ref.{now}
 use lib.ListN.{length, take, drop}
 use lib.Seq.{length-take-le}
-use lib.Ieee.{Float}
-use Rattle.queue.specs.Queue.{suits, firstPart}
+use Rattle.queue.specs.Queue.{suits}
 use Rattle.queue.proofs.Ring.{Suited, suited}
 use Rattle.history.proofs.Entries.{none-below-append}
 use Rattle.queue_writer.proofs.Places.{held-in}

@@ -1,14 +1,12 @@
 -- `summary::blocks_in` meets its contract. The invariant: the sum is that of the bins passed. Assumes nothing.
-use mathlib.Core.Path.{_≡_, sym, ap, _∙_}
-use mathlib.Core.List.{List}
-use Prim.Native.Nat.{ℕ, _+_, _-_, _*_, _≤_}
+use mathlib.Core.Path.{_≡_, ap, _∙_}
+use Prim.Native.Nat.{_-_, _≤_}
 use native.Mathlib.Omega.{arith}
 use borrow.Author.Needs.{needs}
 use denote.Ref.{now}
-use lib.ListN.{length, getD, take}
+use lib.ListN.{length, take}
 use lib.Seq.{take-all}
 use Rattle.histogram_range.specs.Counted.{blocksIn}
-use Rattle.histogram_range.specs.Counted.{mostInBin, AtMost}
 use Rattle.histogram_range.proofs.Counting.{blocks-more, blocks-none, blocks-most}
 use Rattle.summary.proofs.blocks_in.Statement.{statement}
 use Rattle.summary.proofs.blocks_in.Tie as tie

@@ -7,7 +7,7 @@ use denote.Ref.{now}
 use Rattle.refusals.specs.Outcome.{saidBy, keptBy}
 use Rattle.refusals.specs.Answer.{said}
 use Rattle.histogram.specs.Histogram.{empty}
-use Rattle.records.specs.Record.{readHistogram}
+use Rattle.histogram_reader.specs.Record.{readHistogram}
 use Rattle.summary.specs.Summary.{figuresOf, summaryOf}
 use Rattle.histogram_range.proofs.Adding.{empty-is}
 use Rattle.summary.proofs.Ranges.{read-figures, unread-figures}

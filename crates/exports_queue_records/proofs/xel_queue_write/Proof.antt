@@ -1,0 +1,44 @@
+-- `exports_queue_records::xel_queue_write` meets its contract: each case of the answer is told as the C interface tells it. Assumes nothing.
+use mathlib.Core.Path.{sym, ap, _∙_}
+use borrow.Author.Needs.{needs}
+use denote.Ref.{now}
+use Rattle.queue.specs.Queue.{over}
+use Rattle.queue_writer.specs.Writing.{writeQueue}
+use Rattle.layout.specs.Written.{said}
+use Rattle.codes.proofs.Told.{values-told, refusal-told}
+use Rattle.exports_queue_records.proofs.xel_queue_write.Statement.{statement}
+use Rattle.exports_queue_records.proofs.xel_queue_write.Tie as tie
+
+write-queue-requires : tie.Need-write-queue-requires
+write-queue-requires c κs = search needs
+
+enum-known-n : tie.Need-enum-known-n
+enum-known-n c = search needs
+
+enum-known-number : tie.Need-enum-known-number
+enum-known-number c = search needs
+
+same-length : tie.Need-same-length
+same-length c = search needs
+
+returns : tie.Need-returns
+returns c =
+    let a = c .before .before .before .before .before .before .before .before .before .args in
+    let call = c .before .before .before .before .before .write-queue in
+    let given = c .before .n .given in
+    let told = values-told (writeQueue (over (record { maximum = a .maximum; head = a .head; held = a .held }) (now (a .store))) (now (a .out))) (now (a .written)) (given .0 .0) (ap said (sym (given .1)) ∙ call .ensures .0) in
+    (told .0, told .1, call .ensures .1)
+
+same-length-2 : tie.Need-same-length-2
+same-length-2 c = search needs
+
+returns-2 : tie.Need-returns-2
+returns-2 c =
+    let a = c .before .before .before .before .before .before .before .before .before .args in
+    let call = c .before .before .before .before .before .write-queue in
+    let given = c .before .number .given in
+    let told = refusal-told (writeQueue (over (record { maximum = a .maximum; head = a .head; held = a .held }) (now (a .store))) (now (a .out))) (now (a .written)) (given .0 .0) (ap said (sym (given .1)) ∙ call .ensures .0) in
+    (told .0, told .1, call .ensures .1)
+
+pub xel-queue-write-spec : {M : Type 1} → statement M
+xel-queue-write-spec = tie.close (tie.spec write-queue-requires enum-known-n enum-known-number same-length returns same-length-2 returns-2)

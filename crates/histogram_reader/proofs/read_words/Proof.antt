@@ -1,0 +1,89 @@
+-- `histogram_reader::read_words` meets its contract. The invariant: the words read and those in the bytes that are left are all of them. Assumes nothing.
+use mathlib.Core.Path.{_≡_, refl, sym, ap, _∙_}
+use mathlib.Core.List.{_++_}
+use Prim.Native.Nat.{ℕ, _+_, _-_, _*_, _≤_}
+use native.Mathlib.Omega.{arith}
+use borrow.Author.Needs.{needs}
+use denote.Ref.{now}
+use lib.ListN.{length, length-set, take, drop}
+use Rattle.fields.proofs.Written.{field-from}
+use Rattle.layout.specs.Layout.{lowFirst, numbersIn}
+use Rattle.layout.proofs.Turns.{read-turn, read-end}
+use Rattle.histogram_reader.proofs.read_words.Statement.{statement}
+use Rattle.histogram_reader.proofs.read_words.Tie as tie
+
+abbrev Inv-loop : tie.InvT-loop
+Inv-loop bytes at words₀ i₀ words i = (i ≤ length words₀) × (length words ≡ length words₀) × (take i words ++ numbersIn lowFirst 4 (length words - i) (drop (at + 4 * i) bytes) ≡ numbersIn lowFirst 4 (length words₀) (drop at bytes))
+
+abbrev μ-loop : tie.MeasureT-loop
+μ-loop bytes at words₀ i₀ words i = length words₀ - i
+
+loop-holds : tie.Need-loop-holds Inv-loop μ-loop
+loop-holds c =
+    let a = c .before .before .args in (
+      omega arith,
+      refl,
+      ap (λ (n : ℕ). numbersIn lowFirst 4 n (drop (a .at + 0) (now (a .bytes)))) {x = length (now (a .words)) - 0} {y = length (now (a .words))} (omega arith)
+          ∙ ap (λ (n : ℕ). numbersIn lowFirst 4 (length (now (a .words))) (drop n (now (a .bytes)))) {x = a .at + 0} {y = a .at} (omega arith),
+    )
+
+mul-word-at : tie.Need-mul-word-at Inv-loop μ-loop
+mul-word-at c = search needs
+
+add-word-at : tie.Need-add-word-at Inv-loop μ-loop
+add-word-at c = search needs
+
+word-at-requires : tie.Need-word-at-requires Inv-loop μ-loop
+word-at-requires c κs = omega arith
+
+mul-words : tie.Need-mul-words Inv-loop μ-loop
+mul-words c = search needs
+
+slice-write-words : tie.Need-slice-write-words Inv-loop μ-loop
+slice-write-words c = search needs
+
+add-i : tie.Need-add-i Inv-loop μ-loop
+add-i c = search needs
+
+loop-less : tie.Need-loop-less Inv-loop μ-loop
+loop-less c = search needs
+
+loop-again : tie.Need-loop-again Inv-loop μ-loop
+loop-again c =
+    let l = c .before .before in
+    let a = l .before .before .before .args in
+    let at = a .at + 4 * l .loop .i in (
+      omega arith,
+      simp length-set (l .loop .inv .1),
+      simp length-set
+          (read-turn lowFirst 4 (now (a .bytes)) (l .loop .words) at (a .at + 4 * (l .loop .i + 1)) (l .loop .i) (length (l .loop .words) - l .loop .i) (c .word-at .result)
+          (omega arith) (omega arith) (c .word-at .ensures ∙ field-from (now (a .bytes)) at at 0 4 (omega arith)) (omega arith)
+          ∙ l .loop .inv .2),
+    )
+
+same-length : tie.Need-same-length Inv-loop μ-loop
+same-length c = search needs
+
+returns : tie.Need-returns Inv-loop μ-loop
+returns c =
+    let l = c .before in
+    let a = l .before .before .before .args in
+    sym (read-end lowFirst 4 (drop (a .at + 4 * l .loop .i) (now (a .bytes))) (l .loop .words) (l .loop .i) (omega arith)) ∙ l .loop .inv .2
+
+pub read-words-spec : {M : Type 1} → statement M
+read-words-spec =
+    tie.close
+    (tie.spec
+    Inv-loop
+    μ-loop
+    loop-holds
+    mul-word-at
+    add-word-at
+    word-at-requires
+    mul-words
+    slice-write-words
+    add-i
+    loop-less
+    loop-again
+    same-length
+    returns)

@@ -1,0 +1,76 @@
+// Records of kind 1: the 1,000 counters of a histogram, read.
+use layout::Kind;
+use refusals::Answer;
+ghost use mathlib.Core.Path.{_≡_};
+ghost use Prim.Native.Nat.{_+_, _*_, _≤_};
+ghost use lib.ListN.{length, drop};
+ghost use Rattle.refusals.specs.Outcome.{saidBy, keptBy};
+ghost use Rattle.refusals.specs.Answer.{said};
+ghost use Rattle.fields.specs.Field.{fieldAt};
+ghost use Rattle.histogram_bins.specs.Bin.{bins};
+ghost use Rattle.layout.specs.Layout.{lowFirst, numbersIn};
+ghost use Rattle.histogram_reader.specs.Record.{countWidth, recordLength, countersIn, readHistogram};
+
+// Where the counters start, after the length and the kind.
+const BODY: usize = 6;
+
+// The bytes of each counter.
+const COUNT: usize = 4;
+
+fn word_at(bytes: &[u8], at: usize) -> u32
+    requires { ⌜ at + countWidth ≤ length (now bytes) ⌝ }
+    ensures { λ r. ⌜ r ≡ fieldAt (now (bytes .entry)) at countWidth ⌝ }
+{
+    let end = at + COUNT;
+    fields::word(&bytes[at..end])
+}
+
+// Each word becomes the number in its four bytes.
+fn read_words(bytes: &[u8], at: usize, words: &mut [u32])
+    requires { ⌜ at + countWidth * length (now words) ≤ length (now bytes) ⌝ }
+    ensures { λ _. ⌜ now (words .exit) ≡ numbersIn lowFirst countWidth (length (now (words .entry))) (drop at (now (bytes .entry))) ⌝ }
+{
+    let mut i = 0;
+    while i < words.len() {
+        words[i] = word_at(bytes, at + COUNT * i);
+        i += 1;
+    }
+}
+
+fn copy(from: &[u32], to: &mut [u32])
+    requires { ⌜ length (now to) ≡ length (now from) ⌝ }
+    ensures { λ _. ⌜ now (to .exit) ≡ now (from .entry) ⌝ }
+{
+    let mut i = 0;
+    while i < to.len() {
+        to[i] = from[i];
+        i += 1;
+    }
+}
+
+// By way of places of its own, which no lent slice overlaps: the compiler then moves all the bytes in one call.
+fn read_counters(bytes: &[u8], counters: &mut [u32])
+    requires { ⌜ (length (now bytes) ≡ recordLength) × (length (now counters) ≡ bins) ⌝ }
+    ensures { λ _. ⌜ now (counters .exit) ≡ countersIn (now (bytes .entry)) ⌝ }
+{
+    let mut places = [0u32; histogram_bins::BINS];
+    read_words(bytes, BODY, &mut places);
+    copy(&places, counters);
+}
+
+// The counters of a record, or the refusal that comes first. Every check is made before a counter is written.
+pub fn read_histogram(bytes: &[u8], counters: &mut [u32]) -> Answer
+    ensures { λ r. ⌜ (said r ≡ saidBy (readHistogram (now (bytes .entry)) (now (counters .entry))))
+        × (now (counters .exit) ≡ keptBy (now (counters .entry)) (readHistogram (now (bytes .entry)) (now (counters .entry)))) ⌝ }
+{
+    match layout::frame(Kind::Histogram, bytes) {
+        Answer::Done => {
+            if counters.len() != histogram_bins::BINS {
+                return Answer::Refused(refusals::STORE);
+            }
+            read_counters(bytes, counters);
+            Answer::Done
+        }
+        Answer::Refused(number) => Answer::Refused(number),
+    }
+}

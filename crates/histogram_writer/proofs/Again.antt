@@ -1,0 +1,61 @@
+-- Reading what was written gives back every counter; writing what was read gives back the same bytes; so a record has one reading, whatever the store held,
+-- and its bytes are determined by its counters. Assumes nothing.
+use mathlib.Core.Path.{_≡_, sym, ap, _∙_}
+use mathlib.Core.List.{List}
+use Prim.Native.Nat.{ℕ, _+_, _*_, _^_, _<_}
+use native.Mathlib.Omega.{arith}
+use borrow.Author.Tests.{eq-eqb}
+use lib.ListN.{length, getD, length-drop}
+use lib.Seq.{getD-drop}
+use Rattle.refusals.specs.Outcome.{went, answers, done, saidBy}
+use Rattle.histogram_bins.specs.Bin.{bins}
+use Rattle.layout.specs.declared.Kind.the-variants.{Histogram}
+use Rattle.layout.specs.Layout.{orderOf, bodyIn, numbersIn, allBytes, frameOf, recordOf}
+use Rattle.layout.proofs.Frames.{framed, passes}
+use Rattle.layout.proofs.Again.{record-body, record-passes, record-again, whole-read, whole-written}
+use Rattle.histogram_reader.specs.Record.{countWidth, countersIn, readHistogram}
+use Rattle.histogram_reader.proofs.Cases.{framed-length, read-went}
+use Rattle.histogram_writer.specs.Writing.{histogramRecord}
+use Rattle.histogram_writer.proofs.Cases.{body-length}
+
+-- every counter fits its field
+abbrev pub Counting : List ℕ → Type 0
+Counting counters = (bin : ℕ) → getD counters bin 0 < 2 ^ 32
+
+-- ---- what was written is read
+module _ (counters : List ℕ) (h : length counters ≡ bins) where
+  pub written-passes : frameOf Histogram (histogramRecord counters) ≡ answers done
+  unfolding histogramRecord
+  written-passes =
+      let body = allBytes (orderOf Histogram) countWidth counters in
+      passes Histogram (recordOf Histogram body)
+      (record-passes Histogram body (omega (arith, body-length counters h)) (eq-eqb (2 + length body) 4002 (omega (arith, body-length counters h))))
+
+  pub counters-again : Counting counters → countersIn (histogramRecord counters) ≡ counters
+  unfolding histogramRecord countersIn
+  counters-again fit =
+      ap (numbersIn (orderOf Histogram) countWidth bins) (record-body Histogram (allBytes (orderOf Histogram) countWidth counters))
+      ∙ ap (λ (n : ℕ). numbersIn (orderOf Histogram) countWidth n (allBytes (orderOf Histogram) countWidth counters)) (sym h)
+      ∙ whole-read (orderOf Histogram) countWidth counters fit
+
+  pub read-what-was-written : Counting counters → (store : List ℕ) → length store ≡ bins → readHistogram (histogramRecord counters) store ≡ went counters done
+  read-what-was-written fit store s =
+      read-went (histogramRecord counters) store (sym (ap saidBy written-passes)) s ∙ ap (λ (l : List ℕ). went l done) (counters-again fit)
+
+-- ---- what is read was so written
+pub write-what-was-read : (bytes : List ℕ) → ((i : ℕ) → getD bytes i 0 < 256) → frameOf Histogram bytes ≡ answers done → histogramRecord (countersIn bytes) ≡ bytes
+unfolding histogramRecord countersIn
+write-what-was-read bytes b e =
+    let f = framed Histogram bytes e in
+    let n : length (bodyIn bytes) ≡ 4 * 1000 = omega (arith, framed-length bytes (sym (ap saidBy e)), length-drop 6 bytes) in
+    ap (recordOf Histogram) (whole-written (orderOf Histogram) countWidth bins (bodyIn bytes) (λ i. rw (getD-drop 6 bytes i 0) (b (6 + i))) n)
+    ∙ record-again Histogram bytes b f
+
+-- ---- one reading: what the store held plays no part
+pub one-reading : (bytes store other : List ℕ) → length store ≡ bins → length other ≡ bins → readHistogram bytes store ≡ readHistogram bytes other
+unfolding readHistogram
+one-reading bytes store other s o = rw (eq-eqb (length store) bins s, eq-eqb (length other) bins o)
+
+-- records of the same bytes are of the same counters
+pub same-record : (a b : List ℕ) → length a ≡ bins → length b ≡ bins → Counting a → Counting b → histogramRecord a ≡ histogramRecord b → a ≡ b
+same-record a b m n f g e = sym (counters-again a m f) ∙ ap countersIn e ∙ counters-again b n g

@@ -1,0 +1,85 @@
+-- `histogram_writer::write_counters` meets its contract. The invariant: the places filled and the counters to come are all the counters, so the places have
+-- every counter before they are written. Assumes nothing.
+use mathlib.Core.Path.{_≡_, refl, sym, ap, _∙_}
+use mathlib.Core.List.{List, _++_}
+use Prim.Native.Nat.{ℕ, _-_}
+use native.Mathlib.Omega.{arith}
+use borrow.Author.Needs.{needs}
+use denote.Ref.{now}
+use lib.ListN.{length, length-set, take, drop}
+use lib.Seq.{sets}
+use Rattle.histogram_bins.specs.Bin.{bins}
+use Rattle.layout.specs.Layout.{lowFirst, allBytes}
+use Rattle.histogram_reader.proofs.Copies.{copy-turn, copy-end}
+use Rattle.histogram_writer.proofs.write_counters.Statement.{statement}
+use Rattle.histogram_writer.proofs.write_counters.Tie as tie
+
+abbrev Inv-loop : tie.InvT-loop
+Inv-loop counters out places₀ i₀ places i = (length places ≡ bins) × (take i places ++ drop i counters ≡ counters)
+
+abbrev μ-loop : tie.MeasureT-loop
+μ-loop counters out places₀ i₀ places i = length counters - i
+
+loop-holds : tie.Need-loop-holds Inv-loop μ-loop
+loop-holds c = (refl, refl)
+
+mul-places : tie.Need-mul-places Inv-loop μ-loop
+mul-places c = search needs
+
+shared-slice-read-places : tie.Need-shared-slice-read-places Inv-loop μ-loop
+shared-slice-read-places c = search needs
+
+mul-places-2 : tie.Need-mul-places-2 Inv-loop μ-loop
+mul-places-2 c = search needs
+
+array-write-places : tie.Need-array-write-places Inv-loop μ-loop
+array-write-places c = search needs
+
+add-i : tie.Need-add-i Inv-loop μ-loop
+add-i c = search needs
+
+loop-less : tie.Need-loop-less Inv-loop μ-loop
+loop-less c = search needs
+
+loop-again : tie.Need-loop-again Inv-loop μ-loop
+loop-again c =
+    let l = c .before .before in
+    let counters = now (l .before .before .before .args .counters) in
+    (simp length-set (l .loop .inv .0), copy-turn counters (l .loop .places) (l .loop .i) (omega arith) (omega arith) ∙ l .loop .inv .1)
+
+slice-aggregate-write-words : tie.Need-slice-aggregate-write-words Inv-loop μ-loop
+slice-aggregate-write-words c = search needs
+
+write-words-requires : tie.Need-write-words-requires Inv-loop μ-loop
+write-words-requires c κs = search needs
+
+same-length : tie.Need-same-length Inv-loop μ-loop
+same-length c = search needs
+
+returns : tie.Need-returns Inv-loop μ-loop
+returns c =
+    let w = c .before .before in
+    let l = w .before .before .before .before in
+    let a = l .before .before .before .args in
+    w .write-words .ensures
+    ∙ ap (λ (o : List ℕ). sets (now (a .out)) 6 (allBytes lowFirst 4 o))
+    (sym (copy-end (now (a .counters)) (l .loop .places) (l .loop .i) (omega arith) (omega arith)) ∙ l .loop .inv .1)
+
+pub write-counters-spec : {M : Type 1} → statement M
+write-counters-spec =
+    tie.close
+    (tie.spec
+    Inv-loop
+    μ-loop
+    loop-holds
+    mul-places
+    shared-slice-read-places
+    mul-places-2
+    array-write-places
+    add-i
+    loop-less
+    loop-again
+    slice-aggregate-write-words
+    write-words-requires
+    same-length
+    returns)

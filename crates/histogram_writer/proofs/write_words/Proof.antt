@@ -1,0 +1,85 @@
+-- `histogram_writer::write_words` meets its contract. The invariant: what is left to write gives what all of it gives. Assumes nothing.
+use mathlib.Core.Path.{_≡_, refl, sym, ap, _∙_}
+use mathlib.Core.List.{List}
+use Prim.Native.Nat.{ℕ, _+_, _-_, _*_, _≤_}
+use native.Mathlib.Omega.{arith}
+use borrow.Author.Needs.{needs}
+use denote.Ref.{now}
+use lib.ListN.{length, getD, drop}
+use lib.Seq.{sets, length-sets}
+use Rattle.fields.specs.Field.{lowBytes}
+use Rattle.layout.specs.Layout.{lowFirst, allBytes}
+use Rattle.layout.proofs.Turns.{write-turn, write-end}
+use Rattle.histogram_writer.proofs.write_words.Statement.{statement}
+use Rattle.histogram_writer.proofs.write_words.Tie as tie
+
+abbrev Inv-loop : tie.InvT-loop
+Inv-loop words out₀ at i₀ out i = (i ≤ length words) × (length out ≡ length out₀) × (sets out (at + 4 * i) (allBytes lowFirst 4 (drop i words)) ≡ sets out₀ at (allBytes lowFirst 4 words))
+
+abbrev μ-loop : tie.MeasureT-loop
+μ-loop words out₀ at i₀ out i = length words - i
+
+loop-holds : tie.Need-loop-holds Inv-loop μ-loop
+loop-holds c =
+    let a = c .before .before .args in
+    (omega arith, refl, ap (λ (n : ℕ). sets (now (a .out)) n (allBytes lowFirst 4 (now (a .words)))) {x = a .at + 0} {y = a .at} (omega arith))
+
+mul-put-word : tie.Need-mul-put-word Inv-loop μ-loop
+mul-put-word c = search needs
+
+add-put-word : tie.Need-add-put-word Inv-loop μ-loop
+add-put-word c = search needs
+
+mul-put-word-2 : tie.Need-mul-put-word-2 Inv-loop μ-loop
+mul-put-word-2 c = search needs
+
+shared-slice-read-put-word : tie.Need-shared-slice-read-put-word Inv-loop μ-loop
+shared-slice-read-put-word c = search needs
+
+put-word-requires : tie.Need-put-word-requires Inv-loop μ-loop
+put-word-requires c κs = omega arith
+
+add-i : tie.Need-add-i Inv-loop μ-loop
+add-i c = search needs
+
+loop-less : tie.Need-loop-less Inv-loop μ-loop
+loop-less c = search needs
+
+loop-again : tie.Need-loop-again Inv-loop μ-loop
+loop-again c =
+    let l = c .before .before .before .before .before .before in
+    let a = l .before .before .before .args in
+    let at = a .at + 4 * l .loop .i in (
+      omega arith,
+      ap length (c .before .before .put-word .ensures) ∙ length-sets (l .loop .out) at (lowBytes 4 (getD (now (a .words)) (l .loop .i) 0)) ∙ l .loop .inv .1,
+      ap (λ (o : List ℕ). sets o (a .at + 4 * (l .loop .i + 1)) (allBytes lowFirst 4 (drop (l .loop .i + 1) (now (a .words))))) (c .before .before .put-word .ensures)
+          ∙ write-turn lowFirst 4 (l .loop .out) (now (a .words)) at (a .at + 4 * (l .loop .i + 1)) (l .loop .i) (omega arith) (omega arith)
+          ∙ l .loop .inv .2,
+    )
+
+same-length : tie.Need-same-length Inv-loop μ-loop
+same-length c = search needs
+
+returns : tie.Need-returns Inv-loop μ-loop
+returns c =
+    let l = c .before in
+    let a = l .before .before .before .args in
+    sym (write-end lowFirst 4 (l .loop .out) (now (a .words)) (a .at + 4 * l .loop .i) (l .loop .i) (omega arith)) ∙ l .loop .inv .2
+
+pub write-words-spec : {M : Type 1} → statement M
+write-words-spec =
+    tie.close
+    (tie.spec
+    Inv-loop
+    μ-loop
+    loop-holds
+    mul-put-word
+    add-put-word
+    mul-put-word-2
+    shared-slice-read-put-word
+    put-word-requires
+    add-i
+    loop-less
+    loop-again
+    same-length
+    returns)

@@ -1,0 +1,79 @@
+// Records of kind 1: the 1,000 counters of a histogram, written.
+use layout::Kind;
+use layout::Written;
+ghost use mathlib.Core.Path.{_≡_};
+ghost use Prim.Native.Nat.{_+_, _*_, _≤_};
+ghost use lib.ListN.{length};
+ghost use lib.Seq.{sets};
+ghost use Rattle.refusals.specs.Outcome.{saidBy, keptBy};
+ghost use Rattle.fields.specs.Field.{lowBytes};
+ghost use Rattle.histogram_bins.specs.Bin.{bins};
+ghost use Rattle.layout.specs.Layout.{lowFirst, headWidth, allBytes};
+ghost use Rattle.layout.specs.Written.{said};
+ghost use Rattle.histogram_reader.specs.Record.{countWidth, recordLength};
+ghost use Rattle.histogram_writer.specs.Writing.{writeHistogram};
+
+// Where the counters start, after the length and the kind.
+const BODY: usize = 6;
+
+// The bytes of each counter, of what the length counts, and of the whole record.
+const COUNT: usize = 4;
+
+const FOLLOWING: u64 = 4002;
+
+const RECORD: usize = 4006;
+
+// A number goes into four bytes, low byte first.
+fn put_word(out: &mut [u8], at: usize, word: u32)
+    requires { ⌜ at + countWidth ≤ length (now out) ⌝ }
+    ensures { λ _. ⌜ now (out .exit) ≡ sets (now (out .entry)) at (lowBytes countWidth word) ⌝ }
+{
+    let second = word / 256;
+    let third = second / 256;
+    let fourth = third / 256;
+    out[at] = (word % 256) as u8;
+    out[at + 1] = (second % 256) as u8;
+    out[at + 2] = (third % 256) as u8;
+    out[at + 3] = (fourth % 256) as u8;
+}
+
+fn write_words(words: &[u32], out: &mut [u8], at: usize)
+    requires { ⌜ at + countWidth * length (now words) ≤ length (now out) ⌝ }
+    ensures { λ _. ⌜ now (out .exit) ≡ sets (now (out .entry)) at (allBytes lowFirst countWidth (now (words .entry))) ⌝ }
+{
+    let mut i = 0;
+    while i < words.len() {
+        put_word(out, at + COUNT * i, words[i]);
+        i += 1;
+    }
+}
+
+// By way of places of its own, as in reading.
+fn write_counters(counters: &[u32], out: &mut [u8])
+    requires { ⌜ (length (now counters) ≡ bins) × (recordLength ≤ length (now out)) ⌝ }
+    ensures { λ _. ⌜ now (out .exit) ≡ sets (now (out .entry)) headWidth (allBytes lowFirst countWidth (now (counters .entry))) ⌝ }
+{
+    let mut places = [0u32; histogram_bins::BINS];
+    let mut i = 0;
+    while i < counters.len() {
+        places[i] = counters[i];
+        i += 1;
+    }
+    write_words(&places, out, BODY);
+}
+
+// The record of a histogram, at the output's first places.
+pub fn write_histogram(counters: &[u32], out: &mut [u8]) -> Written
+    ensures { λ r. ⌜ (said r ≡ saidBy (writeHistogram (now (counters .entry)) (now (out .entry))))
+        × (now (out .exit) ≡ keptBy (now (out .entry)) (writeHistogram (now (counters .entry)) (now (out .entry)))) ⌝ }
+{
+    if counters.len() != histogram_bins::BINS {
+        return Written::Refused(refusals::STORE);
+    }
+    if out.len() < RECORD {
+        return Written::Refused(refusals::ROOM);
+    }
+    layout::put_head(Kind::Histogram, FOLLOWING, out);
+    write_counters(counters, out);
+    Written::Bytes(RECORD)
+}
