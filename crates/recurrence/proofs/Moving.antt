@@ -1,9 +1,9 @@
--- The recurrence of one channel: a frame more, and frames in two parts.
--- Memory and outputs go by the list of samples, head first, so a turn of the loop takes the head off, and a list in two parts is gone through one part after the other. Assumes nothing.
+-- The recurrence of one channel: a frame more.
+-- Memory and outputs go by the list of samples, head first, so a turn of the loop takes the head off. Assumes nothing.
 use Prim.Native.Nat.{ℕ, zero, suc, _+_, _*_, _-_, _≤_, _<_}
 use native.Mathlib.Numerals.{add-one}
 use mathlib.Core.Path.{_≡_, refl, ap, sym, _∙_}
-use mathlib.Core.List.{List, [], _∷_, _++_}
+use mathlib.Core.List.{List, [], _∷_}
 use lib.ListN.{set, getD, length}
 use lib.Seq.{sets}
 use lib.Ieee.{Float, nan}
@@ -11,11 +11,11 @@ use Rattle.samples.specs.Frames.{silence, column}
 use Rattle.samples.proofs.Columns.{within}
 use Rattle.sources.proofs.Reaching.{one-less}
 use Rattle.recurrence.specs.declared.Memory.{Memory}
-use Rattle.recurrence.specs.Recurrence.{head, output, shift, next, out, after, outs}
+use Rattle.recurrence.specs.Recurrence.{head, output, shift, next, out, after, outs, flushed}
 
--- what the frames of a block do to channel k's memory
-abbrev pub moves : List Float → List Float → ℕ → ℕ → ℕ → Memory → Memory
-moves a block channels count k m = after a m (column block k channels count)
+-- what a call does to channel k's memory: its frames, and the flush at the end
+abbrev pub ends : List Float → List Float → ℕ → ℕ → ℕ → Memory → Memory
+ends a samples channels frames k m = flushed (after a m (column samples k channels frames))
 
 -- ---- one turn: x is the sample, g the new s0, y the output and m′ the memory after it
 
@@ -50,17 +50,7 @@ pub none-outs : (a b : List Float) (m : Memory) (l : List Float) (i s n : ℕ) (
 unfolding outs column
 none-outs a b m l i s n d j e = ap (λ (k : ℕ). sets d j (outs a b m (column l i s k))) e
 
--- ---- frames in two parts
-
-pub after-append : (a : List Float) (m : Memory) (xs ys : List Float) → after a m (xs ++ ys) ≡ after a (after a m xs) ys
-unfolding after
-after-append a m [] ys = refl
-after-append a m (x ∷ xs) ys = after-append a (next a m x) xs ys
-
-pub outs-append : (a b : List Float) (m : Memory) (xs ys : List Float) → outs a b m (xs ++ ys) ≡ outs a b m xs ++ outs a b (after a m xs) ys
-unfolding outs after
-outs-append a b m [] ys = refl
-outs-append a b m (x ∷ xs) ys = ap (λ (l : List Float). out a b m x ∷ l) (outs-append a b (next a m x) xs ys)
+-- ---- as many outputs as samples
 
 pub length-outs : (a b : List Float) (m : Memory) (xs : List Float) → length (outs a b m xs) ≡ length xs
 unfolding outs

@@ -1,6 +1,6 @@
-// The recurrence of the weighting: a channel's memory, one frame of it, and the flush of its values.
+// The recurrence of the weighting: a channel's memory, and one frame of it.
 ghost use mathlib.Core.Path.{_≡_};
-ghost use Rattle.recurrence.specs.Recurrence.{head, output, shift, flush, flushed};
+ghost use Rattle.recurrence.specs.Recurrence.{head, output, shift};
 
 // The weighting's coefficients, as the Rust names them: `a` weighs the state, `b` the output.
 pub struct Coefficients {
@@ -41,30 +41,5 @@ pub fn shifted(m: Memory, s0: f64) -> Memory
         s2: m.s1,
         s3: m.s2,
         s4: m.s3,
-    }
-}
-
-// 2^-1022 and its negative bound the values that are flushed.
-fn flush_one(v: f64) -> f64
-    ensures { λ r. ⌜ r ≡ flush v ⌝ }
-{
-    if -2.2250738585072014e-308 < v {
-        if v < 2.2250738585072014e-308 {
-            return 0.0;
-        }
-    }
-    v
-}
-
-// Every value of a memory, flushed.
-pub fn flush_all(m: Memory) -> Memory
-    ensures { λ r. ⌜ r ≡ flushed m ⌝ }
-{
-    Memory {
-        s0: flush_one(m.s0),
-        s1: flush_one(m.s1),
-        s2: flush_one(m.s2),
-        s3: flush_one(m.s3),
-        s4: flush_one(m.s4),
     }
 }

@@ -1,3 +1,3 @@
 pub mod Memories
-pub mod Cutting
+pub mod Whole
 pub mod Alone

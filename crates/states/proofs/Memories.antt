@@ -1,5 +1,5 @@
 -- The flat state, channel by channel: a change of each used channel's memory, and what it leaves of each channel.
--- A channel's five places are no other channel's, so changes of different channels change places, and two changes of all channels are one change of each. Assumes nothing.
+-- A channel's five places are no other channel's, so a change of one leaves the others. Assumes nothing.
 use Prim.Native.Nat.{ℕ, zero, suc, _+_, _*_, _≤_, _<_}
 use native.Mathlib.Nat.{not-suc-le-zero, le-of-suc-le-suc, eq-or-lt-of-le}
 use native.Mathlib.Numerals.{add-one}
@@ -9,11 +9,11 @@ use mathlib.Core.List.{List, [], _∷_}
 use mathlib.Core.Logic.{_⊎_, inl, inr, ⊎-elim}
 use mathlib.Core.Bool.{Bool, true, false, cond}
 use lib.ListN.{length, getD, drop, drop-of-length-le, List·getD-eq-default}
-use lib.Seq.{sets, length-sets, set-getD, drop-cons}
+use lib.Seq.{length-sets, drop-cons}
 use lib.Ieee.{Float, nan}
 use Rattle.fills.proofs.Fill.{past-end}
 use Rattle.calls.specs.Calls.{mostChannels, used}
-use Rattle.sources.proofs.Stores.{sets-comm, sets-again, at-before, at-after, at-within}
+use Rattle.sources.proofs.Stores.{at-before, at-after, at-within}
 use Rattle.recurrence.specs.declared.Memory.{Memory}
 use Rattle.samples.specs.Frames.{column}
 use Rattle.recurrence.specs.Recurrence.{at, outs}
@@ -58,14 +58,6 @@ module _ (v : List Float) (j k : ℕ) (m : Memory) (h : j < k) where
       (at-after (five m) v (j * 5) (k * 5 + 3) nan (omega arith))
       (at-after (five m) v (j * 5) (k * 5 + 4) nan (omega arith))
 
-  pub with-comm : (m′ : Memory) → withMemory (withMemory v j m) k m′ ≡ withMemory (withMemory v k m′) j m
-  unfolding withMemory
-  with-comm m′ = sets-comm (five m) (five m′) v (j * 5) (k * 5) (omega arith)
-
-pub with-again : (v : List Float) (k : ℕ) (m m′ : Memory) → withMemory (withMemory v k m) k m′ ≡ withMemory v k m′
-unfolding withMemory
-with-again v k m m′ = sets-again (five m) (five m′) v (k * 5) refl
-
 pub memory-same : (v : List Float) (k : ℕ) (m : Memory) → k < mostChannels → length v ≡ statePlaces → memoryOf (withMemory v k m) k ≡ m
 unfolding withMemory
 memory-same v k m h l =
@@ -76,18 +68,6 @@ memory-same v k m h l =
     (at-within (five m) v (k * 5) 2 nan (omega arith) (omega arith))
     (at-within (five m) v (k * 5) 3 nan (omega arith) (omega arith))
     (at-within (five m) v (k * 5) 4 nan (omega arith) (omega arith))
-
-own-five : (v : List Float) (p : ℕ) → sets v p (at v p ∷ at v (p + 1) ∷ at v (p + 2) ∷ at v (p + 3) ∷ at v (p + 4) ∷ []) ≡ v
-own-five v p =
-    let e1 : p + 1 ≡ suc p = omega arith in
-    let e2 : p + 2 ≡ suc (suc p) = omega arith in
-    let e3 : p + 3 ≡ suc (suc (suc p)) = omega arith in
-    let e4 : p + 4 ≡ suc (suc (suc (suc p))) = omega arith in
-    rw (e1, e2, e3, e4) (simp set-getD)
-
-pub with-own : (v : List Float) (k : ℕ) → withMemory v k (memoryOf v k) ≡ v
-unfolding withMemory
-with-own v k = own-five v (k * 5)
 
 -- a channel past the eighth has no places
 module _ (v : List Float) (k : ℕ) (h : mostChannels ≤ k) (l : length v ≡ statePlaces) where
@@ -113,11 +93,6 @@ changed-length : (f : ℕ → Memory → Memory) (b : Bool) (k : ℕ) (v : List 
 changed-length f true k v = length-with v k (f k (memoryOf v k))
 changed-length f false k v = refl
 
-changed-comm : (f : ℕ → Memory → Memory) (b : Bool) (j k : ℕ) (v : List Float) (m : Memory) → j < k → changed f b k (withMemory v j m) ≡ withMemory (changed f b k v) j m
-changed-comm f true j k v m h =
-    ap (λ (t : Memory). withMemory (withMemory v j m) k (f k t)) (memory-above v j k m h) ∙ with-comm v j k m h (f k (memoryOf v k))
-changed-comm f false j k v m h = refl
-
 changed-below : (f : ℕ → Memory → Memory) (b : Bool) (j k : ℕ) (v : List Float) → j < k → memoryOf (changed f b k v) j ≡ memoryOf v j
 changed-below f true j k v h = memory-below v j k (f k (memoryOf v k)) h
 changed-below f false j k v h = refl
@@ -132,52 +107,6 @@ pub over-length : (f : ℕ → Memory → Memory) (bytes : List ℕ) (k : ℕ) (
 unfolding overUsed
 over-length f [] k v = refl
 over-length f (b ∷ bytes) k v = over-length f bytes (suc k) (changed f (used b) k v) ∙ changed-length f (used b) k v
-
--- a change that is none
-pub over-none : (f : ℕ → Memory → Memory) → ((k : ℕ) (m : Memory) → f k m ≡ m) → (bytes : List ℕ) (k : ℕ) (v : List Float) → overUsed f bytes k v ≡ v
-unfolding overUsed
-over-none f h [] k v = refl
-over-none f h (b ∷ bytes) k v = over-none f h bytes (suc k) (changed f (used b) k v) ∙ go (used b)
-  where
-    go : (t : Bool) → changed f t k v ≡ v
-    go true = ap (withMemory v k) (h k (memoryOf v k)) ∙ with-own v k
-    go false = refl
-
--- two changes that agree on the channels in question
-pub over-same : (f g : ℕ → Memory → Memory) (bytes : List ℕ) (k : ℕ) (v : List Float) → ((j : ℕ) (m : Memory) → j < k + length bytes → f j m ≡ g j m) → overUsed f bytes k v ≡ overUsed g bytes k v
-unfolding overUsed
-over-same f g [] k v h = refl
-over-same f g (b ∷ bytes) k v h =
-    ap (λ (m : Memory). overUsed f bytes (suc k) (cond (used b) (withMemory v k m) v)) (h k (memoryOf v k) (omega arith))
-    ∙ over-same f g bytes (suc k) (changed g (used b) k v) (λ j m q. h j m (omega arith))
-
-over-comm : (f : ℕ → Memory → Memory) (bytes : List ℕ) (j k : ℕ) (v : List Float) (m : Memory) → j < k → overUsed f bytes k (withMemory v j m) ≡ withMemory (overUsed f bytes k v) j m
-unfolding overUsed
-over-comm f [] j k v m h = refl
-over-comm f (b ∷ bytes) j k v m h =
-    ap (overUsed f bytes (suc k)) (changed-comm f (used b) j k v m h) ∙ over-comm f bytes j (suc k) (changed f (used b) k v) m (omega arith)
-
--- one channel, where the channels after it are known
-over-step : (f g : ℕ → Memory → Memory) (t : Bool) (bytes : List ℕ) (k : ℕ) (v : List Float) → k < mostChannels → length v ≡ statePlaces
-    → overUsed g bytes (suc k) (overUsed f bytes (suc k) v) ≡ overUsed (λ j m. g j (f j m)) bytes (suc k) v
-    → overUsed g bytes (suc k) (changed g t k (overUsed f bytes (suc k) (changed f t k v))) ≡ overUsed (λ j m. g j (f j m)) bytes (suc k) (changed (λ j m. g j (f j m)) t k v)
-over-step f g true bytes k v few l rest =
-    let m = f k (memoryOf v k) in
-    let u = overUsed f bytes (suc k) v in
-    ap (λ (w : List Float). overUsed g bytes (suc k) (changed g true k w)) (over-comm f bytes k (suc k) v m (omega arith))
-    ∙ ap (λ (t : Memory). overUsed g bytes (suc k) (withMemory (withMemory u k m) k (g k t))) (memory-same u k m few (over-length f bytes (suc k) v ∙ l))
-    ∙ ap (overUsed g bytes (suc k)) (with-again u k m (g k m))
-    ∙ over-comm g bytes k (suc k) u (g k m) (omega arith)
-    ∙ ap (λ (w : List Float). withMemory w k (g k m)) rest
-    ∙ sym (over-comm (λ j m. g j (f j m)) bytes k (suc k) v (g k m) (omega arith))
-over-step f g false bytes k v few l rest = rest
-
--- one change after another is one change of each channel
-pub over-over : (f g : ℕ → Memory → Memory) (bytes : List ℕ) (k : ℕ) (v : List Float) → k + length bytes ≤ mostChannels → length v ≡ statePlaces
-    → overUsed g bytes k (overUsed f bytes k v) ≡ overUsed (λ j m. g j (f j m)) bytes k v
-unfolding overUsed
-over-over f g [] k v few l = refl
-over-over f g (b ∷ bytes) k v few l = over-step f g (used b) bytes k v (omega arith) l (over-over f g bytes (suc k) v (omega arith) l)
 
 -- a channel before k keeps its memory
 pub over-before : (f : ℕ → Memory → Memory) (bytes : List ℕ) (j k : ℕ) (v : List Float) → j < k → memoryOf (overUsed f bytes k v) j ≡ memoryOf v j

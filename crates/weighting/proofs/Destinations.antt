@@ -1,19 +1,23 @@
 -- The destination, part by part: each used channel's outputs in its own equal part, and what that leaves at each place.
--- A part is no other channel's, so outputs stored in two runs, the second after the first, are stored as one run in each part. Assumes nothing.
-use Prim.Native.Nat.{ℕ, zero, suc, _+_, _*_, _≤_, _<_}
+-- A part is no other channel's. Assumes nothing.
+use Prim.Native.Nat.{ℕ, zero, suc, _+_, _*_, _/_, _≤_, _<_}
 use native.Mathlib.Nat.{suc-mul, mul-comm, mul-le-mul-right, not-suc-le-zero, le-of-suc-le-suc, le-add-right}
 use native.Mathlib.Numerals.{add-one}
 use native.Mathlib.Omega.{arith}
 use mathlib.Core.Path.{_≡_, refl, ap, sym, subst, _∙_}
-use mathlib.Core.List.{List, [], _∷_, _++_}
+use mathlib.Core.List.{List, [], _∷_}
 use mathlib.Core.Logic.{_⊎_, inl, inr}
 use mathlib.Core.Bool.{Bool, true, false, cond}
 use lib.ListN.{length, getD, drop, drop-of-length-le}
 use lib.Seq.{sets, length-sets, drop-cons}
 use lib.Ieee.{Float}
+use Rattle.samples.specs.Frames.{column, channelOf}
 use Rattle.calls.specs.Calls.{used}
-use Rattle.weighting.specs.Weighting.{overParts}
-use Rattle.sources.proofs.Stores.{sets-comm, sets-append, at-before, at-after, at-within}
+use Rattle.sources.proofs.Stores.{at-before, at-after, at-within}
+use Rattle.sources.proofs.Cutting.{frames-are}
+use Rattle.recurrence.specs.Recurrence.{outs}
+use Rattle.states.specs.Channels.{Call, memoryOf}
+use Rattle.weighting.specs.Weighting.{overParts, destAfter}
 
 abbrev pub stored : (ℕ → List Float) → ℕ → ℕ → Bool → ℕ → List Float → List Float
 stored g part start b k d = cond b (sets d (k * part + start) (g k)) d
@@ -26,64 +30,6 @@ pub parts-length : (g : ℕ → List Float) (part start : ℕ) (bytes : List ℕ
 unfolding overParts
 parts-length g part start [] k d = refl
 parts-length g part start (b ∷ bytes) k d = parts-length g part start bytes (suc k) (stored g part start (used b) k d) ∙ stored-length g part start (used b) k d
-
--- no outputs
-pub parts-none : (g : ℕ → List Float) → ((k : ℕ) → g k ≡ []) → (part start : ℕ) (bytes : List ℕ) (k : ℕ) (d : List Float) → overParts g part start bytes k d ≡ d
-unfolding overParts
-parts-none g h part start [] k d = refl
-parts-none g h part start (b ∷ bytes) k d = parts-none g h part start bytes (suc k) (stored g part start (used b) k d) ∙ go (used b)
-  where
-    go : (t : Bool) → stored g part start t k d ≡ d
-    go true = ap (sets d (k * part + start)) (h k)
-    go false = refl
-
--- outputs that agree on the channels in question
-pub parts-same : (f g : ℕ → List Float) (part start : ℕ) (bytes : List ℕ) (k : ℕ) (d : List Float) → ((i : ℕ) → i < length bytes → used (getD bytes i 0) ≡ true → f (k + i) ≡ g (k + i)) → overParts f part start bytes k d ≡ overParts g part start bytes k d
-unfolding overParts
-parts-same f g part start [] k d h = refl
-parts-same f g part start (b ∷ bytes) k d h =
-    ap (overParts f part start bytes (suc k)) (go (used b) (h 0 (omega arith)))
-    ∙ parts-same f g part start bytes (suc k) (stored g part start (used b) k d) (λ i q t. let e : k + suc i ≡ suc k + i = omega arith in subst (λ (j : ℕ). f j ≡ g j) e (h (suc i) (omega arith) t))
-  where
-    go : (t : Bool) → (t ≡ true → f (k + 0) ≡ g (k + 0)) → stored f part start t k d ≡ stored g part start t k d
-    go true q = let e : k + 0 ≡ k = omega arith in ap (sets d (k * part + start)) (subst (λ (j : ℕ). f j ≡ g j) e (q refl))
-    go false q = refl
-
--- a run of stores before channel k's part
-parts-comm : (g : ℕ → List Float) (part start : ℕ) (bytes : List ℕ) (k : ℕ) (d : List Float) (p : ℕ) (us : List Float) → p + length us ≤ k * part
-    → overParts g part start bytes k (sets d p us) ≡ sets (overParts g part start bytes k d) p us
-unfolding overParts
-parts-comm g part start [] k d p us h = refl
-parts-comm g part start (b ∷ bytes) k d p us h =
-    ap (overParts g part start bytes (suc k)) (go (used b)) ∙ parts-comm g part start bytes (suc k) (stored g part start (used b) k d) p us (omega (arith, suc-mul k part))
-  where
-    go : (t : Bool) → stored g part start t k (sets d p us) ≡ sets (stored g part start t k d) p us
-    go true = sets-comm us (g k) d p (k * part + start) (omega arith)
-    go false = refl
-
--- one channel, where the channels after it are known
-parts-step : (f g : ℕ → List Float) (part start n m : ℕ) → ((j : ℕ) → length (f j) ≡ n) → ((j : ℕ) → length (g j) ≡ m) → start + n + m ≤ part
-    → (t : Bool) (bytes : List ℕ) (k : ℕ) (d : List Float)
-    → ((d : List Float) → overParts g part (start + n) bytes (suc k) (overParts f part start bytes (suc k) d) ≡ overParts (λ j. f j ++ g j) part start bytes (suc k) d)
-    → overParts g part (start + n) bytes (suc k) (stored g part (start + n) t k (overParts f part start bytes (suc k) (stored f part start t k d)))
-    ≡ overParts (λ j. f j ++ g j) part start bytes (suc k) (stored (λ j. f j ++ g j) part start t k d)
-parts-step f g part start n m fn gm fit true bytes k d rest =
-    let e : k * part + start + length (f k) ≡ k * part + (start + n) = omega (arith, fn k) in
-    let p = k * part + (start + n) in
-    ap (overParts g part (start + n) bytes (suc k)) (sym (parts-comm f part start bytes (suc k) (sets d (k * part + start) (f k)) p (g k) (omega (arith, suc-mul k part, gm k))))
-    ∙ ap (λ (q : ℕ). overParts g part (start + n) bytes (suc k) (overParts f part start bytes (suc k) (sets (sets d (k * part + start) (f k)) q (g k)))) (sym e)
-    ∙ ap (λ (u : List Float). overParts g part (start + n) bytes (suc k) (overParts f part start bytes (suc k) u)) (sym (sets-append (f k) (g k) d (k * part + start)))
-    ∙ rest (sets d (k * part + start) (f k ++ g k))
-parts-step f g part start n m fn gm fit false bytes k d rest = rest d
-
--- n outputs a channel, and then more after them
-pub parts-append : (f g : ℕ → List Float) (part start n m : ℕ) → ((j : ℕ) → length (f j) ≡ n) → ((j : ℕ) → length (g j) ≡ m) → start + n + m ≤ part
-    → (bytes : List ℕ) (k : ℕ) (d : List Float)
-    → overParts g part (start + n) bytes k (overParts f part start bytes k d) ≡ overParts (λ j. f j ++ g j) part start bytes k d
-unfolding overParts
-parts-append f g part start n m fn gm fit [] k d = refl
-parts-append f g part start n m fn gm fit (b ∷ bytes) k d =
-    parts-step f g part start n m fn gm fit (used b) bytes k d (λ u. parts-append f g part start n m fn gm fit bytes (suc k) u)
 
 -- one channel more
 pub parts-again : (g : ℕ → List Float) (part start : ℕ) (bytes : List ℕ) (k : ℕ) (d d′ : List Float) → k < length bytes → d′ ≡ stored g part start (used (getD bytes k 0)) k d
@@ -147,3 +93,12 @@ parts-own g part start n gn fit (b ∷ bytes) k (suc i) f d x h q r u =
     ∙ parts-own g part start n gn fit bytes (suc k) i f s x (le-of-suc-le-suc h) q
     (subst (λ (l : ℕ). (suc k + length bytes) * part ≤ l) (sym (stored-length g part start (used b) k d)) (subst (λ (j : ℕ). j * part ≤ length d) (sym m) r)) u
     ∙ ap (λ (j : ℕ). getD (g j) f x) (sym e)
+
+-- ---- the call, at the number of frames that the code counts
+
+pub dest-is : (call : Call) (counted : ℕ) → 0 < call .channels → counted ≡ length (call .samples) → (dest : List Float) (start : ℕ)
+    → overParts (λ k. outs (call .coefficients .a) (call .coefficients .b) (memoryOf (call .state .values) k) (column (call .samples) k (call .channels) (counted / call .channels))) (length dest / call .channels) start (call .map) 0 dest
+    ≡ destAfter call dest start
+unfolding destAfter channelOf
+dest-is call counted some e dest start =
+    ap (λ (n : ℕ). overParts (λ k. outs (call .coefficients .a) (call .coefficients .b) (memoryOf (call .state .values) k) (column (call .samples) k (call .channels) n)) (length dest / call .channels) start (call .map) 0 dest) (frames-are (call .channels) counted (length (call .samples)) some e)

@@ -1,23 +1,21 @@
 -- `states::store` meets its contract: five stores at places next to each other are a run of stores, and past the end there is no place. Assumes nothing.
 use borrow.Author.Needs.{needs}
 use Prim.Native.Nat.{_*_}
-use mathlib.Core.Path.{ap, sym, _∙_}
-use mathlib.Core.List.{List}
-use lib.Ieee.{Float}
+use mathlib.Core.Path.{_≡_, sym}
+use lib.ListN.{length}
 use Rattle.sources.proofs.Stores.{five-stores}
-use Rattle.states.specs.Channels.{withMemory}
+use Rattle.states.specs.Channels.{statePlaces, withMemory}
 use Rattle.states.proofs.Memories.{with-nowhere}
 use Rattle.states.proofs.store.Statement.{statement}
 use Rattle.states.proofs.store.Tie as tie
 
-state-of-requires : tie.Need-state-of-requires
-state-of-requires c κs = search needs
+forty : (s : tie.Start) → length (s .args .s .values) ≡ statePlaces
+forty s = search needs
 
 returns : tie.Need-returns
 returns c =
-    let w = c .before in
-    let a = w .before .before .args in
-    w .state-of .ensures .0 ∙ sym (with-nowhere (a .s .values) (a .k) (c .if1 .taken) (w .state-of .ensures .1) (a .m))
+    let s = c .before in
+    sym (with-nowhere (s .args .s .values) (s .args .k) (c .if1 .taken) (forty s) (s .args .m))
 
 mul-at : tie.Need-mul-at
 mul-at c = search needs
@@ -66,16 +64,12 @@ element-write-w-5 c = search needs
 
 returns-2 : tie.Need-returns-2
 unfolding withMemory
-returns-2 c =
-    let w = c .before in
-    let a = w .before .before .args in
-    five-stores (w .state-of .result .values) (a .k * 5) _ _ _ _ _ ∙ ap (λ (v : List Float). withMemory v (a .k) (a .m)) (w .state-of .ensures .0)
+returns-2 c = let a = c .before .args in five-stores (a .s .values) (a .k * 5) _ _ _ _ _
 
 pub store-spec : {M : Type 1} → statement M
 store-spec =
     tie.close
     (tie.spec
-    state-of-requires
     returns
     mul-at
     mul-w

@@ -1,6 +1,7 @@
 -- `weighting::process` meets its contract: the number of the check is the refusal, and past it state and destination are what the definitions say. Assumes nothing.
 use borrow.Author.Needs.{needs}
 use Prim.Native.Nat.{ℕ, _/_}
+use native.Mathlib.Nat.{le-of-eq}
 use native.Mathlib.Omega.{arith}
 use mathlib.Core.Path.{_≡_, sym, ap, _∙_}
 use mathlib.Core.Bool.{true}
@@ -16,9 +17,9 @@ use Rattle.sources.specs.Source.{sourceOf}
 use Rattle.sources.proofs.Cutting.{all-frames}
 use Rattle.states.specs.declared.State.{State}
 use Rattle.states.specs.Channels.{Call, callOf, stateAfter}
-use Rattle.states.proofs.Cutting.{state-is}
+use Rattle.states.proofs.Whole.{state-is}
 use Rattle.weighting.specs.Weighting.{Kept, destAfter, weighed}
-use Rattle.weighting.proofs.Cutting.{dest-is}
+use Rattle.weighting.proofs.Destinations.{dest-is}
 use Rattle.weighting.proofs.process.Statement.{statement}
 use Rattle.weighting.proofs.process.Tie as tie
 
@@ -71,8 +72,8 @@ div-frames c = fine c .some
 div-part : tie.Need-div-part
 div-part c = fine c .some
 
-weigh-all-requires : tie.Need-weigh-all-requires
-weigh-all-requires c κs =
+weigh-channels-requires : tie.Need-weigh-channels-requires
+weigh-channels-requires c κs =
     let e = c .before in
     let r = e .before in
     let n = r .before .size-of in
@@ -81,7 +82,7 @@ weigh-all-requires c κs =
     let k = fine e in
     let b = mapped (a .channels) (a .map .now) (seeds (call s .channels) (length (call s .samples)) (call s .map) (ok e .seed) .bytes) in
     let d = roomy (a .channels) (length (call s .samples)) (length (a .dest .now)) (a .start) (ok e .dest) in (
-      all-frames (a .channels) (n .result) (a .ints .now) (a .floats .now) (rw (n .ensures) k) (n .ensures) (omega (arith, s .good)) (omega (arith, s .good)),
+      le-of-eq (all-frames (a .channels) (n .result) (a .ints .now) (a .floats .now) (rw (n .ensures) k) (n .ensures) (omega (arith, s .good)) (omega (arith, s .good)) .whole),
       record { few = k .few; bytes = b; parts = d .parts; fits = rw (n .ensures) (d .fits) },
     )
 
@@ -101,9 +102,9 @@ returns-2 c =
     let z = goes (check s) (leaves s) (r .refused-process .result) (numbered r) (e .if1 .left) in (
       ap saidBy (sym z),
       (
-        ap (λ (v : List Float). record { values = v }) (w .weigh-all .ensures .0 ∙ state-is (call s) (n .result) some (n .ensures))
+        ap (λ (v : List Float). record { values = v }) (w .weigh-channels .ensures .0 ∙ state-is (call s) (n .result) some (n .ensures))
             ∙ sym (ap (λ (o : Outcome Kept NoValues). keptBy (record { state = a .s; dest = a .dest .now }) o .state) z),
-        w .weigh-all .ensures .1
+        w .weigh-channels .ensures .1
             ∙ dest-is (call s) (n .result) some (n .ensures) (a .dest .now) (a .start)
             ∙ sym (ap (λ (o : Outcome Kept NoValues). keptBy (record { state = a .s; dest = a .dest .now }) o .dest) z),
       ),
@@ -118,6 +119,6 @@ process-spec =
     returns
     div-frames
     div-part
-    weigh-all-requires
+    weigh-channels-requires
     same-length
     returns-2)

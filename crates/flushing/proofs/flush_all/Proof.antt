@@ -1,0 +1,38 @@
+-- `flushing::flush_all` meets its contract: each of the five values is flushed. Assumes nothing.
+use borrow.Author.Needs.{needs}
+use Rattle.recurrence.specs.Recurrence.{flushed}
+use Rattle.flushing.proofs.flush_all.Statement.{statement}
+use Rattle.flushing.proofs.flush_all.Tie as tie
+
+flush-one-requires : tie.Need-flush-one-requires
+flush-one-requires c κs = search needs
+
+flush-one-requires-2 : tie.Need-flush-one-requires-2
+flush-one-requires-2 c κs = search needs
+
+flush-one-requires-3 : tie.Need-flush-one-requires-3
+flush-one-requires-3 c κs = search needs
+
+flush-one-requires-4 : tie.Need-flush-one-requires-4
+flush-one-requires-4 c κs = search needs
+
+flush-one-requires-5 : tie.Need-flush-one-requires-5
+flush-one-requires-5 c κs = search needs
+
+returns : tie.Need-returns
+unfolding flushed
+returns c =
+    let four = c .before in
+    let three = four .before in
+    let two = three .before in
+    λ i. record {
+      s0 = two .before .flush-one .ensures i;
+      s1 = two .flush-one2 .ensures i;
+      s2 = three .flush-one3 .ensures i;
+      s3 = four .flush-one4 .ensures i;
+      s4 = c .flush-one5 .ensures i;
+    }
+
+pub flush-all-spec : {M : Type 1} → statement M
+flush-all-spec =
+    tie.close (tie.spec flush-one-requires flush-one-requires-2 flush-one-requires-3 flush-one-requires-4 flush-one-requires-5 returns)

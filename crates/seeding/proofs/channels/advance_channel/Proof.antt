@@ -1,0 +1,40 @@
+-- `seeding::advance_channel` meets its contract: a byte of 0 leaves all as it is, and any other puts the channel's memory through `advance`. Assumes nothing.
+use borrow.Author.Needs.{needs}
+use borrow.Author.Tests.{eq-eqb, ne-eqb}
+use mathlib.Core.Path.{refl, ap, _∙_}
+use Rattle.samples.specs.Frames.{column}
+use Rattle.recurrence.specs.declared.Memory.{Memory}
+use Rattle.sources.specs.Source.{sourceOf}
+use Rattle.recurrence.specs.Recurrence.{after, flushed}
+use Rattle.states.specs.Channels.{withMemory}
+use Rattle.seeding.proofs.channels.advance_channel.Statement.{statement}
+use Rattle.seeding.proofs.channels.advance_channel.Tie as tie
+
+returns : tie.Need-returns
+returns c = simp (eq-eqb _ _ (c .if1 .taken)) refl
+
+load-requires : tie.Need-load-requires
+load-requires c κs = search needs
+
+advance-requires : tie.Need-advance-requires
+advance-requires c κs = search needs
+
+flush-all-requires : tie.Need-flush-all-requires
+flush-all-requires c κs = search needs
+
+store-requires : tie.Need-store-requires
+store-requires c κs = search needs
+
+returns-2 : tie.Need-returns-2
+returns-2 c =
+    let q = c .before .before .before .before in
+    let a = q .before .before .args in
+    rw (ne-eqb (a .byte) 0 (q .if1 .left))
+    (c .store .ensures
+    ∙ ap (withMemory (a .s .values) (a .k))
+    (c .before .flush-all .ensures
+    ∙ ap flushed (c .before .before .advance .ensures ∙ ap (λ (m : Memory). after (a .a) m (column (sourceOf (a .ints .now) (a .floats .now)) (a .k) (a .channels) (a .count))) (c .before .before .before .load .ensures))))
+
+pub advance-channel-spec : {M : Type 1} → statement M
+advance-channel-spec =
+    tie.close (tie.spec returns load-requires advance-requires flush-all-requires store-requires returns-2)

@@ -1,0 +1,332 @@
+// The weighting of a call, channel by channel. A sample becomes a float where it is used: a channel's sums wait on themselves, and the conversion beside them takes no time.
+ghost use mathlib.Core.Path.{_≡_};
+ghost use mathlib.Core.Bool.{true, cond};
+ghost use mathlib.Core.List.{List};
+ghost use Prim.Native.Nat.{ℕ, _+_, _*_, _<_, _≤_};
+ghost use lib.ListN.{length, set, drop, getD};
+ghost use lib.Ieee.{Float, nan};
+ghost use lib.Seq.{sets};
+ghost use Rattle.samples.specs.Frames.{column};
+ghost use Rattle.calls.specs.Calls.{mostChannels, used};
+ghost use Rattle.sources.specs.Source.{sourceOf};
+ghost use Rattle.sources.specs.Blocks.{Reach};
+ghost use Rattle.recurrence.specs.Recurrence.{next, out, after, outs, flushed};
+ghost use Rattle.states.specs.Channels.{memoryOf, withMemory, overUsed};
+ghost use Rattle.weighting.specs.Parts.{Parts};
+ghost use Rattle.weighting.specs.Weighting.{overParts};
+use recurrence::Coefficients;
+use recurrence::Memory;
+use states::State;
+
+// Sample i of a call, as a float.
+fn sample_at(ints: &[i16], floats: &[f32], i: usize) -> f64
+    requires { ⌜ i < length (sourceOf (now ints) (now floats)) ⌝ }
+    ensures { λ r. ⌜ r ≡ getD (sourceOf (now (ints .entry)) (now (floats .entry))) i nan ⌝ }
+{
+    if ints.len() == 0 {
+        return samples::f32_to_f64(floats[i]);
+    }
+    samples::i16_to_f64(ints[i])
+}
+
+// One channel's frames: its memory after them, and their outputs in dest from place `to` on.
+fn weigh(
+    c: Coefficients,
+    m: Memory,
+    ints: &[i16],
+    floats: &[f32],
+    first: usize,
+    step: usize,
+    count: usize,
+    dest: &mut [f64],
+    to: usize,
+) -> Memory
+    requires { ⌜ Reach first step count (length (sourceOf (now ints) (now floats))) ⌝ }
+    requires { ⌜ to + count ≤ length (now dest) ⌝ }
+    ensures { λ r. ⌜ r ≡ after (c .a) m (column (sourceOf (now (ints .entry)) (now (floats .entry))) first step count) ⌝ }
+    ensures { λ r. ⌜ now (dest .exit) ≡ sets (now (dest .entry)) to (outs (c .a) (c .b) m (column (sourceOf (now (ints .entry)) (now (floats .entry))) first step count)) ⌝ }
+{
+    let a = c.a;
+    let b = c.b;
+    let mut w = m;
+    let mut left = count;
+    let mut i = first;
+    let mut j = to;
+    while 0 < left {
+        let x = sample_at(ints, floats, i);
+        let s0 = recurrence::head_of(a, w, x);
+        dest[j] = recurrence::output_of(b, w, s0);
+        w = recurrence::shifted(w, s0);
+        i += step;
+        j += 1;
+        left -= 1;
+    }
+    w
+}
+
+// The memories of two channels that are weighed side by side: one channel's sums wait on themselves, and two channels' do not wait on each other.
+pub struct Pair {
+    pub one: Memory,
+    pub two: Memory,
+}
+
+// A frame of two channels side by side, the second's output `part` places after the first's.
+fn frame_two(
+    c: Coefficients,
+    p: Pair,
+    ints: &[i16],
+    floats: &[f32],
+    i: usize,
+    dest: &mut [f64],
+    j: usize,
+    part: usize,
+) -> Pair
+    requires { ⌜ i + 1 < length (sourceOf (now ints) (now floats)) ⌝ }
+    requires { ⌜ j + part < length (now dest) ⌝ }
+    ensures { λ r. ⌜ (r .one ≡ next (c .a) (p .one) (getD (sourceOf (now (ints .entry)) (now (floats .entry))) i nan)) × (r .two ≡ next (c .a) (p .two) (getD (sourceOf (now (ints .entry)) (now (floats .entry))) (i + 1) nan)) ⌝ }
+    ensures { λ _. ⌜ now (dest .exit) ≡ set (set (now (dest .entry)) j (out (c .a) (c .b) (p .one) (getD (sourceOf (now (ints .entry)) (now (floats .entry))) i nan))) (j + part) (out (c .a) (c .b) (p .two) (getD (sourceOf (now (ints .entry)) (now (floats .entry))) (i + 1) nan)) ⌝ }
+{
+    let a = c.a;
+    let b = c.b;
+    let m = p.one;
+    let n = p.two;
+    let x = sample_at(ints, floats, i);
+    let y = sample_at(ints, floats, i + 1);
+    let s = recurrence::head_of(a, m, x);
+    let t = recurrence::head_of(a, n, y);
+    let u = recurrence::output_of(b, m, s);
+    let v = recurrence::output_of(b, n, t);
+    dest[j] = u;
+    dest[j + part] = v;
+    Pair {
+        one: recurrence::shifted(m, s),
+        two: recurrence::shifted(n, t),
+    }
+}
+
+// Two channels' frames, two a turn: their memories after them, and their outputs in dest from place `to` on and from `part` places after it.
+fn weigh_two(
+    c: Coefficients,
+    p: Pair,
+    ints: &[i16],
+    floats: &[f32],
+    first: usize,
+    step: usize,
+    count: usize,
+    dest: &mut [f64],
+    to: usize,
+    part: usize,
+) -> Pair
+    requires { ⌜ Reach (first + 1) step count (length (sourceOf (now ints) (now floats))) ⌝ }
+    requires { ⌜ (count ≤ part) × (to + part + count ≤ length (now dest)) ⌝ }
+    ensures { λ r. ⌜ r .one ≡ after (c .a) (p .one) (column (sourceOf (now (ints .entry)) (now (floats .entry))) first step count) ⌝ }
+    ensures { λ r. ⌜ r .two ≡ after (c .a) (p .two) (column (sourceOf (now (ints .entry)) (now (floats .entry))) (first + 1) step count) ⌝ }
+    ensures { λ _. ⌜ now (dest .exit) ≡ sets (sets (now (dest .entry)) to (outs (c .a) (c .b) (p .one) (column (sourceOf (now (ints .entry)) (now (floats .entry))) first step count))) (to + part) (outs (c .a) (c .b) (p .two) (column (sourceOf (now (ints .entry)) (now (floats .entry))) (first + 1) step count)) ⌝ }
+{
+    let mut w = p;
+    let mut left = count;
+    let mut i = first;
+    let mut j = to;
+    while 1 < left {
+        w = frame_two(c, w, ints, floats, i, dest, j, part);
+        w = frame_two(c, w, ints, floats, i + step, dest, j + 1, part);
+        i += step + step;
+        j += 2;
+        left -= 2;
+    }
+    if 0 < left {
+        return frame_two(c, w, ints, floats, i, dest, j, part);
+    }
+    w
+}
+
+// Channel k at its map byte. An unused one keeps state and destination.
+fn weigh_channel(
+    c: Coefficients,
+    s: State,
+    byte: u8,
+    ints: &[i16],
+    floats: &[f32],
+    k: usize,
+    channels: usize,
+    count: usize,
+    dest: &mut [f64],
+    to: usize,
+) -> State
+    requires { ⌜ k < mostChannels ⌝ }
+    requires { ⌜ Reach k channels count (length (sourceOf (now ints) (now floats))) ⌝ }
+    requires { ⌜ to + count ≤ length (now dest) ⌝ }
+    ensures { λ r. ⌜ r .values ≡ cond (used byte) (withMemory (s .values) k (flushed (after (c .a) (memoryOf (s .values) k) (column (sourceOf (now (ints .entry)) (now (floats .entry))) k channels count)))) (s .values) ⌝ }
+    ensures { λ r. ⌜ now (dest .exit) ≡ cond (used byte) (sets (now (dest .entry)) to (outs (c .a) (c .b) (memoryOf (s .values) k) (column (sourceOf (now (ints .entry)) (now (floats .entry))) k channels count))) (now (dest .entry)) ⌝ }
+{
+    if byte == 0 {
+        return s;
+    }
+    let m = weigh(
+        c,
+        states::load(s, k),
+        ints,
+        floats,
+        k,
+        channels,
+        count,
+        dest,
+        to,
+    );
+    states::store(s, k, flushing::flush_all(m))
+}
+
+// Channels k and k + 1, both used.
+fn weigh_pair(
+    c: Coefficients,
+    s: State,
+    ints: &[i16],
+    floats: &[f32],
+    k: usize,
+    channels: usize,
+    count: usize,
+    dest: &mut [f64],
+    to: usize,
+    part: usize,
+) -> State
+    requires { ⌜ k + 1 < mostChannels ⌝ }
+    requires { ⌜ Reach (k + 1) channels count (length (sourceOf (now ints) (now floats))) ⌝ }
+    requires { ⌜ (count ≤ part) × (to + part + count ≤ length (now dest)) ⌝ }
+    ensures { λ r. ⌜ r .values ≡ withMemory (withMemory (s .values) k (flushed (after (c .a) (memoryOf (s .values) k) (column (sourceOf (now (ints .entry)) (now (floats .entry))) k channels count)))) (k + 1) (flushed (after (c .a) (memoryOf (s .values) (k + 1)) (column (sourceOf (now (ints .entry)) (now (floats .entry))) (k + 1) channels count))) ⌝ }
+    ensures { λ r. ⌜ now (dest .exit) ≡ sets (sets (now (dest .entry)) to (outs (c .a) (c .b) (memoryOf (s .values) k) (column (sourceOf (now (ints .entry)) (now (floats .entry))) k channels count))) (to + part) (outs (c .a) (c .b) (memoryOf (s .values) (k + 1)) (column (sourceOf (now (ints .entry)) (now (floats .entry))) (k + 1) channels count)) ⌝ }
+{
+    let p = weigh_two(
+        c,
+        Pair {
+            one: states::load(s, k),
+            two: states::load(s, k + 1),
+        },
+        ints,
+        floats,
+        k,
+        channels,
+        count,
+        dest,
+        to,
+        part,
+    );
+    let m = p.one;
+    let n = p.two;
+    states::store(
+        states::store(s, k, flushing::flush_all(m)),
+        k + 1,
+        flushing::flush_all(n),
+    )
+}
+
+// Whether channel k and the one after it are both used.
+fn both_used(map: &[u8], k: usize) -> bool
+    requires { ⌜ k < length (now map) ⌝ }
+    ensures { λ r. ⌜ (r ≡ true → (k + 1 < length (now (map .entry))) × ((used (getD (now (map .entry)) k 0) ≡ true) × (used (getD (now (map .entry)) (k + 1) 0) ≡ true))) ⌝ }
+{
+    if map[k] == 0 {
+        return false;
+    }
+    if map.len() - k < 2 {
+        return false;
+    }
+    map[k + 1] != 0
+}
+
+// The state when the channels before `next` are weighed.
+pub struct Reached {
+    pub state: State,
+    pub next: usize,
+}
+
+// Channel k, and the one after it where both are used. What is left to weigh gives what it gave before.
+fn weigh_next(
+    c: Coefficients,
+    s: State,
+    channels: usize,
+    count: usize,
+    ints: &[i16],
+    floats: &[f32],
+    map: &[u8],
+    dest: &mut [f64],
+    part: usize,
+    to: usize,
+    k: usize,
+) -> Reached
+    requires { ⌜ k < channels ⌝ }
+    requires { ⌜ count * channels ≤ length (sourceOf (now ints) (now floats)) ⌝ }
+    requires { ⌜ Parts channels (length (now map)) part to count (length (now dest)) ⌝ }
+    ensures { λ r. ⌜ (k < r .next) × (r .next ≤ channels) ⌝ }
+    ensures { λ r. ⌜ overUsed (λ j m. flushed (after (c .a) m (column (sourceOf (now (ints .entry)) (now (floats .entry))) j channels count))) (drop (r .next) (now (map .entry))) (r .next) (r .state .values) ≡ overUsed (λ j m. flushed (after (c .a) m (column (sourceOf (now (ints .entry)) (now (floats .entry))) j channels count))) (drop k (now (map .entry))) k (s .values) ⌝ }
+    ensures { λ r. ⌜ ((v : List Float) → ((j : ℕ) → k ≤ j → memoryOf (s .values) j ≡ memoryOf v j)
+        → overParts (λ j. outs (c .a) (c .b) (memoryOf v j) (column (sourceOf (now (ints .entry)) (now (floats .entry))) j channels count)) part to (drop (r .next) (now (map .entry))) (r .next) (now (dest .exit))
+        ≡ overParts (λ j. outs (c .a) (c .b) (memoryOf v j) (column (sourceOf (now (ints .entry)) (now (floats .entry))) j channels count)) part to (drop k (now (map .entry))) k (now (dest .entry))) ⌝ }
+    ensures { λ r. ⌜ ((j : ℕ) → r .next ≤ j → memoryOf (r .state .values) j ≡ memoryOf (s .values) j) ⌝ }
+{
+    if both_used(map, k) {
+        return Reached {
+            state: weigh_pair(
+                c,
+                s,
+                ints,
+                floats,
+                k,
+                channels,
+                count,
+                dest,
+                k * part + to,
+                part,
+            ),
+            next: k + 2,
+        };
+    }
+    Reached {
+        state: weigh_channel(
+            c,
+            s,
+            map[k],
+            ints,
+            floats,
+            k,
+            channels,
+            count,
+            dest,
+            k * part + to,
+        ),
+        next: k + 1,
+    }
+}
+
+// Every channel's frames, the outputs from place `to` of each part on. Each memory is flushed at the end of the call.
+pub(crate) fn weigh_channels(
+    c: Coefficients,
+    s: State,
+    channels: usize,
+    count: usize,
+    ints: &[i16],
+    floats: &[f32],
+    map: &[u8],
+    dest: &mut [f64],
+    part: usize,
+    to: usize,
+) -> State
+    requires { ⌜ count * channels ≤ length (sourceOf (now ints) (now floats)) ⌝ }
+    requires { ⌜ Parts channels (length (now map)) part to count (length (now dest)) ⌝ }
+    ensures { λ r. ⌜ r .values ≡ overUsed (λ k m. flushed (after (c .a) m (column (sourceOf (now (ints .entry)) (now (floats .entry))) k channels count))) (now (map .entry)) 0 (s .values) ⌝ }
+    ensures { λ r. ⌜ now (dest .exit) ≡ overParts (λ k. outs (c .a) (c .b) (memoryOf (s .values) k) (column (sourceOf (now (ints .entry)) (now (floats .entry))) k channels count)) part to (now (map .entry)) 0 (now (dest .entry)) ⌝ }
+{
+    let mut w = s;
+    let mut k = 0;
+    while k < channels {
+        let n = weigh_next(c, w, channels, count, ints, floats, map, dest, part, to, k);
+        w = n.state;
+        k = n.next;
+        // A second call keeps weigh_next a function of its own, whose sums the compiler does two channels at a time.
+        if k < channels {
+            let m = weigh_next(c, w, channels, count, ints, floats, map, dest, part, to, k);
+            w = m.state;
+            k = m.next;
+        }
+    }
+    w
+}
