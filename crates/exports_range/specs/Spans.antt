@@ -1,16 +1,25 @@
 -- How the C interface tells a range.
-use Prim.Native.Nat.{ℕ}
+use Prim.Native.Nat.{ℕ, _+_}
+use mathlib.Core.Bool.{cond}
 use mathlib.Core.List.{List}
+use lib.Dec.{ltb}
 use lib.Ieee.{Float}
-use Rattle.refusals.specs.Refusal.{number}
-use Rattle.refusals.specs.Outcome.{Outcome, went, refused}
+use lib.ListN.{length}
+use Rattle.refusals.specs.Refusal.{SET, number}
+use Rattle.refusals.specs.Outcome.{Outcome, went, refused, Question, answers}
+use Rattle.histogram_bins.specs.Bin.{bins}
 use Rattle.history.specs.Set.{Histories}
+use Rattle.block_range.specs.Counted.{spanAt}
 use Rattle.range.specs.Range.{Span, found, nothing, notANumber, rangeOf}
 use Rattle.entries.specs.Sets.{asked}
 
 -- the range of a set given as its numbers, over a work slice
 abbrev pub rangeAsked : List ℕ → List ℕ → List Float → List Float → Outcome (List Float) Span
 rangeAsked numbers counters energies work = asked (λ (h : Histories). rangeOf h work) numbers counters energies
+
+-- that of one histogram, whose counters start at a place: SET where they do not end within the counters
+abbrev pub histogramAt : List ℕ → ℕ → Question Span
+histogramAt counters start = cond (ltb (length counters) (start + bins)) (refused SET) (answers (spanAt counters start))
 
 -- a range has two codes more, above those of the refusals
 abbrev pub spanCode : {Kept : Type 0} → Outcome Kept Span → ℕ

@@ -1,13 +1,73 @@
 // The C interface of the range. include/xelamphoun.h declares it.
 ghost use mathlib.Core.Path.{_≡_};
-ghost use Rattle.refusals.specs.Outcome.{keptBy};
-ghost use Rattle.exports_range.specs.Spans.{rangeAsked, spanCode, lowOr, highOr};
+ghost use lib.ListN.{length};
+ghost use Rattle.refusals.specs.Outcome.{saidBy, keptBy};
+ghost use Rattle.spans.specs.Span.{said};
+ghost use Rattle.range.specs.Range.{rangeOf};
+ghost use Rattle.entries.specs.Sets.{numbersAnEntry, setOf};
+ghost use Rattle.exports_range.specs.Spans.{rangeAsked, histogramAt, spanCode, lowOr, highOr};
+use history::set::Shape;
 use spans::Range;
 
 // The codes of a range that answers no energies.
 const NOTHING: u8 = 128;
 
 const NOT_A_NUMBER: u8 = 129;
+
+// The range of the histogram whose counters start at a place: nothing is added to them, and no set is made.
+fn of_histogram(counters: &[u32], start: usize) -> Range
+    ensures { λ r. ⌜ said r ≡ saidBy (histogramAt (now (counters .entry)) start) ⌝ }
+{
+    if counters.len() < start {
+        return Range::Refused(refusals::SET);
+    }
+    if counters.len() - start < histogram_bins::BINS {
+        return Range::Refused(refusals::SET);
+    }
+    block_range::of_block(counters, start)
+}
+
+// The range of the set of the numbers.
+fn of_set(entries: &[usize], counters: &[u32], energies: &[f64], work: &mut [f64]) -> Range
+    ensures { λ r. ⌜ (said r ≡ saidBy (rangeOf (setOf (now (entries .entry)) (now (counters .entry)) (now (energies .entry))) (now (work .entry))))
+        × (now (work .exit) ≡ keptBy (now (work .entry)) (rangeOf (setOf (now (entries .entry)) (now (counters .entry)) (now (energies .entry))) (now (work .entry)))) ⌝ }
+{
+    range::loudness_range(
+        entries::entries_of(entries),
+        entries.len() / entries::NUMBERS,
+        counters,
+        energies,
+        work,
+    )
+}
+
+// That of one entry. A histogram needs no set of sixteen.
+fn of_one(entries: &[usize], counters: &[u32], energies: &[f64], work: &mut [f64]) -> Range
+    requires { ⌜ length (now entries) ≡ numbersAnEntry ⌝ }
+    ensures { λ r. ⌜ (said r ≡ saidBy (rangeOf (setOf (now (entries .entry)) (now (counters .entry)) (now (energies .entry))) (now (work .entry))))
+        × (now (work .exit) ≡ keptBy (now (work .entry)) (rangeOf (setOf (now (entries .entry)) (now (counters .entry)) (now (energies .entry))) (now (work .entry)))) ⌝ }
+{
+    let entry = entries::first_of(entries);
+    let shape = entry.shape;
+    match shape {
+        Shape::Histogram(start) => of_histogram(counters, start),
+        Shape::Queue(_, _) => of_set(entries, counters, energies, work),
+    }
+}
+
+// The range of the numbers, and SET where they are not whole entries.
+fn asked(entries: &[usize], counters: &[u32], energies: &[f64], work: &mut [f64]) -> Range
+    ensures { λ r. ⌜ (said r ≡ saidBy (rangeAsked (now (entries .entry)) (now (counters .entry)) (now (energies .entry)) (now (work .entry))))
+        × (now (work .exit) ≡ keptBy (now (work .entry)) (rangeAsked (now (entries .entry)) (now (counters .entry)) (now (energies .entry)) (now (work .entry)))) ⌝ }
+{
+    if entries.len() == entries::NUMBERS {
+        return of_one(entries, counters, energies, work);
+    }
+    if entries.len() % entries::NUMBERS != 0 {
+        return Range::Refused(refusals::SET);
+    }
+    of_set(entries, counters, energies, work)
+}
 
 #[no_mangle]
 pub extern "C" fn xel_loudness_range(
@@ -23,17 +83,7 @@ pub extern "C" fn xel_loudness_range(
         × (now (low .exit) ≡ lowOr (now (low .entry)) (rangeAsked (now (entries .entry)) (now (counters .entry)) (now (energies .entry)) (now (work .entry))))
         × (now (high .exit) ≡ highOr (now (high .entry)) (rangeAsked (now (entries .entry)) (now (counters .entry)) (now (energies .entry)) (now (work .entry)))) ⌝ }
 {
-    if entries.len() % entries::NUMBERS != 0 {
-        return refusals::SET;
-    }
-    let count = entries.len() / entries::NUMBERS;
-    match range::loudness_range(
-        entries::entries_of(entries),
-        count,
-        counters,
-        energies,
-        work,
-    ) {
+    match asked(entries, counters, energies, work) {
         Range::Found(lower, higher) => {
             *low = lower;
             *high = higher;

@@ -9,12 +9,13 @@ use native.Mathlib.Nat.{eq-or-lt-of-le, le-of-suc-le-suc, not-suc-le-zero}
 use native.Mathlib.Decide.{decLt}
 use native.Mathlib.Omega.{arith}
 use lib.Dec.{T}
-use lib.ListN.{length}
+use lib.ListN.{length, set}
+use lib.Seq.{set-comm}
 use lib.Ieee.{Float, binary64, ofBits, le, lt}
 use lib.Ieee.Positive.{above}
 use Rattle.floats.proofs.Order.{float-le-trans}
 use Rattle.rising_order.specs.Arrangement.{Perm, both, All, Above, Rising, Ordered, at, exchanged}
-use Rattle.ordering.specs.Inner.{Climbs, Sinks, Falling, Turned}
+use Rattle.ordering.specs.Inner.{Climbs, Sinks, Falling, mirrored, Turned}
 use Rattle.rising_order.proofs.Perms.{perm-refl, perm-length, exchange-perm, all-of}
 use Rattle.rising_order.proofs.Energies.{above-up, zero-below}
 use Rattle.rising_order.proofs.Places.{le-by, same-or-other, rising-of, exchanged-length, exchanged-first, exchanged-second, exchanged-other}
@@ -135,7 +136,7 @@ turn-done i old new h t = record { same = t .same; turned = λ k g. go k g (decL
     go k g (no a) (yes b) = let mid : k ≡ length new - 1 - k = omega arith in t .inner k (omega arith) b ∙ ap (at old) mid
 
 module _ (i : ℕ) (old new next : List Float) (t : Turning i old new)
-    (more : i < length new / 2) (is : next ≡ exchanged new i (length new - 1 - i)) where
+    (more : i + 1 ≤ length new / 2) (is : next ≡ mirrored new i) where
   j : ℕ
   j = length new - 1 - i
 
@@ -181,6 +182,29 @@ module _ (i : ℕ) (old new next : List Float) (t : Turning i old new)
         let in-new : k + (i + 1) < length new = rw long at g in
         at-else k (λ e. omega arith) (λ e. omega arith) ∙ t .inner k (omega arith) (omega arith);
   }
+
+-- two places at once: four stores, of which none undoes another
+pub stored-two : (l : List Float) (i j : ℕ) → i + 2 ≤ length l / 2 → j ≡ length l - 2 - i
+    → set (set (set (set l i (at l (j + 1))) (i + 1) (at l j)) j (at l (i + 1))) (j + 1) (at l i) ≡ mirrored (mirrored l i) (i + 1)
+stored-two l i j h e =
+    let once = exchanged l i (j + 1) in
+    let outer : j + 1 ≡ length l - 1 - i = omega arith in
+    let inner : j ≡ length (mirrored l i) - 1 - (i + 1) = omega (arith, exchanged-length l i (length l - 1 - i)) in
+    let third : at l j ≡ at once j = sym (exchanged-other l i (j + 1) j (λ p. omega arith) (λ p. omega arith)) in
+    let second : at l (i + 1) ≡ at once (i + 1) = sym (exchanged-other l i (j + 1) (i + 1) (λ p. omega arith) (λ p. omega arith)) in
+    set-comm (set (set l i (at l (j + 1))) (i + 1) (at l j)) j (j + 1) (at l (i + 1)) (at l i) (λ p. omega arith)
+    ∙ ap (λ (m : List Float). set m j (at l (i + 1))) (set-comm (set l i (at l (j + 1))) (i + 1) (j + 1) (at l j) (at l i) (λ p. omega arith))
+    ∙ ap (λ (x : Float). set (set once (i + 1) x) j (at l (i + 1))) third
+    ∙ ap (λ (x : Float). set (set once (i + 1) (at once j)) j x) second
+    ∙ ap (λ (p : ℕ). exchanged (exchanged l i p) (i + 1) j) outer
+    ∙ ap (λ (p : ℕ). exchanged (mirrored l i) (i + 1) p) inner
+
+pub turn-two : (i : ℕ) (old new next : List Float) → Turning i old new → i + 2 ≤ length new / 2 → next ≡ mirrored (mirrored new i) (i + 1) → Turning (i + 2) old next
+turn-two i old new next t more is =
+    let once = turn-on i old new (mirrored new i) t (omega arith) refl in
+    let on = turn-on (i + 1) old (mirrored new i) next once (rw (exchanged-length new i (length new - 1 - i)) (omega arith)) is in
+    let places : i + 1 + 1 ≡ i + 2 = omega arith in
+    subst (λ (k : ℕ). Turning k old next) places on
 
 pub falling-turned : (old new : List Float) → Falling old → Turned old new → Ordered old new
 falling-turned old new f t = record {

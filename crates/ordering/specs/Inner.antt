@@ -5,7 +5,7 @@ use Prim.Native.Nat.{ℕ, suc, _-_, _≤_, _<_}
 use lib.Dec.{T}
 use lib.ListN.{length}
 use lib.Ieee.{Float, le}
-use Rattle.rising_order.specs.Arrangement.{Perm, at}
+use Rattle.rising_order.specs.Arrangement.{Perm, at, exchanged}
 
 -- from a place up to another each energy is at most the next, or at least
 abbrev pub Climbs : ℕ → ℕ → List Float → Type 0
@@ -16,6 +16,10 @@ Sinks from until l = (k : ℕ) → from ≤ k → k < until → T (le (at l (suc
 
 abbrev pub Falling : List Float → Type 0
 Falling l = (i j : ℕ) → i < j → j < length l → T (le (at l j) (at l i))
+
+-- a place changes with that as far from the end
+abbrev pub mirrored : List Float → ℕ → List Float
+mirrored l i = exchanged l i (length l - 1 - i)
 
 -- the other way round
 pub record Turned (old new : List Float) : Type 0 where

@@ -1,11 +1,11 @@
 // Energies in rising order, in place, in n log n steps for every input: those that rise or fall already are not split.
 ghost use mathlib.Core.Path.{_≡_};
 ghost use mathlib.Core.Bool.{true};
-ghost use Prim.Native.Nat.{_<_};
+ghost use Prim.Native.Nat.{_+_, _/_, _≤_, _<_};
 ghost use lib.ListN.{length};
 ghost use Rattle.rising_order.specs.Order.{allAbove, ordered};
 ghost use Rattle.rising_order.specs.Arrangement.{Above, Rising};
-ghost use Rattle.ordering.specs.Inner.{Climbs, Sinks, Falling, Turned};
+ghost use Rattle.ordering.specs.Inner.{Climbs, Sinks, Falling, mirrored, Turned};
 
 // How many steps are looked at before a look may stop. Within them no turn branches, so that several are looked at at once.
 const STRETCH: usize = 64;
@@ -84,19 +84,47 @@ fn falls(energies: &[f64]) -> bool
     false
 }
 
+// Two places change with those as far from the end. All four are read before one is written, so that two are moved at once.
+fn exchange_two(part: &mut [f64], i: usize)
+    requires { ⌜ i + 2 ≤ length (now part) / 2 ⌝ }
+    ensures { λ _. ⌜ now (part .exit) ≡ mirrored (mirrored (now (part .entry)) i) (i + 1) ⌝ }
+{
+    let j = part.len() - 2 - i;
+    let first = part[i];
+    let second = part[i + 1];
+    let third = part[j];
+    let fourth = part[j + 1];
+    part[i] = fourth;
+    part[i + 1] = third;
+    part[j] = second;
+    part[j + 1] = first;
+}
+
+// One place changes with that as far from the end.
+fn exchange(part: &mut [f64], i: usize)
+    requires { ⌜ i + 1 ≤ length (now part) / 2 ⌝ }
+    ensures { λ _. ⌜ now (part .exit) ≡ mirrored (now (part .entry)) i ⌝ }
+{
+    let j = part.len() - 1 - i;
+    let x = part[i];
+    let y = part[j];
+    part[i] = y;
+    part[j] = x;
+}
+
 fn turn_round(part: &mut [f64])
     ensures { λ _. ⌜ Turned (now (part .entry)) (now (part .exit)) ⌝ }
 {
-    let n = part.len();
+    let half = part.len() / 2;
     let mut i = 0;
-    while i < n / 2 {
-        let j = n - 1 - i;
-        let x = part[i];
-        let y = part[j];
-        part[i] = y;
-        part[j] = x;
-        i += 1;
+    while half - i >= 2 {
+        exchange_two(part, i);
+        i += 2;
     }
+    if i == half {
+        return;
+    }
+    exchange(part, i);
 }
 
 // Orders the energies in place, rising, where each is above zero; else it touches nothing and answers false.

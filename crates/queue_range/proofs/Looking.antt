@@ -1,6 +1,6 @@
 -- The energies that the entries hold, an entry at a time: how many, whether one is NaN, and that all are above zero where none is NaN.
 -- An entry's energies stand before those of the rest; none is below boundary 0, which is above zero. Assumes nothing.
-use mathlib.Core.Path.{_≡_, refl, sym, ap, _∙_}
+use mathlib.Core.Path.{_≡_, refl, sym, ap, subst, _∙_}
 use mathlib.Core.Bool.{Bool, true, false, not, _&&_, _||_, true≢false}
 use mathlib.Core.List.{List, [], _∷_, _++_, append-assoc}
 use Prim.Native.Nat.{ℕ, zero, suc, _+_, _-_, _*_, _≤_, _<_}
@@ -11,11 +11,11 @@ use borrow.Author.Tests.{lt-ltb}
 use lib.Dec.{T, ltb→lt, lt→ltb}
 use lib.ListN.{length, getD, take, drop, set, length-take, length-append, drop-of-length-le}
 use lib.Seq.{drop-cons, getD-take, sets}
-use lib.Ieee.{Float, nan, inf, fin, up, down, lt, ne, isNan}
+use lib.Ieee.{Float, nan, inf, fin, up, down, lt, le, ne, isNan}
 use lib.Ieee.Fits.{up-pos, down-pos}
 use lib.Ieee.Positive.{positive, above}
 use Rattle.floats.proofs.Nan.{differs}
-use Rattle.floats.proofs.Order.{is-true}
+use Rattle.floats.proofs.Order.{is-true, is-false, lt-not-le, le-nan}
 use Rattle.tables.specs.Tables.{boundaryAt}
 use Rattle.tables.proofs.Rules.{boundary-positive}
 use Rattle.histogram_bins.specs.Energy.{dropped}
@@ -59,6 +59,10 @@ and-true : (a : Bool) → a && true ≡ a
 and-true true = refl
 and-true false = refl
 
+both : (a b : Bool) → a && b ≡ true → (a ≡ true) × (b ≡ true)
+both true b h = (refl, h)
+both false b h = absurd (true≢false (sym h))
+
 module _ (l : List Float) (i until : ℕ) where
   pub nan-turn : (found : Bool) (d : Float) → i < until → until ≤ length l
       → (found || ne (getD l i d) (getD l i d)) || anyNan (part (i + 1) until l) ≡ found || anyNan (part i until l)
@@ -77,6 +81,24 @@ module _ (l : List Float) (i until : ℕ) where
   pub fine-end : (fine : Bool) → until ≤ i → fine && noneBelow (part i until l) ≡ fine
   unfolding noneBelow
   fine-end fine h = rw (part-end l i until h) (and-true fine)
+
+-- ---- energies that reach boundary 0
+no-nan : (lo x : Float) → le lo x ≡ true → isNan x ≡ false
+unfolding isNan
+no-nan lo nan e = absurd (true≢false (sym e ∙ le-nan lo))
+no-nan lo (inf s) e = refl
+no-nan lo (fin s m d) e = refl
+
+pub reach-turn : (l : List Float) (i until : ℕ) (fine : Bool) (least d : Float) → least ≡ boundaryAt 0 → i < until → until ≤ length l
+    → fine && le least (getD l i d) ≡ true
+    → (fine ≡ true) × (noneBelow (part i until l) ≡ noneBelow (part (i + 1) until l)) × (anyNan (part i until l) ≡ anyNan (part (i + 1) until l))
+unfolding noneBelow anyNan
+reach-turn l i until fine least d e h g t =
+    let known = both fine (le least (getD l i d)) t in
+    let reaches : T (le (boundaryAt 0) (getD l i d)) = subst (λ (lo : Float). T (le lo (getD l i d))) e (subst T (sym (known .1)) tt) in
+    let kept : dropped (getD l i d) ≡ false = is-false (dropped (getD l i d)) (λ below. lt-not-le (getD l i d) (boundaryAt 0) below reaches) in
+    let number = no-nan least (getD l i d) (known .1) in
+    (known .0, rw (part-next l i until d h g, kept), rw (part-next l i until d h g, number))
 
 -- ---- a part that is copied
 module _ (work l : List Float) (place i until : ℕ) where
@@ -103,10 +125,6 @@ pub store-at : (energies : ℕ) (l : List Entry) (count i : ℕ) → i < count �
 store-at energies l count i h g s =
     let within : i < length (take count l) = omega (arith, length-take count l) in
     rw (getD-take count l i past-the-last h) at (stores-in energies (take count l) i within s)
-
-both : (a b : Bool) → a && b ≡ true → (a ≡ true) × (b ≡ true)
-both true b h = (refl, h)
-both false b h = absurd (true≢false (sym h))
 
 pub suits-sound : (energies : List Float) (s : Shape) → shapeSound energies s ≡ true → suitsAt s ≡ true
 suits-sound energies (Histogram start) h = refl

@@ -4,16 +4,16 @@ use history::set::MOST;
 use history::set::Shape;
 use spans::Range;
 ghost use mathlib.Core.Path.{_≡_};
-ghost use mathlib.Core.Bool.{true};
+ghost use mathlib.Core.Bool.{true, false};
 ghost use mathlib.Core.List.{List};
 ghost use Prim.Native.Nat.{ℕ, _+_, _-_, _^_, _≤_, _<_};
 ghost use lib.Seq.{sets};
 ghost use lib.ListN.{length, take, drop};
 ghost use Rattle.refusals.specs.Outcome.{saidBy, keptBy};
 ghost use Rattle.queue.specs.Queue.{longest};
-ghost use Rattle.history.specs.Set.{mostHistories, histories, storeEnd, storesInside, isSound, allSound};
+ghost use Rattle.history.specs.Set.{mostHistories, histories, storeEnd, storesInside, noneBelow, isSound, allSound};
 ghost use Rattle.spans.specs.Span.{said};
-ghost use Rattle.queue_range.specs.Listed.{listedRange, queueRange};
+ghost use Rattle.queue_range.specs.Listed.{anyNan, listedRange, queueRange};
 ghost use Rattle.queue_range.specs.Inner.{mostHeld, heldIn, heldAt, suitsAt, part, StandIn, Sees};
 
 // Where the energies of an entry stand in the lent energies: those of a queue between its head and the end of its store, and those from its store's start.
@@ -69,8 +69,23 @@ struct Seen {
     nan: bool,
 }
 
-// At the energies from a place up to another. No turn branches, so that several are looked at in one step.
-fn look_at(energies: &[f64], from: usize, until: usize) -> Seen
+// Whether all energies from a place up to another reach boundary 0, which NaN does not. No turn branches, so that several are looked at in one step.
+fn all_reach(energies: &[f64], from: usize, until: usize) -> bool
+    requires { ⌜ (from ≤ until) × (until ≤ length (now energies)) ⌝ }
+    ensures { λ r. ⌜ (r ≡ true → (noneBelow (part from until (now (energies .entry))) ≡ true) × (anyNan (part from until (now (energies .entry))) ≡ false)) ⌝ }
+{
+    let least = histogram_bins::lowest_boundary();
+    let mut fine = true;
+    let mut i = from;
+    while i < until {
+        fine = fine & (least <= energies[i]);
+        i += 1;
+    }
+    fine
+}
+
+// At the energies from a place up to another, where one does not reach it.
+fn look_closely(energies: &[f64], from: usize, until: usize) -> Seen
     requires { ⌜ (from ≤ until) × (until ≤ length (now energies)) ⌝ }
     ensures { λ r. ⌜ Sees (part from until (now (energies .entry))) r ⌝ }
 {
@@ -89,6 +104,21 @@ fn look_at(energies: &[f64], from: usize, until: usize) -> Seen
         fine,
         nan,
     }
+}
+
+// At the energies from a place up to another. One question of each is enough where all reach boundary 0.
+fn look_at(energies: &[f64], from: usize, until: usize) -> Seen
+    requires { ⌜ (from ≤ until) × (until ≤ length (now energies)) ⌝ }
+    ensures { λ r. ⌜ Sees (part from until (now (energies .entry))) r ⌝ }
+{
+    if all_reach(energies, from, until) {
+        return Seen {
+            blocks: until - from,
+            fine: true,
+            nan: false,
+        };
+    }
+    look_closely(energies, from, until)
 }
 
 // At those that an entry holds. One that does not suit its store is not fine.

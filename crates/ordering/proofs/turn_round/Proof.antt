@@ -1,71 +1,65 @@
 -- `ordering::turn_round` meets its contract. The invariant is `Turning`: the places up to i from either end are exchanged. Assumes nothing.
-use mathlib.Core.Path.{_≡_, refl, sym, ap}
-use Prim.Native.Nat.{ℕ, _-_}
+use mathlib.Core.Path.{_≡_, refl, sym, ap, _∙_}
+use Prim.Native.Nat.{ℕ, _+_, _-_, _/_, _≤_}
 use native.Mathlib.Omega.{arith}
-use lib.ListN.{length, length-set}
-use Rattle.rising_order.specs.Arrangement.{exchanged}
+use lib.ListN.{length}
 use Rattle.rising_order.proofs.Perms.{perm-length}
-use Rattle.ordering.proofs.Runs.{Turning, turn-start, turn-on, turn-done}
+use Rattle.ordering.proofs.Runs.{Turning, turn-start, turn-on, turn-two, turn-done}
+use borrow.Author.Needs.{needs}
 use Rattle.ordering.proofs.turn_round.Statement.{statement}
 use Rattle.ordering.proofs.turn_round.Tie as tie
+use Rattle.ordering.proofs.exchange_two.Reads as exchange-two-reads
 
 abbrev Inv-loop : tie.InvT-loop
-Inv-loop part₀ n i₀ part i = (n ≡ length part) × Turning i part₀ part
+Inv-loop part₀ half i₀ part i = (half ≡ length part / 2) × (i ≤ half) × Turning i part₀ part
 
 abbrev μ-loop : tie.MeasureT-loop
-μ-loop part₀ n i₀ part i = n - i
+μ-loop part₀ half i₀ part i = half - i
 
 loop-holds : tie.Need-loop-holds Inv-loop μ-loop
-loop-holds c = (refl, turn-start (c .args .part .now))
+loop-holds c = (refl, omega arith, turn-start (c .before .args .part .now))
 
-sub-j : tie.Need-sub-j Inv-loop μ-loop
-sub-j c = omega arith
+sub-loop : tie.Need-sub-loop Inv-loop μ-loop
+sub-loop c = search needs
 
-sub-j-2 : tie.Need-sub-j-2 Inv-loop μ-loop
-sub-j-2 c = omega arith
-
-mul-x : tie.Need-mul-x Inv-loop μ-loop
-mul-x c = omega arith
-
-slice-read-x : tie.Need-slice-read-x Inv-loop μ-loop
-slice-read-x c = omega arith
-
-mul-y : tie.Need-mul-y Inv-loop μ-loop
-mul-y c = omega arith
-
-slice-read-y : tie.Need-slice-read-y Inv-loop μ-loop
-slice-read-y c = omega arith
-
-mul-part : tie.Need-mul-part Inv-loop μ-loop
-mul-part c = omega arith
-
-slice-write-part : tie.Need-slice-write-part Inv-loop μ-loop
-slice-write-part c = omega arith
-
-mul-part-2 : tie.Need-mul-part-2 Inv-loop μ-loop
-mul-part-2 c = omega arith
-
-slice-write-part-2 : tie.Need-slice-write-part-2 Inv-loop μ-loop
-slice-write-part-2 c = simp length-set (omega arith)
+exchange-two-requires : tie.Need-exchange-two-requires Inv-loop μ-loop
+exchange-two-requires c κs = search needs
 
 add-i : tie.Need-add-i Inv-loop μ-loop
-add-i c = omega arith
+add-i c = search needs
 
 loop-less : tie.Need-loop-less Inv-loop μ-loop
-loop-less c = omega arith
+loop-less c = search needs
 
 loop-again : tie.Need-loop-again Inv-loop μ-loop
 loop-again c =
-    let head = c .before .before .before .loop in
-    let is = ap (λ (n : ℕ). exchanged (head .part) (head .i) (n - 1 - head .i)) (head .inv .0) in
-    let on = turn-on (head .i) _ (head .part) _ (head .inv .1) (omega arith) is in
-    (perm-length (on .same), on)
+    let call = c .before .before in
+    let head = call .before .before .before .loop in
+    let on = turn-two (head .i) _ (head .part) (call .exchange-two .last .0) (head .inv .2) (omega arith) (call .exchange-two .ensures) in
+    (head .inv .0 ∙ ap (λ (n : ℕ). n / 2) (sym (call .exchange-two .kept .0)), omega arith, on)
 
 same-length : tie.Need-same-length Inv-loop μ-loop
-same-length c = sym (perm-length (c .before .loop .inv .1 .same))
+same-length c = sym (perm-length (c .before .before .loop .inv .2 .same))
 
 returns : tie.Need-returns Inv-loop μ-loop
-returns c = turn-done (c .before .loop .i) _ (c .before .loop .part) (omega arith) (c .before .loop .inv .1)
+returns c = let head = c .before .before .loop in turn-done (head .i) _ (head .part) (omega arith) (head .inv .2)
+
+exchange-requires : tie.Need-exchange-requires Inv-loop μ-loop
+exchange-requires c κs = search needs
+
+same-length-2 : tie.Need-same-length-2 Inv-loop μ-loop
+same-length-2 c =
+    let call = c .before .before in
+    let head = call .before .before .before .before .loop in
+    call .exchange .kept .0 ∙ sym (perm-length (head .inv .2 .same))
+
+returns-2 : tie.Need-returns-2 Inv-loop μ-loop
+returns-2 c =
+    let call = c .before .before in
+    let head = call .before .before .before .before .loop in
+    let last = call .exchange .last .0 in
+    let on = turn-on (head .i) _ (head .part) last (head .inv .2) (omega arith) (call .exchange .ensures) in
+    turn-done (head .i + 1) _ last (omega (arith, call .exchange .kept .0)) on
 
 pub turn-round-spec : {M : Type 1} → statement M
 turn-round-spec =
@@ -74,18 +68,13 @@ turn-round-spec =
     Inv-loop
     μ-loop
     loop-holds
-    sub-j
-    sub-j-2
-    mul-x
-    slice-read-x
-    mul-y
-    slice-read-y
-    mul-part
-    slice-write-part
-    mul-part-2
-    slice-write-part-2
+    sub-loop
+    exchange-two-requires
     add-i
     loop-less
     loop-again
     same-length
-    returns)
+    returns
+    exchange-requires
+    same-length-2
+    returns-2)

@@ -1,0 +1,85 @@
+-- A set of one histogram: SET where its counters do not end within those lent, and else their range as they stand. Assumes nothing.
+use mathlib.Core.Path.{_≡_, refl, sym, ap, subst, _∙_}
+use mathlib.Core.Bool.{Bool, true, false, cond}
+use mathlib.Core.List.{List, _∷_}
+use Prim.Native.Nat.{ℕ, _+_, _/_}
+use native.Mathlib.Omega.{arith}
+use borrow.Author.Tests.{ltb-false}
+use lib.Dec.{ltb}
+use lib.Ieee.{Float}
+use lib.ListN.{length}
+use Rattle.refusals.specs.Refusal.{SET, number}
+use Rattle.refusals.specs.Outcome.{went, refused, answers, saidBy, keptBy}
+use Rattle.histogram_bins.specs.Bin.{bins}
+use Rattle.histogram.specs.Histogram.{empty, sums}
+use Rattle.history.specs.declared.set.Entry.{Entry}
+use Rattle.history.specs.declared.set.Shape.{Shape}
+use Rattle.history.specs.declared.set.Shape.the-variants.{Histogram}
+use Rattle.history.specs.Set.{mostHistories, Histories, histories, historiesOf, chosen, outsideSet, anyOutside, allSound, allShow, blockAt, numbered}
+use Rattle.history.proofs.Entries.{histogram-outside}
+use Rattle.history.proofs.Verdicts.{set-refused, all-well}
+use Rattle.block_range.specs.Counted.{spanAt}
+use Rattle.block_range.proofs.Answers.{span-there}
+use Rattle.histogram_range.specs.Counted.{addedTo, countedSpan}
+use Rattle.histogram_range.proofs.Single.{block-alone}
+use Rattle.range.specs.Range.{Span, queuesIn, rangeOf}
+use Rattle.range.proofs.Answers.{range-refused, range-asked, over-histograms}
+use Rattle.entries.specs.Sets.{numbersAnEntry, entryAt, entriesFrom, setOf}
+use Rattle.exports_range.specs.Spans.{histogramAt}
+
+module _ (rest : List Entry) (counters : List ℕ) (energies work : List Float) (start : ℕ) where
+  abbrev one : Histories
+  one = histories (record { shape = Histogram start } ∷ rest) 1 counters energies
+
+  outside : ltb (length counters) (start + bins) ≡ true → outsideSet one ≡ true
+  unfolding anyOutside
+  outside e = rw (histogram-outside (length counters) (length energies) (record { shape = Histogram start }) start refl ∙ e) refl
+
+  inside : ltb (length counters) (start + bins) ≡ false → outsideSet one ≡ false
+  unfolding anyOutside
+  inside e = rw (histogram-outside (length counters) (length energies) (record { shape = Histogram start }) start refl ∙ e) refl
+
+  sound-store : allSound energies (chosen one) ≡ true
+  unfolding allSound
+  sound-store = refl
+
+  no-queue : queuesIn (historiesOf one) ≡ 0
+  unfolding queuesIn allShow
+  no-queue = refl
+
+  added : addedTo empty (historiesOf one) ≡ sums empty (blockAt counters start)
+  unfolding addedTo allShow
+  added = refl
+
+  answered : ltb (length counters) (start + bins) ≡ false → rangeOf one work ≡ went work (spanAt counters start)
+  answered e =
+      let ends = ltb-false (length counters) (start + bins) e in
+      range-asked one work (all-well one (inside e) sound-store)
+      ∙ over-histograms (historiesOf one) work no-queue
+      ∙ ap (λ (l : List ℕ). went work (countedSpan l)) (added ∙ sym (block-alone counters start ends))
+      ∙ ap (λ (s : Span). went work s) (sym (span-there counters start ends))
+
+  one-histogram : (saidBy (histogramAt counters start) ≡ saidBy (rangeOf one work)) × (work ≡ keptBy work (rangeOf one work))
+  one-histogram = go (ltb (length counters) (start + bins)) refl
+    where
+      go : (past : Bool) → ltb (length counters) (start + bins) ≡ past
+          → (saidBy (cond past (refused SET) (answers (spanAt counters start))) ≡ saidBy (rangeOf one work)) × (work ≡ keptBy work (rangeOf one work))
+      go true e = range-refused one work (number SET) (sym (ap numbered (set-refused one (outside e)))) (λ z. omega (arith, z))
+      go false e = rw (answered e) (refl, refl)
+
+-- five numbers are one entry
+one-entry : (numbers counters : List ℕ) (energies : List Float) (entry : Entry) → length numbers ≡ numbersAnEntry → entry ≡ entryAt numbers 0
+    → histories (entry ∷ entriesFrom numbers 5 15) 1 counters energies ≡ setOf numbers counters energies
+unfolding entriesFrom
+one-entry numbers counters energies entry long is =
+    ap (λ (e : Entry). histories (e ∷ entriesFrom numbers 5 15) 1 counters energies) is
+    ∙ ap (λ (n : ℕ). histories (entriesFrom numbers 0 mostHistories) (n / numbersAnEntry) counters energies) (sym long)
+
+pub histogram-alone : (numbers counters : List ℕ) (energies work : List Float) (entry : Entry) (start : ℕ)
+    → length numbers ≡ numbersAnEntry → entry ≡ entryAt numbers 0 → entry .shape ≡ Histogram start
+    → (saidBy (histogramAt counters start) ≡ saidBy (rangeOf (setOf numbers counters energies) work)) × (work ≡ keptBy work (rangeOf (setOf numbers counters energies) work))
+histogram-alone numbers counters energies work entry start long is shape =
+    let first = sym (ap {B = Entry} (λ (s : Shape). record { shape = s }) shape) ∙ is in
+    subst (λ (h : Histories). (saidBy (histogramAt counters start) ≡ saidBy (rangeOf h work)) × (work ≡ keptBy work (rangeOf h work)))
+    (one-entry numbers counters energies (record { shape = Histogram start }) long first)
+    (one-histogram (entriesFrom numbers 5 15) counters energies work start)

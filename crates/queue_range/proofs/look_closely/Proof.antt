@@ -1,0 +1,82 @@
+-- `queue_range::look_closely` meets its contract. The invariant: what was seen before `i`, with what the energies from there on give, is what all give.
+-- Assumes nothing.
+use mathlib.Core.Path.{_≡_, refl, sym, _∙_}
+use mathlib.Core.Bool.{_&&_, _||_}
+use Prim.Native.Nat.{_-_, _≤_}
+use native.Mathlib.Omega.{arith}
+use denote.Ref.{now}
+use lib.Ieee.{nan}
+use Rattle.history.specs.Set.{noneBelow}
+use Rattle.history.proofs.Slices.{slice-length}
+use Rattle.queue_range.specs.Listed.{anyNan}
+use Rattle.queue_range.specs.Inner.{part}
+use Rattle.queue_range.proofs.Looking.{nan-turn, nan-end, fine-turn, fine-end}
+use borrow.Author.Needs.{needs}
+use Rattle.queue_range.proofs.look_closely.Statement.{statement}
+use Rattle.queue_range.proofs.look_closely.Tie as tie
+
+abbrev Inv-loop : tie.InvT-loop
+Inv-loop energies from until least fine₀ found₀ i₀ fine found i =
+    (i ≤ until)
+    × (fine && noneBelow (part i until energies) ≡ noneBelow (part from until energies))
+    × (found || anyNan (part i until energies) ≡ anyNan (part from until energies))
+
+abbrev μ-loop : tie.MeasureT-loop
+μ-loop energies from until least fine₀ found₀ i₀ fine found i = until - i
+
+lowest-boundary-requires : tie.Need-lowest-boundary-requires Inv-loop μ-loop
+lowest-boundary-requires c κs = search needs
+
+loop-holds : tie.Need-loop-holds Inv-loop μ-loop
+loop-holds c = (omega arith, refl, refl)
+
+mul-energy : tie.Need-mul-energy Inv-loop μ-loop
+mul-energy c = search needs
+
+shared-slice-read-energy : tie.Need-shared-slice-read-energy Inv-loop μ-loop
+shared-slice-read-energy c = search needs
+
+add-i : tie.Need-add-i Inv-loop μ-loop
+add-i c = search needs
+
+loop-less : tie.Need-loop-less Inv-loop μ-loop
+loop-less c = search needs
+
+loop-again : tie.Need-loop-again Inv-loop μ-loop
+loop-again c =
+    let l = c .before .before in
+    let a = l .before .before .before .args in (
+      omega arith,
+      fine-turn (now (a .energies)) (l .loop .i) (a .until) (l .loop .fine) _ nan (l .before .lowest-boundary .ensures) (omega arith) (omega arith) ∙ l .loop .inv .1,
+      nan-turn (now (a .energies)) (l .loop .i) (a .until) (l .loop .nan) nan (omega arith) (omega arith) ∙ l .loop .inv .2,
+    )
+
+sub-t14 : tie.Need-sub-t14 Inv-loop μ-loop
+sub-t14 c = search needs
+
+returns : tie.Need-returns Inv-loop μ-loop
+returns c =
+    let l = c .before in
+    let s = l .before .before .before in
+    let energies = now (s .args .energies) in
+    record {
+      blocks-are = sym (slice-length (s .args .from) (s .args .until) energies (s .pre .1));
+      fine-is = sym (fine-end energies (l .loop .i) (s .args .until) (l .loop .fine) (omega arith)) ∙ l .loop .inv .1;
+      nan-is = sym (nan-end energies (l .loop .i) (s .args .until) (l .loop .nan) (omega arith)) ∙ l .loop .inv .2;
+    }
+
+pub look-closely-spec : {M : Type 1} → statement M
+look-closely-spec =
+    tie.close
+    (tie.spec
+    Inv-loop
+    μ-loop
+    lowest-boundary-requires
+    loop-holds
+    mul-energy
+    shared-slice-read-energy
+    add-i
+    loop-less
+    loop-again
+    sub-t14
+    returns)
