@@ -1,3 +1,4 @@
 pub mod Signs
 pub mod Loud
+pub mod Pairs
 pub mod Quarters

@@ -83,6 +83,9 @@ unfolding loudest
 over-phases [] p q o = o
 over-phases (x ∷ xs) p q o = over-phases xs p (louder q (magnitude x)) (over-larger p q (magnitude x) o)
 
+pub phases-reached : (ps : List Float) (p : Float) → Reached p (loudest p ps)
+phases-reached ps p = subst (Reached p) (sym (listed-phases ps p)) (reached (map magnitude ps) 0 (length ps) p)
+
 -- ---- n frames, each raised from p by itself
 pub scanned-louds : (phases : List Float → List Float) (line louds : List Float) (at n : ℕ) (p q : Float) → Over p q
     → ((j : ℕ) → at ≤ j → j < at + n → getD louds j nan ≡ loudest p (phases (back line j 24))) → scanned phases line at n q ≡ loudestOf louds at n q

@@ -1,6 +1,6 @@
 -- A block of values taken by quarters: four frames a turn fill the four quarters together, and the largest of a block is the largest of its quarters in order.
 -- A store in one quarter keeps the others, and each quarter's run begins from the same peak. Assumes nothing.
-use mathlib.Core.Path.{_≡_, refl, sym, ap, _∙_}
+use mathlib.Core.Path.{_≡_, refl, sym, ap, subst, _∙_}
 use mathlib.Core.Logic.{_⊎_, inl, inr}
 use mathlib.Core.List.{List}
 use Prim.Native.Nat.{ℕ, suc, _+_, _*_, _-_, _≤_, _<_, min}
@@ -10,9 +10,9 @@ use lib.ListN.{length, getD, set, length-set}
 use lib.Seq.{getD-set-other, getD-set-same}
 use lib.Ieee.{Float, nan}
 use Rattle.largest_phase.specs.Largest.{louder, loudest}
-use Rattle.largest_phase.specs.Line.{block, back, scanned, loudestOf, Louds}
+use Rattle.largest_phase.specs.Line.{block, quarter, back, scanned, loudestOf, Louds, Raised}
 use Rattle.floats.proofs.Larger.{Over, over-self}
-use Rattle.largest_phase.proofs.Loud.{apart, loudest-over, loudest-join, loudest-none, scanned-louds}
+use Rattle.largest_phase.proofs.Loud.{apart, loudest-over, loudest-join, loudest-none, scanned-louds, phases-reached}
 
 pub either : (d c : ℕ) → (d < c) ⊎ (c ≤ d)
 either d c = elim (eq-zero-or-pos (c - d)) [ inl z ↦ inr (omega arith) | inr p ↦ inl (omega arith) ]
@@ -91,71 +91,44 @@ module _ (phases : List Float → List Float) (line : List Float) (peak : Float)
       which p g (inr a) (inr b) (inl c) = d .third p b (omega arith)
       which p g (inr a) (inr b) (inr c) = d .fourth p c (omega arith)
 
-  -- k frames of each of two runs
-  pub record Halves (run : ℕ) (l : List Float) (k : ℕ) : Type 0 where
-    pub size : length l ≡ block
-    pub first : Done l 0 k
-    pub second : Done l run k
-
-  pub halves-start : (run : ℕ) (l : List Float) → length l ≡ block → Halves run l 0
-  halves-start run l e = record { size = e; first = λ p a b. absurd (omega arith); second = λ p a b. absurd (omega arith) }
-
-  pub halves-turn : (run : ℕ) (l : List Float) (k p : ℕ) (u v : Float) → k < run → run * 2 ≤ block → p ≡ k + run
-      → u ≡ raisedAt k → v ≡ raisedAt p → Halves run l k → Halves run (set (set l k u) p v) (k + 1)
-  halves-turn run l k p u v h room ep eu ev d =
-      let l1 = set l k u in
-      let s1 : length l1 ≡ block = length-set l k u ∙ d .size in
-      record {
-        size = length-set l1 p v ∙ s1;
-        first = done-kept l1 0 (k + 1) p v (inr (omega arith)) (done-more l 0 k k u (omega arith) (omega (arith, d .size)) eu (d .first));
-        second = done-more l1 run k p v (omega arith) (omega (arith, s1)) ev (done-kept l run k k u (inl (omega arith)) (d .second));
-      }
-
-  pub halves-end : (run : ℕ) (l : List Float) (k : ℕ) → run ≤ k → Halves run l k → Louds phases line peak (run * 2) l
-  halves-end run l k h d = record { size = d .size; raised = λ p g. which p g (either p run) }
-    where
-      which : (p : ℕ) → p < run * 2 → (p < run) ⊎ (run ≤ p) → getD l p nan ≡ raisedAt p
-      which p g (inl a) = d .first p (omega arith) (omega arith)
-      which p g (inr a) = d .second p a (omega arith)
-
--- ---- the largest of a block, by quarters
-pub run-turn : (l : List Float) (from at k : ℕ) (q r : Float) → k < 32 → at ≡ from + k → r ≡ louder q (getD l at nan)
-    → loudestOf l (from + (k + 1)) (32 - (k + 1)) r ≡ loudestOf l (from + k) (32 - k) q
+-- ---- the largest of a few, by quarters
+pub run-turn : (l : List Float) (from at k : ℕ) (q r : Float) → k < 8 → at ≡ from + k → r ≡ louder q (getD l at nan)
+    → loudestOf l (from + (k + 1)) (8 - (k + 1)) r ≡ loudestOf l (from + k) (8 - k) q
 unfolding loudestOf
 run-turn l from at k q r h e f =
-    let m : 32 - k ≡ suc (32 - (k + 1)) = omega arith in
+    let m : 8 - k ≡ suc (8 - (k + 1)) = omega arith in
     let n : from + (k + 1) ≡ suc (from + k) = omega arith in
-    ap (λ (x : ℕ). loudestOf l x (32 - (k + 1)) r) n
-    ∙ ap (loudestOf l (suc (from + k)) (32 - (k + 1))) (f ∙ ap (λ (x : ℕ). louder q (getD l x nan)) e)
+    ap (λ (x : ℕ). loudestOf l x (8 - (k + 1)) r) n
+    ∙ ap (loudestOf l (suc (from + k)) (8 - (k + 1))) (f ∙ ap (λ (x : ℕ). louder q (getD l x nan)) e)
     ∙ ap (λ (x : ℕ). loudestOf l (from + k) x q) (sym m)
 
-pub run-end : (l : List Float) (at k : ℕ) (q : Float) → 32 ≤ k → q ≡ loudestOf l at (32 - k) q
+pub run-end : (l : List Float) (at k : ℕ) (q : Float) → 8 ≤ k → q ≡ loudestOf l at (8 - k) q
 unfolding loudestOf
-run-end l at k q h = let e : 0 ≡ 32 - k = omega arith in ap (λ (x : ℕ). loudestOf l at x q) e
+run-end l at k q h = let e : 0 ≡ 8 - k = omega arith in ap (λ (x : ℕ). loudestOf l at x q) e
 
 module _ (l : List Float) (p : Float) where
   run : ℕ → Float
-  run at = loudestOf l at 32 p
+  run at = loudestOf l at 8 p
 
-  joined : (at : ℕ) (q : Float) → Over p q → loudestOf l at 32 q ≡ louder q (run at)
+  joined : (at : ℕ) (q : Float) → Over p q → loudestOf l at 8 q ≡ louder q (run at)
   unfolding run
-  joined at q o = apart l at 32 p q o
+  joined at q o = apart l at 8 p q o
 
   -- the quarters' runs compared in order
-  pub by-quarters : (a b c d : Float) → a ≡ loudestOf l 0 32 p → b ≡ loudestOf l 32 32 p → c ≡ loudestOf l 64 32 p → d ≡ loudestOf l 96 32 p
-      → louder (louder (louder a b) c) d ≡ loudestOf l 0 block p
+  pub by-quarters : (a b c d : Float) → a ≡ loudestOf l 0 8 p → b ≡ loudestOf l 8 8 p → c ≡ loudestOf l 16 8 p → d ≡ loudestOf l 24 8 p
+      → louder (louder (louder a b) c) d ≡ loudestOf l 0 quarter p
   unfolding run
   by-quarters a b c d ea eb ec ed =
-      let one = loudestOf l 0 32 p in
-      let two = loudestOf l 32 32 one in
-      let three = loudestOf l 64 32 two in
-      let o1 = loudest-over l 0 32 p p (over-self p) in
-      let o2 = loudest-over l 32 32 p one o1 in
-      let o3 = loudest-over l 64 32 p two o2 in
-      let e2 : louder a b ≡ two = ap (λ (x : Float). louder x b) ea ∙ ap (louder one) eb ∙ sym (joined 32 one o1) in
-      let e3 : louder (louder a b) c ≡ three = ap (λ (x : Float). louder x c) e2 ∙ ap (louder two) ec ∙ sym (joined 64 two o2) in
-      let e4 : louder (louder (louder a b) c) d ≡ loudestOf l 96 32 three = ap (λ (x : Float). louder x d) e3 ∙ ap (louder three) ed ∙ sym (joined 96 three o3) in
-      e4 ∙ sym (loudest-join l 0 96 32 p ∙ ap (loudestOf l 96 32) (loudest-join l 0 64 32 p ∙ ap (loudestOf l 64 32) (loudest-join l 0 32 32 p)))
+      let one = loudestOf l 0 8 p in
+      let two = loudestOf l 8 8 one in
+      let three = loudestOf l 16 8 two in
+      let o1 = loudest-over l 0 8 p p (over-self p) in
+      let o2 = loudest-over l 8 8 p one o1 in
+      let o3 = loudest-over l 16 8 p two o2 in
+      let e2 : louder a b ≡ two = ap (λ (x : Float). louder x b) ea ∙ ap (louder one) eb ∙ sym (joined 8 one o1) in
+      let e3 : louder (louder a b) c ≡ three = ap (λ (x : Float). louder x c) e2 ∙ ap (louder two) ec ∙ sym (joined 16 two o2) in
+      let e4 : louder (louder (louder a b) c) d ≡ loudestOf l 24 8 three = ap (λ (x : Float). louder x d) e3 ∙ ap (louder three) ed ∙ sym (joined 24 three o3) in
+      e4 ∙ sym (loudest-join l 0 24 8 p ∙ ap (loudestOf l 24 8) (loudest-join l 0 16 8 p ∙ ap (loudestOf l 16 8) (loudest-join l 0 8 8 p)))
 
 -- ---- n frames of a block, the places after them at the peak
 scanned-block : (phases : List Float → List Float) (line louds : List Float) (n : ℕ) (p : Float) → n ≤ block
@@ -182,6 +155,16 @@ scanned-some phases line louds n p raised after = by (either n block)
     by (inr h) =
         scanned-block phases line louds block p (omega arith) (λ j a. raised j (omega arith) a) (λ j a b. absurd (omega arith))
         ∙ ap (λ (m : ℕ). scanned phases line 0 m p) (sym (min-eq-right h))
+
+-- each of a block's values was raised from the peak
+pub all-raised : (phases : List Float → List Float) (line louds : List Float) (n : ℕ) (p : Float)
+    → ((j : ℕ) → j < n → j < block → getD louds j nan ≡ loudest p (phases (back line j 24))) → ((j : ℕ) → n ≤ j → j < block → getD louds j nan ≡ p)
+    → (j : ℕ) → j < block → Raised p (getD louds j nan)
+all-raised phases line louds n p raised after j h = by (either j n)
+  where
+    by : (j < n) ⊎ (n ≤ j) → Raised p (getD louds j nan)
+    by (inl g) = subst (Raised p) (sym (raised j g h)) (phases-reached (phases (back line j 24)) p)
+    by (inr g) = inl (after j g h)
 
 -- ---- the places from n on set to the peak
 pub record Filled (old l : List Float) (n k : ℕ) (p : Float) : Type 0 where

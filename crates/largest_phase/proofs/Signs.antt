@@ -1,13 +1,14 @@
 -- The magnitude by bits: a float's pattern without the sign's bit is its magnitude's pattern. Assumes nothing.
-use mathlib.Core.Path.{_≡_, refl, ap, _∙_}
-use mathlib.Core.Bool.{true, false, not}
+use mathlib.Core.Path.{_≡_, refl, sym, ap, subst, _∙_}
+use mathlib.Core.Bool.{Bool, true, false, not, cond}
 use Prim.Native.Nat.{ℕ, suc, zero, _+_, _%_, _<_}
 use native.Mathlib.Nat.{mod-eq-of-lt, add-mod-left}
 use native.Mathlib.Omega.{arith}
 use lib.Dec.{T}
-use lib.Ieee.{Float, nan, inf, fin, binary32, fits, isNan, ofBits, toBits, nanBits}
+use lib.Ieee.{Float, nan, inf, fin, binary32, fits, isNan, lt, eq, ne, ofBits, toBits, nanBits}
 use lib.Ieee.Bits.{ofBits-toBits, toBits-lt, nanBits-is}
-use Rattle.largest_phase.specs.Largest.{magnitude}
+use Rattle.floats.proofs.Nan.{differs, only-nan}
+use Rattle.largest_phase.specs.Largest.{magnitude, louder}
 
 fits-magnitude : (x : Float) → T (fits binary32 x) → T (fits binary32 (magnitude x))
 unfolding fits
@@ -65,3 +66,29 @@ by-bits x h f = ap (ofBits binary32) (unsigned x h f) ∙ ofBits-toBits binary32
 
 pub no-nan-bits : (x : Float) → T (not (isNan x)) → T (fits binary32 x) → T (not (nanBits binary32 (toBits binary32 x % sign)))
 no-nan-bits x h f = rw (nanBits-is binary32 (toBits binary32 x % sign), by-bits x h f) (no-nan-magnitude x h)
+
+-- ---- a float equals itself unless it is NaN, and NaN beats nothing
+turned : (a b : Bool) → not a ≡ b → a ≡ not b
+turned true b h = ap not h
+turned false b h = ap not h
+
+equal : (x : Float) → eq x x ≡ not (isNan x)
+unfolding ne
+equal x = turned (eq x x) (isNan x) (differs x)
+
+pub number : (x : Float) → eq x x ≡ true → T (not (isNan x))
+number x h = subst T (sym h ∙ equal x) tt
+
+beats-nothing : (peak : Float) → lt peak nan ≡ false
+unfolding lt
+beats-nothing nan = refl
+beats-nothing (inf s) = refl
+beats-nothing (fin s m e) = refl
+
+pub raised-by : (peak v x : Float) (b : Bool) → lt peak v ≡ b → v ≡ magnitude x → cond b v peak ≡ louder peak (magnitude x)
+raised-by peak v x b h e = ap (λ (t : Bool). cond t v peak) (sym h) ∙ ap (louder peak) e
+
+pub raised-by-none : (peak x : Float) → eq x x ≡ false → peak ≡ louder peak (magnitude x)
+raised-by-none peak x h =
+    let n : x ≡ nan = only-nan x (turned (isNan x) false (sym (equal x) ∙ h)) in
+    sym (ap (λ (y : Float). louder peak (magnitude y)) n ∙ ap (λ (b : Bool). cond b nan peak) (beats-nothing peak))

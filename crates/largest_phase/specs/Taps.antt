@@ -28,9 +28,11 @@ tapFour taps j l place a b c d e =
 abbrev pub onPair : Two → Float → Float → Four → Two
 onPair s x y c = record { p0 = plus (plus (s .p0) x (c .p0)) y (c .p2); p1 = plus (plus (s .p1) x (c .p1)) y (c .p3) }
 
-abbrev pub tapPair : List Float → ℕ → List Float → ℕ → ℕ → ℕ → ℕ → Twos → Twos
-tapPair taps j l newer older a b e =
+abbrev pub tapPair : List Float → ℕ → List Float → ℕ → ℕ → ℕ → ℕ → ℕ → ℕ → Twos → Twos
+tapPair taps j l newer older a b c d e =
     record {
       a = onPair (e .a) (getD l (a + newer) nan) (getD l (a + older) nan) (fourAt taps j);
       b = onPair (e .b) (getD l (b + newer) nan) (getD l (b + older) nan) (fourAt taps j);
+      c = onPair (e .c) (getD l (c + newer) nan) (getD l (c + older) nan) (fourAt taps j);
+      d = onPair (e .d) (getD l (d + newer) nan) (getD l (d + older) nan) (fourAt taps j);
     }

@@ -6,33 +6,28 @@ ghost use lib.Ieee.{nan};
 ghost use Rattle.interp.specs.Interp.{fourfold, twofold};
 ghost use Rattle.interp.specs.Phase.{four, two, phasesBy};
 ghost use Rattle.largest_phase.specs.Largest.{magnitude, louder, loudest};
-ghost use Rattle.largest_phase.specs.Line.{block, back, scanned, loudestOf, Louds};
+ghost use Rattle.largest_phase.specs.Line.{block, quarter, back, scanned, loudestOf, Louds, Raised, Pairs};
 ghost use Rattle.largest_phase.specs.Taps.{onFour, fourAt, tapFour, onPair, tapPair};
 use interp::Four;
 use interp::Interp;
 use interp::Two;
 
-// How many frames of a channel are taken at a time, and where its quarters begin: four frames side by side fill a vector each.
+// How many frames of a channel are taken at a time, a half of them and a quarter: four frames side by side fill a vector each.
 pub const BLOCK: usize = 128;
-
-const QUARTER: usize = 32;
 
 const HALF: usize = 64;
 
-const THREE_QUARTERS: usize = 96;
+const QUARTER: usize = 32;
+
+// Where the quarters of a quarter begin.
+const SECOND: usize = 8;
+
+const THIRD: usize = 16;
+
+const FOURTH: usize = 24;
 
 // A channel's history and a block of its samples, oldest first.
 pub const LINE: usize = 151;
-
-// The absolute value: the pattern without the sign's bit. A NaN has no pattern of its own.
-fn magnitude(x: f32) -> f32
-    ensures { λ r. ⌜ r ≡ magnitude x ⌝ }
-{
-    if x != x {
-        return x;
-    }
-    f32::from_bits(f32::to_bits(x) % 0x8000_0000)
-}
 
 // A value replaces the peak only if it is greater.
 fn louder(peak: f32, v: f32) -> f32
@@ -41,20 +36,34 @@ fn louder(peak: f32, v: f32) -> f32
     if peak < v { v } else { peak }
 }
 
+// The absolute value, the pattern without the sign's bit, replaces the peak if it is greater. A NaN has no pattern of its own, and never wins.
+fn raised(peak: f32, x: f32) -> f32
+    ensures { λ r. ⌜ r ≡ louder peak (magnitude x) ⌝ }
+{
+    if x == x {
+        let v = f32::from_bits(f32::to_bits(x) % 0x8000_0000);
+        if peak < v {
+            return v;
+        }
+        return peak;
+    }
+    peak
+}
+
 fn loudest_four(peak: f32, p: Four) -> f32
     ensures { λ r. ⌜ r ≡ loudest peak (four p) ⌝ }
 {
-    let a = louder(peak, magnitude(p.p0));
-    let b = louder(a, magnitude(p.p1));
-    let c = louder(b, magnitude(p.p2));
-    louder(c, magnitude(p.p3))
+    let a = raised(peak, p.p0);
+    let b = raised(a, p.p1);
+    let c = raised(b, p.p2);
+    raised(c, p.p3)
 }
 
 fn loudest_two(peak: f32, p: Two) -> f32
     ensures { λ r. ⌜ r ≡ loudest peak (two p) ⌝ }
 {
-    let a = louder(peak, magnitude(p.p0));
-    louder(a, magnitude(p.p1))
+    let a = raised(peak, p.p0);
+    raised(a, p.p1)
 }
 
 // A frame's four sums carried on by a sample: product and sum are rounded each by itself.
@@ -196,13 +205,15 @@ fn on_pair(s: Two, x: f32, y: f32, c: Four) -> Two
     }
 }
 
-// The sums of two frames.
+// The sums of four frames.
 struct Twos {
     a: Two,
     b: Two,
+    c: Two,
+    d: Two,
 }
 
-// The sums of two frames, each carried on by two samples of its own, and by the same taps.
+// The sums of four frames, each carried on by two samples of its own, and by the same taps.
 fn tap_pair(
     taps: &[f32; Interp::COEFFICIENTS],
     j: usize,
@@ -211,42 +222,60 @@ fn tap_pair(
     older: usize,
     a: usize,
     b: usize,
+    c: usize,
+    d: usize,
     e: Twos,
 ) -> Twos
     requires { ⌜ (j + 3 < 48) × ((newer < 24) × (older < 24)) ⌝ }
-    requires { ⌜ (a < block) × (b < block) ⌝ }
-    ensures { λ r. ⌜ r ≡ tapPair (now (taps .entry)) j (now (line .entry)) newer older a b e ⌝ }
+    requires { ⌜ (a < block) × ((b < block) × ((c < block) × (d < block))) ⌝ }
+    ensures { λ r. ⌜ r ≡ tapPair (now (taps .entry)) j (now (line .entry)) newer older a b c d e ⌝ }
 {
     let t = four_at(taps, j);
     Twos {
         a: on_pair(e.a, line[a + newer], line[a + older], t),
         b: on_pair(e.b, line[b + newer], line[b + older], t),
+        c: on_pair(e.c, line[c + newer], line[c + older], t),
+        d: on_pair(e.d, line[d + newer], line[d + older], t),
     }
 }
 
-// The phases of two frames by factor 2, two taps at a time.
-fn each_two(taps: &[f32; Interp::COEFFICIENTS], line: &[f32; LINE], a: usize, b: usize) -> Twos
-    requires { ⌜ (a < block) × (b < block) ⌝ }
+// The phases of four frames by factor 2, two taps at a time.
+fn each_two(
+    taps: &[f32; Interp::COEFFICIENTS],
+    line: &[f32; LINE],
+    a: usize,
+    b: usize,
+    c: usize,
+    d: usize,
+) -> Twos
+    requires { ⌜ (a < block) × ((b < block) × ((c < block) × (d < block))) ⌝ }
     ensures { λ r. ⌜ two (r .a) ≡ phasesBy (now (taps .entry)) twofold (back (now (line .entry)) a 24) ⌝ }
     ensures { λ r. ⌜ two (r .b) ≡ phasesBy (now (taps .entry)) twofold (back (now (line .entry)) b 24) ⌝ }
+    ensures { λ r. ⌜ two (r .c) ≡ phasesBy (now (taps .entry)) twofold (back (now (line .entry)) c 24) ⌝ }
+    ensures { λ r. ⌜ two (r .d) ≡ phasesBy (now (taps .entry)) twofold (back (now (line .entry)) d 24) ⌝ }
 {
     let z = Two { p0: 0.0, p1: 0.0 };
-    let none = Twos { a: z, b: z };
-    let e0 = tap_pair(taps, 0, line, 23, 22, a, b, none);
-    let e1 = tap_pair(taps, 4, line, 21, 20, a, b, e0);
-    let e2 = tap_pair(taps, 8, line, 19, 18, a, b, e1);
-    let e3 = tap_pair(taps, 12, line, 17, 16, a, b, e2);
-    let e4 = tap_pair(taps, 16, line, 15, 14, a, b, e3);
-    let e5 = tap_pair(taps, 20, line, 13, 12, a, b, e4);
-    let e6 = tap_pair(taps, 24, line, 11, 10, a, b, e5);
-    let e7 = tap_pair(taps, 28, line, 9, 8, a, b, e6);
-    let e8 = tap_pair(taps, 32, line, 7, 6, a, b, e7);
-    let e9 = tap_pair(taps, 36, line, 5, 4, a, b, e8);
-    let e10 = tap_pair(taps, 40, line, 3, 2, a, b, e9);
-    tap_pair(taps, 44, line, 1, 0, a, b, e10)
+    let none = Twos {
+        a: z,
+        b: z,
+        c: z,
+        d: z,
+    };
+    let e0 = tap_pair(taps, 0, line, 23, 22, a, b, c, d, none);
+    let e1 = tap_pair(taps, 4, line, 21, 20, a, b, c, d, e0);
+    let e2 = tap_pair(taps, 8, line, 19, 18, a, b, c, d, e1);
+    let e3 = tap_pair(taps, 12, line, 17, 16, a, b, c, d, e2);
+    let e4 = tap_pair(taps, 16, line, 15, 14, a, b, c, d, e3);
+    let e5 = tap_pair(taps, 20, line, 13, 12, a, b, c, d, e4);
+    let e6 = tap_pair(taps, 24, line, 11, 10, a, b, c, d, e5);
+    let e7 = tap_pair(taps, 28, line, 9, 8, a, b, c, d, e6);
+    let e8 = tap_pair(taps, 32, line, 7, 6, a, b, c, d, e7);
+    let e9 = tap_pair(taps, 36, line, 5, 4, a, b, c, d, e8);
+    let e10 = tap_pair(taps, 40, line, 3, 2, a, b, c, d, e9);
+    tap_pair(taps, 44, line, 1, 0, a, b, c, d, e10)
 }
 
-// Every frame of a line raises the peak by itself, by factor 2: a frame of each of two runs at a time.
+// Every frame of a line raises the peak by itself, by factor 2: a frame of each of four runs at a time.
 fn frames_twofold(
     taps: &[f32; Interp::COEFFICIENTS],
     line: &[f32; LINE],
@@ -254,18 +283,24 @@ fn frames_twofold(
     peak: f32,
     loud: &mut [f32; BLOCK],
 )
-    requires { ⌜ run * 2 ≤ block ⌝ }
+    requires { ⌜ run * 4 ≤ block ⌝ }
     requires { ⌜ length (now loud) ≡ block ⌝ }
-    ensures { λ _. ⌜ Louds (phasesBy (now (taps .entry)) twofold) (now (line .entry)) peak (run * 2) (now (loud .exit)) ⌝ }
+    ensures { λ _. ⌜ Louds (phasesBy (now (taps .entry)) twofold) (now (line .entry)) peak (run * 4) (now (loud .exit)) ⌝ }
 {
     let mut at = 0;
     while at < run {
         let second = at + run;
-        let e = each_two(taps, line, at, second);
+        let third = second + run;
+        let fourth = third + run;
+        let e = each_two(taps, line, at, second, third, fourth);
         let a = e.a;
         loud[at] = loudest_two(peak, a);
         let b = e.b;
         loud[second] = loudest_two(peak, b);
+        let c = e.c;
+        loud[third] = loudest_two(peak, c);
+        let d = e.d;
+        loud[fourth] = loudest_two(peak, d);
         at += 1;
     }
 }
@@ -283,23 +318,48 @@ fn rest(loud: &mut [f32; BLOCK], n: usize, peak: f32)
     }
 }
 
-// The largest of a block's values and the peak, the quarters side by side.
-fn loudest_of(loud: &[f32; BLOCK], peak: f32) -> f32
-    ensures { λ r. ⌜ r ≡ loudestOf (now (loud .entry)) 0 block peak ⌝ }
+// The louder of each two neighbours, in their order: many fill a vector.
+fn neighbours(loud: &[f32], larger: &mut [f32])
+    requires { ⌜ length (now loud) ≡ length (now larger) * 2 ⌝ }
+    ensures { λ _. ⌜ Pairs (now (loud .entry)) (length (now (larger .entry))) (now (larger .exit)) ⌝ }
+{
+    let n = larger.len();
+    let mut k = 0;
+    while k < n {
+        larger[k] = louder(loud[2 * k], loud[2 * k + 1]);
+        k += 1;
+    }
+}
+
+// The largest of a few values and the peak, the quarters side by side.
+fn loudest_few(loud: &[f32; QUARTER], peak: f32) -> f32
+    ensures { λ r. ⌜ r ≡ loudestOf (now (loud .entry)) 0 quarter peak ⌝ }
 {
     let mut a = peak;
     let mut b = peak;
     let mut c = peak;
     let mut d = peak;
     let mut k = 0;
-    while k < QUARTER {
+    while k < SECOND {
         a = louder(a, loud[k]);
-        b = louder(b, loud[QUARTER + k]);
-        c = louder(c, loud[HALF + k]);
-        d = louder(d, loud[THREE_QUARTERS + k]);
+        b = louder(b, loud[SECOND + k]);
+        c = louder(c, loud[THIRD + k]);
+        d = louder(d, loud[FOURTH + k]);
         k += 1;
     }
     louder(louder(louder(a, b), c), d)
+}
+
+// The largest of a block's values, each raised from the peak.
+fn loudest_of(loud: &[f32; BLOCK], peak: f32) -> f32
+    requires { ⌜ ((j : ℕ) → j < block → Raised peak (getD (now loud) j nan)) ⌝ }
+    ensures { λ r. ⌜ r ≡ loudestOf (now (loud .entry)) 0 block peak ⌝ }
+{
+    let mut halved = [peak; HALF];
+    neighbours(loud, &mut halved);
+    let mut few = [peak; QUARTER];
+    neighbours(&halved, &mut few);
+    loudest_few(&few, peak)
 }
 
 // The frames of each of four runs that hold n: whole fours of them, so that they fill vectors.
@@ -311,17 +371,6 @@ fn quarter(n: usize) -> usize
         return QUARTER;
     }
     (n + 15) / 16 * 4
-}
-
-// The same of two runs.
-fn half(n: usize) -> usize
-    ensures { λ r. ⌜ r * 2 ≤ block ⌝ }
-    ensures { λ r. ⌜ ((j : ℕ) → j < n → j < block → j < r * 2) ⌝ }
-{
-    if BLOCK <= n {
-        return HALF;
-    }
-    (n + 7) / 8 * 4
 }
 
 // The peak after n frames of a line, the first window beginning at its first place, by a table of taps of factor 4.
@@ -349,7 +398,7 @@ pub fn scan_twofold(
 ) -> f32
     ensures { λ r. ⌜ r ≡ scanned (phasesBy (now (taps .entry)) twofold) (now (line .entry)) 0 (min n block) peak ⌝ }
 {
-    let run = half(n);
+    let run = quarter(n);
     let mut loud = [peak; BLOCK];
     frames_twofold(taps, line, run, peak, &mut loud);
     rest(&mut loud, n, peak);

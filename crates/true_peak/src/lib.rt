@@ -178,7 +178,7 @@ fn one_channel(
     let mut loud = peak;
     let mut first = c;
     let mut left = frames;
-    while largest_phase::BLOCK <= left {
+    while largest_phase::BLOCK < left {
         loud = hear_block(
             i,
             taps,

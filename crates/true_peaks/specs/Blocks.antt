@@ -3,4 +3,4 @@ use Prim.Native.Nat.{ℕ}
 
 -- the places of a block
 abbrev pub places : ℕ
-places = 2048
+places = 4096

@@ -18,7 +18,7 @@ use true_peak::Measured;
 use true_peak::TruePeak;
 
 // The places of a block, and the frames that the interpolator takes at a time: a block is whole runs of them.
-const BLOCK: usize = 2048;
+const BLOCK: usize = 4096;
 
 const RUN: usize = 128;
 

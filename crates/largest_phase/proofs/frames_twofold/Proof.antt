@@ -6,21 +6,27 @@ use native.Mathlib.Omega.{arith}
 use Rattle.interp.specs.Interp.{twofold}
 use Rattle.interp.specs.Phase.{phasesBy}
 use Rattle.largest_phase.specs.Largest.{loudest}
-use Rattle.largest_phase.proofs.Quarters.{Halves, halves-start, halves-turn, halves-end}
+use Rattle.largest_phase.proofs.Quarters.{Quarters, quarters-start, quarters-turn, quarters-end}
 use Rattle.largest_phase.proofs.frames_twofold.Statement.{statement}
 use Rattle.largest_phase.proofs.frames_twofold.Tie as tie
 
 abbrev Inv-loop : tie.InvT-loop
-Inv-loop taps line run peak loud₀ at₀ loud at = (at ≤ run) × Halves (phasesBy taps twofold) line peak run loud at
+Inv-loop taps line run peak loud₀ at₀ loud at = (at ≤ run) × Quarters (phasesBy taps twofold) line peak run loud at
 
 abbrev μ-loop : tie.MeasureT-loop
 μ-loop taps line run peak loud₀ at₀ loud at = run - at
 
 loop-holds : tie.Need-loop-holds Inv-loop μ-loop
-loop-holds c = (search needs, halves-start (phasesBy (c .args .taps .now) twofold) (c .args .line .now) (c .args .peak) (c .args .run) (c .args .loud .now) (c .pre .1))
+loop-holds c = (search needs, quarters-start (phasesBy (c .args .taps .now) twofold) (c .args .line .now) (c .args .peak) (c .args .run) (c .args .loud .now) (c .pre .1))
 
 add-second : tie.Need-add-second Inv-loop μ-loop
 add-second c = search needs
+
+add-third : tie.Need-add-third Inv-loop μ-loop
+add-third c = search needs
+
+add-fourth : tie.Need-add-fourth Inv-loop μ-loop
+add-fourth c = search needs
 
 each-two-requires : tie.Need-each-two-requires Inv-loop μ-loop
 each-two-requires c κs = search needs
@@ -43,6 +49,24 @@ mul-loud-2 c = search needs
 element-write-loud-2 : tie.Need-element-write-loud-2 Inv-loop μ-loop
 element-write-loud-2 c = search needs
 
+loudest-two-requires-3 : tie.Need-loudest-two-requires-3 Inv-loop μ-loop
+loudest-two-requires-3 c κs = search needs
+
+mul-loud-3 : tie.Need-mul-loud-3 Inv-loop μ-loop
+mul-loud-3 c = search needs
+
+element-write-loud-3 : tie.Need-element-write-loud-3 Inv-loop μ-loop
+element-write-loud-3 c = search needs
+
+loudest-two-requires-4 : tie.Need-loudest-two-requires-4 Inv-loop μ-loop
+loudest-two-requires-4 c κs = search needs
+
+mul-loud-4 : tie.Need-mul-loud-4 Inv-loop μ-loop
+mul-loud-4 c = search needs
+
+element-write-loud-4 : tie.Need-element-write-loud-4 Inv-loop μ-loop
+element-write-loud-4 c = search needs
+
 add-at : tie.Need-add-at Inv-loop μ-loop
 add-at c = search needs
 
@@ -51,15 +75,17 @@ loop-less c = search needs
 
 loop-again : tie.Need-loop-again Inv-loop μ-loop
 loop-again c =
-    let l = c .before .before .before .before .before .before .loop in
-    let a = c .before .before .before .before .before .before .before .args in
-    let s = c .before .before .before .before .before .before .before in
-    let t = c .before .before .before .before .before .loop-test .taken in
-    let e = c .before .before .before .before .each-two in (
+    let l = c .before .before .before .before .before .before .before .before .before .before .loop in
+    let a = c .before .before .before .before .before .before .before .before .before .before .before .args in
+    let s = c .before .before .before .before .before .before .before .before .before .before .before in
+    let t = c .before .before .before .before .before .before .before .before .before .loop-test .taken in
+    let e = c .before .before .before .before .before .before .before .before .each-two in (
       omega (arith, t),
-      halves-turn (phasesBy (a .taps .now) twofold) (a .line .now) (a .peak) (a .run) (l .loud) (l .at) (l .at + a .run) (c .before .before .loudest-two .result) (c .loudest-two2 .result) t (s .pre .0) refl
-          (c .before .before .loudest-two .ensures ∙ ap (loudest (a .peak)) (e .ensures .0))
-          (c .loudest-two2 .ensures ∙ ap (loudest (a .peak)) (e .ensures .1))
+      quarters-turn (phasesBy (a .taps .now) twofold) (a .line .now) (a .peak) (a .run) (l .loud) (l .at) (l .at + a .run) (l .at + a .run + a .run) (l .at + a .run + a .run + a .run) (c .before .before .before .before .before .before .loudest-two .result) (c .before .before .before .before .loudest-two2 .result) (c .before .before .loudest-two3 .result) (c .loudest-two4 .result) t (s .pre .0) refl refl refl
+          (c .before .before .before .before .before .before .loudest-two .ensures ∙ ap (loudest (a .peak)) (e .ensures .0))
+          (c .before .before .before .before .loudest-two2 .ensures ∙ ap (loudest (a .peak)) (e .ensures .1 .0))
+          (c .before .before .loudest-two3 .ensures ∙ ap (loudest (a .peak)) (e .ensures .1 .1 .0))
+          (c .loudest-two4 .ensures ∙ ap (loudest (a .peak)) (e .ensures .1 .1 .1))
           (l .inv .1),
     )
 
@@ -67,7 +93,7 @@ returns : tie.Need-returns Inv-loop μ-loop
 returns c =
     let l = c .before .loop in
     let a = c .before .before .args in
-    halves-end (phasesBy (a .taps .now) twofold) (a .line .now) (a .peak) (a .run) (l .loud) (l .at) (c .loop-test .left) (l .inv .1)
+    quarters-end (phasesBy (a .taps .now) twofold) (a .line .now) (a .peak) (a .run) (l .loud) (l .at) (c .loop-test .left) (l .inv .1)
 
 pub frames-twofold-spec : {M : Type 1} → statement M
 frames-twofold-spec =
@@ -77,6 +103,8 @@ frames-twofold-spec =
     μ-loop
     loop-holds
     add-second
+    add-third
+    add-fourth
     each-two-requires
     loudest-two-requires
     mul-loud
@@ -84,6 +112,12 @@ frames-twofold-spec =
     loudest-two-requires-2
     mul-loud-2
     element-write-loud-2
+    loudest-two-requires-3
+    mul-loud-3
+    element-write-loud-3
+    loudest-two-requires-4
+    mul-loud-4
+    element-write-loud-4
     add-at
     loop-less
     loop-again

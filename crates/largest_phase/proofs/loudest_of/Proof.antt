@@ -1,146 +1,43 @@
--- `largest_phase::loudest_of` meets its contract: what is left of each quarter gives what the quarter gives. Assumes nothing.
+-- `largest_phase::loudest_of` meets its contract: neighbours compared twice leave the same largest. Assumes nothing.
 use borrow.Author.Needs.{needs}
-use mathlib.Core.Path.{_≡_, refl, ap, _∙_}
-use Prim.Native.Nat.{_+_, _-_, _≤_}
-use native.Mathlib.Omega.{arith}
-use lib.Ieee.{Float}
-use Rattle.largest_phase.specs.Largest.{louder}
-use Rattle.largest_phase.specs.Line.{loudestOf}
-use Rattle.largest_phase.proofs.Quarters.{run-turn, run-end, by-quarters}
+use mathlib.Core.Path.{_∙_}
+use Rattle.largest_phase.proofs.Pairs.{twice}
 use Rattle.largest_phase.proofs.loudest_of.Statement.{statement}
 use Rattle.largest_phase.proofs.loudest_of.Tie as tie
 
-abbrev Inv-loop : tie.InvT-loop
-Inv-loop loud peak a₀ b₀ c₀ d₀ k₀ a b c d k =
-    (k ≤ 32)
-    × ((loudestOf loud (0 + k) (32 - k) a ≡ loudestOf loud 0 32 peak)
-    × ((loudestOf loud (32 + k) (32 - k) b ≡ loudestOf loud 32 32 peak)
-    × ((loudestOf loud (64 + k) (32 - k) c ≡ loudestOf loud 64 32 peak)
-    × (loudestOf loud (96 + k) (32 - k) d ≡ loudestOf loud 96 32 peak))))
+slice-aggregate-neighbours : tie.Need-slice-aggregate-neighbours
+slice-aggregate-neighbours c = search needs
 
-abbrev μ-loop : tie.MeasureT-loop
-μ-loop loud peak a₀ b₀ c₀ d₀ k₀ a b c d k = 32 - k
+neighbours-requires : tie.Need-neighbours-requires
+neighbours-requires c κs = search needs
 
-loop-holds : tie.Need-loop-holds Inv-loop μ-loop
-loop-holds c = (search needs, (refl, (refl, (refl, refl))))
+slice-aggregate-neighbours-2 : tie.Need-slice-aggregate-neighbours-2
+slice-aggregate-neighbours-2 c = search needs
 
-mul-louder : tie.Need-mul-louder Inv-loop μ-loop
-mul-louder c = search needs
+slice-aggregate-neighbours-3 : tie.Need-slice-aggregate-neighbours-3
+slice-aggregate-neighbours-3 c = search needs
 
-element-copy-out-louder : tie.Need-element-copy-out-louder Inv-loop μ-loop
-element-copy-out-louder c = search needs
+neighbours-requires-2 : tie.Need-neighbours-requires-2
+neighbours-requires-2 c κs = search needs
 
-louder-requires : tie.Need-louder-requires Inv-loop μ-loop
-louder-requires c κs = search needs
+loudest-few-requires : tie.Need-loudest-few-requires
+loudest-few-requires c κs = search needs
 
-add-louder : tie.Need-add-louder Inv-loop μ-loop
-add-louder c = search needs
-
-mul-louder-2 : tie.Need-mul-louder-2 Inv-loop μ-loop
-mul-louder-2 c = search needs
-
-element-copy-out-louder-2 : tie.Need-element-copy-out-louder-2 Inv-loop μ-loop
-element-copy-out-louder-2 c = search needs
-
-louder-requires-2 : tie.Need-louder-requires-2 Inv-loop μ-loop
-louder-requires-2 c κs = search needs
-
-add-louder-2 : tie.Need-add-louder-2 Inv-loop μ-loop
-add-louder-2 c = search needs
-
-mul-louder-3 : tie.Need-mul-louder-3 Inv-loop μ-loop
-mul-louder-3 c = search needs
-
-element-copy-out-louder-3 : tie.Need-element-copy-out-louder-3 Inv-loop μ-loop
-element-copy-out-louder-3 c = search needs
-
-louder-requires-3 : tie.Need-louder-requires-3 Inv-loop μ-loop
-louder-requires-3 c κs = search needs
-
-add-louder-3 : tie.Need-add-louder-3 Inv-loop μ-loop
-add-louder-3 c = search needs
-
-mul-louder-4 : tie.Need-mul-louder-4 Inv-loop μ-loop
-mul-louder-4 c = search needs
-
-element-copy-out-louder-4 : tie.Need-element-copy-out-louder-4 Inv-loop μ-loop
-element-copy-out-louder-4 c = search needs
-
-louder-requires-4 : tie.Need-louder-requires-4 Inv-loop μ-loop
-louder-requires-4 c κs = search needs
-
-add-k : tie.Need-add-k Inv-loop μ-loop
-add-k c = search needs
-
-loop-less : tie.Need-loop-less Inv-loop μ-loop
-loop-less c = search needs
-
-loop-again : tie.Need-loop-again Inv-loop μ-loop
-loop-again c =
-    let l = c .before .before .before .before .before .before .before .before .before .loop in
-    let a = c .before .before .before .before .before .before .before .before .before .before .args in
-    let t = c .before .before .before .before .before .before .before .before .loop-test .taken in (
-      omega arith,
-      (
-        run-turn (a .loud .now) 0 (l .k) (l .k) (l .a) (c .before .before .before .before .before .before .louder .result) t (omega arith) (c .before .before .before .before .before .before .louder .ensures) ∙ l .inv .1 .0,
-        (
-          run-turn (a .loud .now) 32 (32 + l .k) (l .k) (l .b) (c .before .before .before .before .louder2 .result) t (refl) (c .before .before .before .before .louder2 .ensures) ∙ l .inv .1 .1 .0,
-          (
-            run-turn (a .loud .now) 64 (64 + l .k) (l .k) (l .c) (c .before .before .louder3 .result) t (refl) (c .before .before .louder3 .ensures) ∙ l .inv .1 .1 .1 .0,
-            run-turn (a .loud .now) 96 (96 + l .k) (l .k) (l .d) (c .louder4 .result) t (refl) (c .louder4 .ensures) ∙ l .inv .1 .1 .1 .1,
-          ),
-        ),
-      ),
-    )
-
-louder-requires-5 : tie.Need-louder-requires-5 Inv-loop μ-loop
-louder-requires-5 c κs = search needs
-
-louder-requires-6 : tie.Need-louder-requires-6 Inv-loop μ-loop
-louder-requires-6 c κs = search needs
-
-louder-requires-7 : tie.Need-louder-requires-7 Inv-loop μ-loop
-louder-requires-7 c κs = search needs
-
-returns : tie.Need-returns Inv-loop μ-loop
+returns : tie.Need-returns
 returns c =
-    let l = c .before .before .before .before .loop in
-    let a = c .before .before .before .before .before .args in
-    let t = c .before .before .before .loop-test .left in
-    c .louder7 .ensures
-    ∙ ap (λ (x : Float). louder x (l .d)) (c .before .louder6 .ensures ∙ ap (λ (x : Float). louder x (l .c)) (c .before .before .louder5 .ensures))
-    ∙ by-quarters (a .loud .now) (a .peak) (l .a) (l .b) (l .c) (l .d)
-    (run-end (a .loud .now) (0 + l .k) (l .k) (l .a) t ∙ l .inv .1 .0)
-    (run-end (a .loud .now) (32 + l .k) (l .k) (l .b) t ∙ l .inv .1 .1 .0)
-    (run-end (a .loud .now) (64 + l .k) (l .k) (l .c) t ∙ l .inv .1 .1 .1 .0)
-    (run-end (a .loud .now) (96 + l .k) (l .k) (l .d) t ∙ l .inv .1 .1 .1 .1)
+    let n = c .before .before .before in
+    let m = n .before .before .before .before in
+    let s = m .before .before .before in
+    c .loudest-few .ensures ∙ twice (s .args .peak) (s .args .loud .now) (m .neighbours .last .1 .0) (n .neighbours2 .last .1 .0) (m .neighbours .ensures) (n .neighbours2 .ensures) (s .pre)
 
 pub loudest-of-spec : {M : Type 1} → statement M
 loudest-of-spec =
     tie.close
     (tie.spec
-    Inv-loop
-    μ-loop
-    loop-holds
-    mul-louder
-    element-copy-out-louder
-    louder-requires
-    add-louder
-    mul-louder-2
-    element-copy-out-louder-2
-    louder-requires-2
-    add-louder-2
-    mul-louder-3
-    element-copy-out-louder-3
-    louder-requires-3
-    add-louder-3
-    mul-louder-4
-    element-copy-out-louder-4
-    louder-requires-4
-    add-k
-    loop-less
-    loop-again
-    louder-requires-5
-    louder-requires-6
-    louder-requires-7
+    slice-aggregate-neighbours
+    neighbours-requires
+    slice-aggregate-neighbours-2
+    slice-aggregate-neighbours-3
+    neighbours-requires-2
+    loudest-few-requires
     returns)

@@ -1,9 +1,14 @@
 -- `largest_phase::scan_fourfold` meets its contract: the frames each raise the peak by themselves, and the largest of them is what scanning in order gives. Assumes nothing.
-use mathlib.Core.Path.{refl, _∙_}
+use mathlib.Core.Path.{_≡_, refl, _∙_}
+use Prim.Native.Nat.{ℕ, _<_}
 use borrow.Author.Needs.{needs}
+use lib.ListN.{getD}
+use lib.Ieee.{nan}
 use Rattle.interp.specs.Interp.{fourfold}
 use Rattle.interp.specs.Phase.{phasesBy}
-use Rattle.largest_phase.proofs.Quarters.{scanned-some}
+use Rattle.largest_phase.specs.Largest.{loudest}
+use Rattle.largest_phase.specs.Line.{block, back}
+use Rattle.largest_phase.proofs.Quarters.{scanned-some, all-raised}
 use Rattle.largest_phase.proofs.scan_fourfold.Statement.{statement}
 use Rattle.largest_phase.proofs.scan_fourfold.Tie as tie
 
@@ -16,17 +21,21 @@ frames-fourfold-requires c κs = (c .before .quarter .ensures .0, refl)
 rest-requires : tie.Need-rest-requires
 rest-requires c κs = c .before .frames-fourfold .ensures .size
 
+raised : (c : tie.After-rest) → let s = c .before .before .before .before .before in (j : ℕ) → j < s .args .n → j < block
+    → getD (c .rest .last .0) j nan ≡ loudest (s .args .peak) (phasesBy (s .args .taps .now) fourfold (back (s .args .line .now) j 24))
+raised c j h g = c .rest .ensures .0 j h ∙ c .before .before .frames-fourfold .ensures .raised j (c .before .before .before .before .quarter .ensures .1 j h g)
+
 loudest-of-requires : tie.Need-loudest-of-requires
-loudest-of-requires c κs = search needs
+loudest-of-requires c κs =
+    let s = c .before .before .before .before .before .before in
+    all-raised (phasesBy (s .args .taps .now) fourfold) (s .args .line .now) (c .before .rest .last .0) (s .args .n) (s .args .peak) (raised (c .before)) (c .before .rest .ensures .1)
 
 returns : tie.Need-returns
 returns c =
-    let s = c .before .before .before .before .before .before .before in
-    let r = c .before .before .rest in
+    let r = c .before .before in
+    let s = r .before .before .before .before .before in
     c .loudest-of .ensures
-    ∙ scanned-some (phasesBy (s .args .taps .now) fourfold) (s .args .line .now) (r .last .0) (s .args .n) (s .args .peak)
-    (λ j h g. r .ensures .0 j h ∙ c .before .before .before .before .frames-fourfold .ensures .raised j (c .before .before .before .before .before .before .quarter .ensures .1 j h g))
-    (r .ensures .1)
+    ∙ scanned-some (phasesBy (s .args .taps .now) fourfold) (s .args .line .now) (r .rest .last .0) (s .args .n) (s .args .peak) (raised r) (r .rest .ensures .1)
 
 pub scan-fourfold-spec : {M : Type 1} → statement M
 scan-fourfold-spec = tie.close (tie.spec quarter-requires frames-fourfold-requires rest-requires loudest-of-requires returns)

@@ -1,4 +1,4 @@
--- `largest_phase::tap_pair` meets its contract: the two frames take the same taps, each its own samples. Assumes nothing.
+-- `largest_phase::tap_pair` meets its contract: the four frames take the same taps, each its own samples. Assumes nothing.
 use borrow.Author.Needs.{needs}
 use mathlib.Core.Path.{ap, _∙_}
 use Prim.Native.Nat.{_+_}
@@ -53,13 +53,57 @@ element-copy-out-on-pair-4 c = search needs
 on-pair-requires-2 : tie.Need-on-pair-requires-2
 on-pair-requires-2 c κs = search needs
 
+add-on-pair-5 : tie.Need-add-on-pair-5
+add-on-pair-5 c = search needs
+
+mul-on-pair-5 : tie.Need-mul-on-pair-5
+mul-on-pair-5 c = search needs
+
+element-copy-out-on-pair-5 : tie.Need-element-copy-out-on-pair-5
+element-copy-out-on-pair-5 c = search needs
+
+add-on-pair-6 : tie.Need-add-on-pair-6
+add-on-pair-6 c = search needs
+
+mul-on-pair-6 : tie.Need-mul-on-pair-6
+mul-on-pair-6 c = search needs
+
+element-copy-out-on-pair-6 : tie.Need-element-copy-out-on-pair-6
+element-copy-out-on-pair-6 c = search needs
+
+on-pair-requires-3 : tie.Need-on-pair-requires-3
+on-pair-requires-3 c κs = search needs
+
+add-on-pair-7 : tie.Need-add-on-pair-7
+add-on-pair-7 c = search needs
+
+mul-on-pair-7 : tie.Need-mul-on-pair-7
+mul-on-pair-7 c = search needs
+
+element-copy-out-on-pair-7 : tie.Need-element-copy-out-on-pair-7
+element-copy-out-on-pair-7 c = search needs
+
+add-on-pair-8 : tie.Need-add-on-pair-8
+add-on-pair-8 c = search needs
+
+mul-on-pair-8 : tie.Need-mul-on-pair-8
+mul-on-pair-8 c = search needs
+
+element-copy-out-on-pair-8 : tie.Need-element-copy-out-on-pair-8
+element-copy-out-on-pair-8 c = search needs
+
+on-pair-requires-4 : tie.Need-on-pair-requires-4
+on-pair-requires-4 c κs = search needs
+
 returns : tie.Need-returns
 returns c =
-    let a = c .before .before .before .before .before .before .before .args in
-    let t = c .before .before .before .before .before .before .four-at .ensures in
+    let a = c .before .before .before .before .before .before .before .before .before .before .before .before .before .args in
+    let t = c .before .before .before .before .before .before .before .before .before .before .before .before .four-at .ensures in
     λ i. record {
-      a = (c .before .before .before .on-pair .ensures ∙ ap (onPair (a .e .a) (getD (a .line .now) (a .a + a .newer) nan) (getD (a .line .now) (a .a + a .older) nan)) t) i;
-      b = (c .on-pair2 .ensures ∙ ap (onPair (a .e .b) (getD (a .line .now) (a .b + a .newer) nan) (getD (a .line .now) (a .b + a .older) nan)) t) i;
+      a = (c .before .before .before .before .before .before .before .before .before .on-pair .ensures ∙ ap (onPair (a .e .a) (getD (a .line .now) (a .a + a .newer) nan) (getD (a .line .now) (a .a + a .older) nan)) t) i;
+      b = (c .before .before .before .before .before .before .on-pair2 .ensures ∙ ap (onPair (a .e .b) (getD (a .line .now) (a .b + a .newer) nan) (getD (a .line .now) (a .b + a .older) nan)) t) i;
+      c = (c .before .before .before .on-pair3 .ensures ∙ ap (onPair (a .e .c) (getD (a .line .now) (a .c + a .newer) nan) (getD (a .line .now) (a .c + a .older) nan)) t) i;
+      d = (c .on-pair4 .ensures ∙ ap (onPair (a .e .d) (getD (a .line .now) (a .d + a .newer) nan) (getD (a .line .now) (a .d + a .older) nan)) t) i;
     }
 
 pub tap-pair-spec : {M : Type 1} → statement M
@@ -81,4 +125,18 @@ tap-pair-spec =
     mul-on-pair-4
     element-copy-out-on-pair-4
     on-pair-requires-2
+    add-on-pair-5
+    mul-on-pair-5
+    element-copy-out-on-pair-5
+    add-on-pair-6
+    mul-on-pair-6
+    element-copy-out-on-pair-6
+    on-pair-requires-3
+    add-on-pair-7
+    mul-on-pair-7
+    element-copy-out-on-pair-7
+    add-on-pair-8
+    mul-on-pair-8
+    element-copy-out-on-pair-8
+    on-pair-requires-4
     returns)

@@ -2,7 +2,7 @@
 use borrow.Author.Needs.{needs}
 use mathlib.Core.List.{List}
 use mathlib.Core.Path.{_≡_, ap, _∙_}
-use Prim.Native.Nat.{_+_, _*_, _-_, _<_}
+use Prim.Native.Nat.{ℕ, _+_, _*_, _-_, _<_, _≤_}
 use native.Mathlib.Omega.{arith}
 use lib.ListN.{length}
 use lib.Ieee.{Float}
@@ -16,6 +16,10 @@ use Rattle.true_peak.specs.TruePeak.{historyAt}
 use Rattle.true_peak.proofs.Blocks.{blocks-turn, places}
 use Rattle.true_peak.proofs.one_channel.Statement.{statement}
 use Rattle.true_peak.proofs.one_channel.Tie as tie
+
+-- more than a block is left: a whole one is
+whole : (left : ℕ) → 128 < left → 128 ≤ left
+whole left h = omega arith
 
 abbrev Inv-loop : tie.InvT-loop
 Inv-loop i taps samples channels frames c memory peak line₀ loud₀ first₀ left₀ line loud first left =
@@ -48,7 +52,7 @@ hear-block-requires c κs =
       s .pre .0,
       (
         s .pre .1 .0,
-        (omega arith, (omega (arith, places 128 (l .left) (s .args .channels) (c .before .loop-test .taken), l .inv .1 .0), (omega (arith, s .good, s .pre), l .inv .0))),
+        (omega arith, (omega (arith, places 128 (l .left) (s .args .channels) (whole (l .left) (c .before .loop-test .taken)), l .inv .1 .0), (omega (arith, s .good, s .pre), l .inv .0))),
       ),
     )
 
@@ -58,13 +62,16 @@ further : (c : tie.After-hear-block Inv-loop μ-loop)
 further c =
     let l = c .before .before .before .loop in
     let s = c .before .before .before .before .before .before .before .before in
-    omega (arith, places 128 (l .left) (s .args .channels) (c .before .before .loop-test .taken), l .inv .1 .0, s .pre .1 .1 .0)
+    omega (arith, places 128 (l .left) (s .args .channels) (whole (l .left) (c .before .before .loop-test .taken)), l .inv .1 .0, s .pre .1 .1 .0)
 
 mul-first : tie.Need-mul-first Inv-loop μ-loop
 mul-first c = omega (arith, further c, c .before .before .before .before .before .before .before .before .good)
 
 add-first : tie.Need-add-first Inv-loop μ-loop
 add-first c = omega (arith, further c, c .before .before .before .before .before .before .before .before .good)
+
+sub-left : tie.Need-sub-left Inv-loop μ-loop
+sub-left c = omega (arith, c .before .before .loop-test .taken)
 
 loop-less : tie.Need-loop-less Inv-loop μ-loop
 loop-less c = omega (arith, c .before .before .loop-test .taken)
@@ -73,7 +80,7 @@ loop-again : tie.Need-loop-again Inv-loop μ-loop
 loop-again c =
     let l = c .before .before .before .loop in
     let a = c .before .before .before .before .before .before .before .before .args in
-    let t = c .before .before .loop-test .taken in (
+    let t = whole (l .left) (c .before .before .loop-test .taken) in (
       c .hear-block .ensures .1,
       (
         omega (arith, places 128 (l .left) (a .channels) t, l .inv .1 .0),
@@ -112,6 +119,7 @@ one-channel-spec =
     hear-block-requires
     mul-first
     add-first
+    sub-left
     loop-less
     loop-again
     hear-block-requires-2
