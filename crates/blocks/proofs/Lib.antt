@@ -1,2 +1,3 @@
+pub mod Nothing
 pub mod Running
 pub mod Start

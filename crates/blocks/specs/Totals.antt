@@ -1,11 +1,11 @@
 -- Blocks counted and their energies added (01, step 8): "histogram: count times energy, bins upward; queue: oldest first".
 use Prim.Native.Nat.{ℕ, suc, _+_, _*_}
-use mathlib.Core.Bool.{cond}
+use mathlib.Core.Bool.{Bool, true, not, cond}
 use mathlib.Core.List.{List, [], _∷_}
-use lib.Dec.{ltb}
+use lib.Dec.{T, ltb}
 use lib.IntN.{pos}
 use lib.ListN.{length, drop}
-use lib.Ieee.{Float, binary64, add, mul, div, ofInt, ofBits}
+use lib.Ieee.{Float, nan, inf, fin, binary64, add, mul, div, ofInt, ofBits, fits}
 use Rattle.tables.specs.Tables.{energyAt}
 use Rattle.histogram_bins.specs.Bin.{bins}
 use Rattle.tables.specs.Rows.{energiesARow}
@@ -24,6 +24,16 @@ onTopOf sum = record { count = 0; sum = sum }
 -- no block, and the sum 0. The Rust's sum of a queue starts from 0 or from -0, by its version: on energies that are positive or NaN this shows nowhere
 abbrev pub none : Totals
 none = onTopOf (ofBits binary64 0)
+
+-- no minus: NaN, or a number without one, so not -0
+unfoldable pub unsigned : Float → Bool
+unsigned nan = true
+unsigned (inf minus) = not minus
+unsigned (fin minus m e) = not minus
+
+-- a sum that stays as it is where 0 is added
+abbrev pub Steady : Float → Type 0
+Steady sum = T (fits binary64 sum) × T (unsigned sum)
 
 -- so many blocks more, with their energy
 abbrev pub withBlocks : Totals → ℕ → Float → Totals

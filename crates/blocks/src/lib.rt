@@ -1,12 +1,16 @@
 // The blocks of a histogram from a bin upward, how many they are and the sum of their energies, and the bin where a gate starts.
 ghost use mathlib.Core.Path.{_≡_};
+ghost use mathlib.Core.Logic.{_⊎_};
+ghost use mathlib.Core.Bool.{false};
 ghost use Prim.Native.Nat.{_+_, _*_, _≤_, _<_};
 ghost use lib.ListN.{length, drop};
+ghost use lib.Ieee.{lt};
 ghost use Rattle.histogram_bins.specs.Bin.{bins};
+ghost use Rattle.tables.specs.Tables.{energyAt};
 ghost use Rattle.tables.specs.Rows.{energiesARow, energyRows};
 ghost use Rattle.histogram.specs.Histogram.{largestCount};
 ghost use Rattle.blocks.specs.Totals.{mostBlocks, onTopOf, binsFrom, blocksAbove, sumAbove, fromBin};
-ghost use Rattle.blocks.specs.Start.{startBin};
+ghost use Rattle.blocks.specs.Start.{Past, startBin};
 
 // A running count of blocks and the sum of their energies.
 pub struct Totals {
@@ -123,17 +127,57 @@ pub fn from_bin(sum: f64, counters: &[u32], start: usize, bin: usize) -> Totals
     bins_from(sum, &counters[start..end], places - start, bin)
 }
 
+// The energies of a histogram below the threshold are passed over: a hundred bins at a time, then by rows, then one by one. Each turn is a question that a
+// processor guesses, so that what follows need not wait for the threshold.
+fn hundreds_past(threshold: f64) -> usize
+    ensures { λ r. ⌜ (r ≤ energyRows) × Past threshold (energiesARow * r) ⌝ }
+{
+    // the last row of a hundred bins; the first is four before it
+    let mut last = 4;
+    while last < tables::ENERGY_ROWS {
+        let energies = tables::energy_row(last);
+        if energies[19] < threshold {
+            last += 5;
+        } else {
+            return last - 4;
+        }
+    }
+    last - 4
+}
+
+// The row in which the energies reach the threshold, or past the last.
+fn rows_past(threshold: f64) -> usize
+    ensures { λ r. ⌜ (r ≤ energyRows) × Past threshold (energiesARow * r) × ((r ≡ energyRows) ⊎ (lt (energyAt (energiesARow * r + 19)) threshold ≡ false)) ⌝ }
+{
+    let mut row = hundreds_past(threshold);
+    while row < tables::ENERGY_ROWS {
+        let energies = tables::energy_row(row);
+        if energies[19] < threshold {
+            row += 1;
+        } else {
+            return row;
+        }
+    }
+    row
+}
+
 // Where a gate starts in a histogram. It may be past the last bin.
 pub fn start_bin(threshold: f64) -> usize
     ensures { λ r. ⌜ r ≡ startBin threshold ⌝ }
 {
-    if threshold < histogram_bins::lowest_boundary() {
-        return 0;
+    let row = rows_past(threshold);
+    let first = tables::ENERGIES_A_ROW * row;
+    if row >= tables::ENERGY_ROWS {
+        return first;
     }
-    let bin = bin_search::find_histogram_index(threshold);
-    if threshold > histogram_bins::energy(bin) {
-        bin + 1
-    } else {
-        bin
+    let energies = tables::energy_row(row);
+    let mut place = 0;
+    while place < 19 {
+        if energies[place] < threshold {
+            place += 1;
+        } else {
+            return first + place;
+        }
     }
+    first + place
 }

@@ -1,14 +1,37 @@
 // The C interface of the gate. include/xelamphoun.h declares it.
 ghost use mathlib.Core.Path.{_≡_};
-ghost use Rattle.gate.specs.Gate.{gateOf};
-ghost use Rattle.gate.specs.GatedEnergy.{gatedEnergyOf};
+ghost use Rattle.refusals.specs.Outcome.{saidBy};
+ghost use Rattle.gate.specs.Gate.{gateOf, said};
+ghost use Rattle.gate.specs.GatedEnergy.{gatedEnergyOf, said as saidEnergy};
 ghost use Rattle.gate.specs.Relative.{relativeOf};
 ghost use Rattle.codes.specs.Codes.{code, valueOr};
-ghost use Rattle.entries.specs.Sets.{asked, askedAlone};
+ghost use Rattle.entries.specs.Sets.{setOf, asked, askedAlone};
 ghost use Rattle.exports_gate.specs.Measures.{totalsOver, floatOr};
 use gate::Energy;
 use gate::Gated;
 use gate::Threshold;
+
+// The gate question over the set of these numbers. A single history is asked by itself, so that no set of sixteen is made.
+fn gate_of(entries: &[usize], counters: &[u32], energies: &[f64]) -> Gated
+    ensures { λ r. ⌜ said r ≡ saidBy (gateOf (setOf (now (entries .entry)) (now (counters .entry)) (now (energies .entry)))) ⌝ }
+{
+    if entries.len() == entries::NUMBERS {
+        return gate::gate_of_history(entries::first_of(entries), counters, energies);
+    }
+    let count = entries.len() / entries::NUMBERS;
+    gate::gate(entries::entries_of(entries), count, counters, energies)
+}
+
+// Gated energy, in the same way.
+fn gated_energy_of(entries: &[usize], counters: &[u32], energies: &[f64]) -> Energy
+    ensures { λ r. ⌜ saidEnergy r ≡ saidBy (gatedEnergyOf (setOf (now (entries .entry)) (now (counters .entry)) (now (energies .entry)))) ⌝ }
+{
+    if entries.len() == entries::NUMBERS {
+        return gate::gated_energy_of_history(entries::first_of(entries), counters, energies);
+    }
+    let count = entries.len() / entries::NUMBERS;
+    gate::gated_energy(entries::entries_of(entries), count, counters, energies)
+}
 
 #[no_mangle]
 pub extern "C" fn xel_gate(
@@ -25,8 +48,7 @@ pub extern "C" fn xel_gate(
     if entries.len() % entries::NUMBERS != 0 {
         return refusals::SET;
     }
-    let count = entries.len() / entries::NUMBERS;
-    match gate::gate(entries::entries_of(entries), count, counters, energies) {
+    match gate_of(entries, counters, energies) {
         Gated::Blocks(above, total) => {
             *blocks = above;
             *sum = total;
@@ -49,8 +71,7 @@ pub extern "C" fn xel_gated_energy(
     if entries.len() % entries::NUMBERS != 0 {
         return refusals::SET;
     }
-    let count = entries.len() / entries::NUMBERS;
-    match gate::gated_energy(entries::entries_of(entries), count, counters, energies) {
+    match gated_energy_of(entries, counters, energies) {
         Energy::Of(mean) => {
             *energy = mean;
             0

@@ -1,23 +1,38 @@
 -- What a history has at or above the gate. A turn takes the first of the energies left, and keeps it or passes it; what a queue holds is two parts, one after
 -- the other; and the blocks of a histogram are counted from 0 and their number added. Assumes nothing.
-use mathlib.Core.Path.{_≡_, refl, sym, ap, _∙_}
-use mathlib.Core.Bool.{Bool, true, false, not, cond}
+use mathlib.Core.Path.{_≡_, refl, sym, ap, _∙_, subst}
+use mathlib.Core.Bool.{Bool, true, false, not, _&&_, cond, true≢false}
 use mathlib.Core.List.{List, [], _∷_, _++_}
 use Prim.Native.Nat.{ℕ, suc, _+_, _-_, _≤_, _<_}
 use native.Mathlib.Omega.{arith}
+use borrow.Author.Tests.{not-true}
+use lib.Dec.{T}
 use lib.IntN.{pos}
 use lib.ListN.{length, getD}
 use lib.Ieee.{Float, binary64, add, mul, ofInt, lt}
-use Rattle.tables.specs.Tables.{energyAt}
+use Rattle.tables.specs.Tables.{boundaryAt, energyAt}
+use Rattle.tables.proofs.Rules.{boundary-positive}
+use Rattle.histogram_bins.specs.Energy.{dropped}
 use Rattle.queue.specs.declared.Queue.{Queue}
 use Rattle.queue.specs.Queue.{suits, heldOf, firstPart}
-use Rattle.history.specs.Set.{queueAt}
+use Rattle.history.specs.Set.{queueAt, noneBelow}
 use Rattle.history.proofs.Slices.{held-slices}
+use Rattle.history.proofs.Entries.{none-below-append}
 use Rattle.blocks.specs.declared.Totals.{Totals}
-use Rattle.blocks.specs.Totals.{onTopOf, withBlocks, binsFrom}
+use Rattle.blocks.specs.Totals.{onTopOf, none, unsigned, Steady, withBlocks, binsFrom}
+use Rattle.blocks.proofs.Nothing.{nothing-added, steady-added, nothing-steady, not-below-unsigned}
 use Rattle.blocks.specs.Start.{counts}
-use Rattle.sums.proofs.Looking.{part, part-next, part-end, same}
+use Rattle.sums.proofs.Looking.{part, part-next, part-end, sound-turn, same}
 use Rattle.gate.specs.Gate.{keptFrom}
+
+both-true : (a b : Bool) → a && b ≡ true → (a ≡ true) × (b ≡ true)
+both-true true b h = (refl, h)
+both-true false b h = absurd (true≢false (sym h))
+
+-- an energy without a minus, or 0
+either : (b : Bool) (x : Float) → T (unsigned x) → T (unsigned (cond b x (none .sum)))
+either true x p = p
+either false x p = nothing-steady .1
 
 -- ---- energies
 module _ (energies : List Float) (i until : ℕ) (threshold : Float) where
@@ -32,13 +47,46 @@ module _ (energies : List Float) (i until : ℕ) (threshold : Float) where
       sym (ap (keptFrom threshold totals) (part-next energies i until d h g)
       ∙ ap (λ (b : Bool). keptFrom threshold (kept-next totals (getD energies i d) b) (part (i + 1) until energies)) k)
 
-  pub kept-turn : (totals : Totals) (d : Float) → i < until → until ≤ length energies → lt (getD energies i d) threshold ≡ false
+  kept-turn : (totals : Totals) (d : Float) → i < until → until ≤ length energies → lt (getD energies i d) threshold ≡ false
       → keptFrom threshold (withBlocks totals 1 (getD energies i d)) (part (i + 1) until energies) ≡ keptFrom threshold totals (part i until energies)
   kept-turn totals d h g k = turn totals d false h g k
 
-  pub passed-turn : (totals : Totals) (d : Float) → i < until → until ≤ length energies → lt (getD energies i d) threshold ≡ true
+  passed-turn : (totals : Totals) (d : Float) → i < until → until ≤ length energies → lt (getD energies i d) threshold ≡ true
       → keptFrom threshold totals (part (i + 1) until energies) ≡ keptFrom threshold totals (part i until energies)
   passed-turn totals d h g k = turn totals d true h g k
+
+  -- what the energy adds: itself and a block, or 0 and none
+  abbrev added : Float → Float
+  added energy = cond (counts threshold energy) energy (none .sum)
+
+  abbrev more : Float → ℕ
+  more energy = cond (counts threshold energy) 1 0
+
+  module _ (count : ℕ) (sum d : Float) (h : i < until) (g : until ≤ length energies) (steady : Steady sum) (energy : Float) (e : energy ≡ added (getD energies i d)) where
+    pub turn-adds : (blocks : ℕ) → blocks ≡ more (getD energies i d)
+        → keptFrom threshold (record { count = count + blocks; sum = add binary64 sum energy }) (part (i + 1) until energies)
+        ≡ keptFrom threshold (record { count = count; sum = sum }) (part i until energies)
+    turn-adds blocks m = go (lt (getD energies i d) threshold) refl
+      where
+        go : (below : Bool) → lt (getD energies i d) threshold ≡ below
+            → keptFrom threshold (record { count = count + blocks; sum = add binary64 sum energy }) (part (i + 1) until energies)
+            ≡ keptFrom threshold (record { count = count; sum = sum }) (part i until energies)
+        go false k =
+            let blocks-are : blocks ≡ 1 = m ∙ ap (λ (b : Bool). cond (not b) 1 0) k in
+            ap (λ (t : Totals). keptFrom threshold t (part (i + 1) until energies))
+            (same (ap (λ (n : ℕ). count + n) blocks-are) (ap (add binary64 sum) (e ∙ ap (λ (b : Bool). cond (not b) (getD energies i d) (none .sum)) k)))
+            ∙ kept-turn (record { count = count; sum = sum }) d h g k
+        go true k =
+            let blocks-are : blocks ≡ 0 = m ∙ ap (λ (b : Bool). cond (not b) 1 0) k in
+            ap (λ (t : Totals). keptFrom threshold t (part (i + 1) until energies))
+            (same {count′ = count} (omega (arith, blocks-are)) (ap (add binary64 sum) (e ∙ ap (λ (b : Bool). cond (not b) (getD energies i d) (none .sum)) k) ∙ nothing-added sum steady))
+            ∙ passed-turn (record { count = count; sum = sum }) d h g k
+
+    pub turn-steady : noneBelow (part i until energies) ≡ true → Steady (add binary64 sum energy) × (noneBelow (part (i + 1) until energies) ≡ true)
+    turn-steady s =
+        let seen = both-true (not (dropped (getD energies i d))) (noneBelow (part (i + 1) until energies)) (sound-turn energies i until true d h g ∙ s) in
+        let whole = not-below-unsigned (boundaryAt 0) (getD energies i d) (boundary-positive 0 (omega arith)) (not-true (dropped (getD energies i d)) (seen .0)) in
+        (subst (λ (x : Float). Steady (add binary64 sum x)) (sym e) (steady-added sum (added (getD energies i d)) steady (either (counts threshold (getD energies i d)) (getD energies i d) whole)), seen .1)
 
   pub kept-end : (totals : Totals) → until ≤ i → keptFrom threshold totals (part i until energies) ≡ totals
   unfolding keptFrom
@@ -58,6 +106,10 @@ module _ (energies : List Float) (start : ℕ) (queue : Queue) (inside : start +
 
   abbrev newer : List Float
   newer = part start (start + (queue .held - first)) energies
+
+  pub parts-sound : noneBelow (heldOf (queueAt energies start queue)) ≡ true → (noneBelow older ≡ true) × (noneBelow newer ≡ true)
+  parts-sound h =
+      both-true (noneBelow older) (noneBelow newer) (sym (none-below-append older newer) ∙ ap noneBelow (sym (held-slices energies start queue inside fits first e)) ∙ h)
 
   pub queue-parts : (threshold : Float) (totals one two : Totals) → one ≡ keptFrom threshold totals older → two ≡ keptFrom threshold one newer
       → two ≡ keptFrom threshold totals (heldOf (queueAt energies start queue))

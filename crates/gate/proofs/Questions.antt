@@ -2,17 +2,16 @@
 use mathlib.Core.Path.{_≡_, refl, sym, ap, _∙_}
 use mathlib.Core.Bool.{Bool, true, false, cond}
 use mathlib.Core.List.{List, [], _∷_}
-use Prim.Native.Nat.{ℕ}
 use borrow.Author.Tests.{eq-eqb, ne-eqb}
 use lib.Ieee.{Float, isNan}
 use Rattle.refusals.specs.Refusal.{NONE, NAN}
-use Rattle.refusals.specs.Outcome.{Question, went, refused, answers, Said, says, refusal, saidBy}
+use Rattle.refusals.specs.Outcome.{Question, went, refused, answers, Said, saidBy}
 use Rattle.history.specs.Set.{History}
 use Rattle.blocks.specs.declared.Totals.{Totals}
-use Rattle.blocks.specs.Totals.{none, meanOf}
+use Rattle.blocks.specs.Totals.{none}
 use Rattle.sums.specs.Sums.{allTotals}
 use Rattle.gate.specs.Gate.{thresholdOf, allGated, gateOver}
-use Rattle.gate.specs.GatedEnergy.{meanAnswer}
+use Rattle.gate.specs.GatedEnergy.{meanAnswer, meanSaid}
 use Rattle.gate.specs.Relative.{loudness, energy, lowest, levelOf}
 
 -- ---- the gate question
@@ -35,13 +34,9 @@ module _ (histories : List History) (totals : Totals) (e : totals ≡ allTotals 
     gate-left l = rw (← e, ne-eqb (totals .count) 0 z, n, ← f, ne-eqb (left .count) 0 l)
 
 -- ---- gated energy
-pub mean-of : (q : Question Totals) (totals : Totals) → says totals ≡ saidBy q → saidBy (meanAnswer q) ≡ says (meanOf totals)
-mean-of (went kept t) totals e = cc
-mean-of (refused r) totals e = cc
-
-pub mean-refused : (q : Question Totals) (n : ℕ) → refusal n ≡ saidBy q → saidBy (meanAnswer q) ≡ refusal n
-mean-refused (went kept t) n e = cc
-mean-refused (refused r) n e = cc
+pub mean-said : (q : Question Totals) (told : Said Totals) → told ≡ saidBy q → meanSaid told ≡ saidBy (meanAnswer q)
+mean-said (went kept totals) told e = ap meanSaid e
+mean-said (refused r) told e = ap meanSaid e
 
 -- ---- the relative threshold
 module _ (totals : Totals) where

@@ -13,6 +13,11 @@ abbrev pub meanAnswer : Question Totals → Question Float
 meanAnswer (went kept totals) = answers (meanOf totals)
 meanAnswer (refused r) = refused r
 
+-- the same of what was said
+abbrev pub meanSaid : Said Totals → Said Float
+meanSaid (says totals) = says (meanOf totals)
+meanSaid (refusal n) = refusal n
+
 abbrev pub gatedEnergyOf : Histories → Question Float
 gatedEnergyOf h = meanAnswer (gateOf h)
 

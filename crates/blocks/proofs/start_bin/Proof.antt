@@ -1,56 +1,122 @@
--- `blocks::start_bin` meets its contract: below boundary 0, above the bin's energy, or neither. Assumes nothing.
-use mathlib.Core.Path.{_≡_, sym, ap, _∙_}
-use mathlib.Core.Bool.{false}
-use Prim.Native.Nat.{ℕ, _+_}
+-- `blocks::start_bin` meets its contract. The invariant: the bins before are past, and the last of the row is not. Assumes nothing.
+use Prim.Native.Nat.{ℕ, _+_, _-_, _*_, _≤_, _<_}
 use native.Mathlib.Omega.{arith}
-use lib.Ieee.{Float, lt}
-use Rattle.tables.specs.Tables.{boundaryAt, energyAt}
-use Rattle.histogram_bins.specs.Bin.{binOf}
-use Rattle.histogram_bins.proofs.Bins.{bin-below}
-use Rattle.blocks.proofs.Start.{start-below, start-next, start-here}
+use mathlib.Core.Path.{_≡_, refl, sym, ap, _∙_, subst}
+use mathlib.Core.Logic.{_⊎_, inl, inr, ⊎-elim}
+use mathlib.Core.Bool.{false}
 use borrow.Author.Needs.{needs}
+use lib.Ieee.{Float, nan, lt}
+use mathlib.Core.List.{List}
+use lib.ListN.{getD}
+use Rattle.tables.specs.Tables.{energyAt}
+use Rattle.tables.specs.Rows.{energiesARow, energyRows, energyRow}
+use Rattle.tables.proofs.Rows.{energy-entry}
+use Rattle.blocks.specs.Start.{Past}
+use Rattle.blocks.proofs.Start.{past-on, reached}
 use Rattle.blocks.proofs.start_bin.Statement.{statement}
 use Rattle.blocks.proofs.start_bin.Tie as tie
 
-lowest-boundary-requires : tie.Need-lowest-boundary-requires
-lowest-boundary-requires c κs = search needs
+abbrev Inv-loop : tie.InvT-loop
+Inv-loop threshold row first energies place₀ place =
+    (place ≤ 19) × (row < energyRows) × Past threshold (energiesARow * row + place) × (lt (energyAt (energiesARow * row + 19)) threshold ≡ false)
 
-returns : tie.Need-returns
-returns c = sym (start-below (c .before .before .args .threshold) (ap (lt (c .before .before .args .threshold)) (sym (c .before .lowest-boundary .ensures)) ∙ c .if1 .taken))
+abbrev μ-loop : tie.MeasureT-loop
+μ-loop threshold row first energies place₀ place = 19 - place
 
-find-histogram-index-requires : tie.Need-find-histogram-index-requires
-find-histogram-index-requires c κs = search needs
+rows-past-requires : tie.Need-rows-past-requires Inv-loop μ-loop
+rows-past-requires c κs = search needs
 
-energy-requires : tie.Need-energy-requires
-energy-requires c κs = search needs
+mul-first : tie.Need-mul-first Inv-loop μ-loop
+mul-first c = omega (arith, c .rows-past .ensures .0)
 
-abbrev threshold : tie.After-energy → Float
-threshold c = c .before .before .before .before .args .threshold
+returns : tie.Need-returns Inv-loop μ-loop
+returns c =
+    let rows = c .before .rows-past in
+    reached (c .before .before .args .threshold) (energiesARow * rows .result) (omega (arith, rows .ensures .0)) (rows .ensures .1) (inl (omega (arith, rows .ensures .0)))
 
-not-below : (c : tie.After-energy) → lt (threshold c) (boundaryAt 0) ≡ false
-not-below c = ap (lt (threshold c)) (sym (c .before .before .before .lowest-boundary .ensures)) ∙ c .before .before .if1 .left
+energy-row-requires : tie.Need-energy-row-requires Inv-loop μ-loop
+energy-row-requires c κs = search needs
 
--- the energy read is that of the gate's bin
-above : (c : tie.After-energy) → lt (energyAt (binOf (threshold c))) (threshold c) ≡ lt (c .energy .result) (threshold c)
-above c = ap (λ (x : Float). lt x (threshold c)) (sym (c .energy .ensures ∙ ap energyAt (c .before .find-histogram-index .ensures)))
+loop-holds : tie.Need-loop-holds Inv-loop μ-loop
+loop-holds c =
+    let rows = c .before .before .rows-past in
+    let threshold = c .before .before .before .args .threshold in (
+      omega arith,
+      omega arith,
+      subst (Past threshold) {x = energiesARow * rows .result} {y = energiesARow * rows .result + 0} (omega arith) (rows .ensures .1),
+      ⊎-elim (λ (e : rows .result ≡ energyRows). absurd (omega (arith, e))) (λ (h : lt (energyAt (energiesARow * rows .result + 19)) threshold ≡ false). h) (rows .ensures .2),
+    )
 
-add-result : tie.Need-add-result
-add-result c = omega (arith, bin-below (c .before .before .before .before .before .args .threshold))
+mul-if2 : tie.Need-mul-if2 Inv-loop μ-loop
+mul-if2 c = search needs
 
-returns-2 : tie.Need-returns-2
-returns-2 c = ap (λ (n : ℕ). n + 1) (c .before .before .find-histogram-index .ensures) ∙ sym (start-next (threshold (c .before)) (not-below (c .before)) (above (c .before) ∙ c .if2 .taken))
+array-read-if2 : tie.Need-array-read-if2 Inv-loop μ-loop
+array-read-if2 c = search needs
 
-returns-3 : tie.Need-returns-3
-returns-3 c = c .before .before .find-histogram-index .ensures ∙ sym (start-here (threshold (c .before)) (not-below (c .before)) (above (c .before) ∙ c .if2 .left))
+add-place : tie.Need-add-place Inv-loop μ-loop
+add-place c = search needs
+
+loop-less : tie.Need-loop-less Inv-loop μ-loop
+loop-less c = search needs
+
+-- what was found before, and the energy looked at
+abbrev row : tie.At-loop Inv-loop μ-loop → ℕ
+row l = l .before .before .before .rows-past .result
+
+abbrev threshold : tie.At-loop Inv-loop μ-loop → Float
+threshold l = l .before .before .before .before .args .threshold
+
+abbrev energies : tie.At-loop Inv-loop μ-loop → List Float
+energies l = l .before .energy-row .result
+
+here : (l : tie.At-loop Inv-loop μ-loop) → l .loop .place < 19 → getD (energies l) (l .loop .place) nan ≡ energyAt (energiesARow * row l + l .loop .place)
+here l h = energy-entry (energies l) (row l) (l .loop .place) (energiesARow * row l + l .loop .place) (l .before .energy-row .ensures) (l .loop .inv .1) (omega arith) refl
+
+loop-again : tie.Need-loop-again Inv-loop μ-loop
+loop-again c =
+    let l = c .before .before in
+    let bin = energiesARow * row l + l .loop .place in (
+      omega arith,
+      l .loop .inv .1,
+      past-on (threshold l) bin (energiesARow * row l + (l .loop .place + 1)) (getD (energies l) (l .loop .place) nan) (here l (omega arith)) (omega arith) (c .if2 .taken),
+      l .loop .inv .3,
+    )
+
+add-result : tie.Need-add-result Inv-loop μ-loop
+add-result c = search needs
+
+returns-2 : tie.Need-returns-2 Inv-loop μ-loop
+returns-2 c =
+    let l = c .before .before in
+    reached (threshold l) (energiesARow * row l + l .loop .place) (omega (arith, l .loop .inv .1)) (l .loop .inv .2)
+    (inr (ap (λ (x : Float). lt x (threshold l)) (sym (here l (omega arith))) ∙ c .if2 .left))
+
+add-result-2 : tie.Need-add-result-2 Inv-loop μ-loop
+add-result-2 c = search needs
+
+returns-3 : tie.Need-returns-3 Inv-loop μ-loop
+returns-3 c =
+    let l = c .before in
+    reached (threshold l) (energiesARow * row l + l .loop .place) (omega (arith, l .loop .inv .1)) (l .loop .inv .2)
+    (inr (ap (λ (n : ℕ). lt (energyAt n) (threshold l)) {x = energiesARow * row l + l .loop .place} {y = energiesARow * row l + 19} (omega arith) ∙ l .loop .inv .3))
 
 pub start-bin-spec : {M : Type 1} → statement M
 start-bin-spec =
     tie.close
     (tie.spec
-    lowest-boundary-requires
+    Inv-loop
+    μ-loop
+    rows-past-requires
+    mul-first
     returns
-    find-histogram-index-requires
-    energy-requires
+    energy-row-requires
+    loop-holds
+    mul-if2
+    array-read-if2
+    add-place
+    loop-less
+    loop-again
     add-result
     returns-2
+    add-result-2
     returns-3)

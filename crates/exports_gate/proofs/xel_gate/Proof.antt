@@ -1,14 +1,9 @@
 -- `exports_gate::xel_gate` meets its contract: the set is that of the numbers, and each case of the answer is told as the C interface tells it. Assumes nothing.
 use mathlib.Core.Path.{_≡_, sym, ap, _∙_}
 use denote.Ref.{now}
-use mathlib.Core.List.{List}
-use Prim.Native.Nat.{ℕ, _/_}
-use lib.ListN.{length}
 use Rattle.refusals.specs.Outcome.{saidBy}
-use Rattle.history.specs.declared.set.Entry.{Entry}
-use Rattle.history.specs.Set.{histories}
 use Rattle.gate.specs.Gate.{gateOf, said}
-use Rattle.entries.specs.Sets.{numbersAnEntry, asked}
+use Rattle.entries.specs.Sets.{asked}
 use Rattle.entries.proofs.Asked.{asked-part, asked-whole}
 use Rattle.exports_gate.proofs.Told.{totals-told, no-totals-told}
 use borrow.Author.Needs.{needs}
@@ -16,13 +11,12 @@ use Rattle.exports_gate.proofs.xel_gate.Statement.{statement}
 use Rattle.exports_gate.proofs.xel_gate.Tie as tie
 
 -- what the answer says is what the question over the numbers comes to
-asked-says : (c : tie.After-gate) →
-    let a = c .before .before .before .before .before .before .args in
-    said (c .gate .result) ≡ saidBy (asked gateOf (now (a .entries)) (now (a .counters)) (now (a .energies)))
+asked-says : (c : tie.After-gate-of) →
+    let a = c .before .before .before .before .before .args in
+    said (c .gate-of .result) ≡ saidBy (asked gateOf (now (a .entries)) (now (a .counters)) (now (a .energies)))
 asked-says c =
-    let a = c .before .before .before .before .before .before .args in
-    c .gate .ensures ∙ ap (λ (entries : List Entry). saidBy (gateOf (histories entries (length (now (a .entries)) / numbersAnEntry) (now (a .counters)) (now (a .energies))))) (c .before .entries-of .ensures)
-    ∙ ap saidBy (sym (asked-whole gateOf (now (a .entries)) (now (a .counters)) (now (a .energies)) (c .before .before .if1 .left)))
+    let a = c .before .before .before .before .before .args in
+    c .gate-of .ensures ∙ ap saidBy (sym (asked-whole gateOf (now (a .entries)) (now (a .counters)) (now (a .energies)) (c .before .if1 .left)))
 
 returns : tie.Need-returns
 returns c =
@@ -31,11 +25,8 @@ returns c =
     no-totals-told question (now (a .blocks)) (now (a .sum)) 7
     (ap saidBy (sym (asked-part gateOf (now (a .entries)) (now (a .counters)) (now (a .energies)) (c .if1 .taken))))
 
-entries-of-requires : tie.Need-entries-of-requires
-entries-of-requires c κs = search needs
-
-gate-requires : tie.Need-gate-requires
-gate-requires c κs = search needs
+gate-of-requires : tie.Need-gate-of-requires
+gate-of-requires c κs = search needs
 
 enum-known-above : tie.Need-enum-known-above
 enum-known-above c = search needs
@@ -45,14 +36,14 @@ enum-known-number c = search needs
 
 returns-2 : tie.Need-returns-2
 returns-2 c =
-    let a = c .before .before .before .before .before .before .before .before .before .args in
+    let a = c .before .before .before .before .before .before .before .before .args in
     let question = asked gateOf (now (a .entries)) (now (a .counters)) (now (a .energies)) in
     let given = c .before .above .given in
     totals-told question (now (a .blocks)) (given .0 .0) (now (a .sum)) (given .0 .1 .0) (ap said (sym (given .1)) ∙ asked-says (c .before .before .before))
 
 returns-3 : tie.Need-returns-3
 returns-3 c =
-    let a = c .before .before .before .before .before .before .before .before .before .args in
+    let a = c .before .before .before .before .before .before .before .before .args in
     let question = asked gateOf (now (a .entries)) (now (a .counters)) (now (a .energies)) in
     let given = c .before .number .given in
     no-totals-told question (now (a .blocks)) (now (a .sum)) (given .0 .0) (ap said (sym (given .1)) ∙ asked-says (c .before .before .before))
@@ -62,8 +53,7 @@ xel-gate-spec =
     tie.close
     (tie.spec
     returns
-    entries-of-requires
-    gate-requires
+    gate-of-requires
     enum-known-above
     enum-known-number
     returns-2

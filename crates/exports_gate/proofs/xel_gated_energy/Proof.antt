@@ -1,14 +1,9 @@
 -- `exports_gate::xel_gated_energy` meets its contract: the set is that of the numbers, and each case of the answer is told as the C interface tells it. Assumes nothing.
 use mathlib.Core.Path.{_≡_, sym, ap, _∙_}
 use denote.Ref.{now}
-use mathlib.Core.List.{List}
-use Prim.Native.Nat.{ℕ, _/_}
-use lib.ListN.{length}
 use Rattle.refusals.specs.Outcome.{saidBy}
-use Rattle.history.specs.declared.set.Entry.{Entry}
-use Rattle.history.specs.Set.{histories}
 use Rattle.gate.specs.GatedEnergy.{gatedEnergyOf, said}
-use Rattle.entries.specs.Sets.{numbersAnEntry, asked}
+use Rattle.entries.specs.Sets.{asked}
 use Rattle.entries.proofs.Asked.{asked-part, asked-whole}
 use Rattle.codes.proofs.Told.{values-told, refusal-told}
 use borrow.Author.Needs.{needs}
@@ -16,13 +11,12 @@ use Rattle.exports_gate.proofs.xel_gated_energy.Statement.{statement}
 use Rattle.exports_gate.proofs.xel_gated_energy.Tie as tie
 
 -- what the answer says is what the question over the numbers comes to
-asked-says : (c : tie.After-gated-energy) →
-    let a = c .before .before .before .before .before .before .args in
-    said (c .gated-energy .result) ≡ saidBy (asked gatedEnergyOf (now (a .entries)) (now (a .counters)) (now (a .energies)))
+asked-says : (c : tie.After-gated-energy-of) →
+    let a = c .before .before .before .before .before .args in
+    said (c .gated-energy-of .result) ≡ saidBy (asked gatedEnergyOf (now (a .entries)) (now (a .counters)) (now (a .energies)))
 asked-says c =
-    let a = c .before .before .before .before .before .before .args in
-    c .gated-energy .ensures ∙ ap (λ (entries : List Entry). saidBy (gatedEnergyOf (histories entries (length (now (a .entries)) / numbersAnEntry) (now (a .counters)) (now (a .energies))))) (c .before .entries-of .ensures)
-    ∙ ap saidBy (sym (asked-whole gatedEnergyOf (now (a .entries)) (now (a .counters)) (now (a .energies)) (c .before .before .if1 .left)))
+    let a = c .before .before .before .before .before .args in
+    c .gated-energy-of .ensures ∙ ap saidBy (sym (asked-whole gatedEnergyOf (now (a .entries)) (now (a .counters)) (now (a .energies)) (c .before .if1 .left)))
 
 returns : tie.Need-returns
 returns c =
@@ -30,11 +24,8 @@ returns c =
     refusal-told (asked gatedEnergyOf (now (a .entries)) (now (a .counters)) (now (a .energies))) (now (a .energy)) 7
     (ap saidBy (sym (asked-part gatedEnergyOf (now (a .entries)) (now (a .counters)) (now (a .energies)) (c .if1 .taken))))
 
-entries-of-requires : tie.Need-entries-of-requires
-entries-of-requires c κs = search needs
-
-gated-energy-requires : tie.Need-gated-energy-requires
-gated-energy-requires c κs = search needs
+gated-energy-of-requires : tie.Need-gated-energy-of-requires
+gated-energy-of-requires c κs = search needs
 
 enum-known-mean : tie.Need-enum-known-mean
 enum-known-mean c = search needs
@@ -44,14 +35,14 @@ enum-known-number c = search needs
 
 returns-2 : tie.Need-returns-2
 returns-2 c =
-    let a = c .before .before .before .before .before .before .before .before .before .args in
+    let a = c .before .before .before .before .before .before .before .before .args in
     let given = c .before .mean .given in
     values-told (asked gatedEnergyOf (now (a .entries)) (now (a .counters)) (now (a .energies))) (now (a .energy)) (given .0 .0)
     (ap said (sym (given .1)) ∙ asked-says (c .before .before .before))
 
 returns-3 : tie.Need-returns-3
 returns-3 c =
-    let a = c .before .before .before .before .before .before .before .before .before .args in
+    let a = c .before .before .before .before .before .before .before .before .args in
     let given = c .before .number .given in
     refusal-told (asked gatedEnergyOf (now (a .entries)) (now (a .counters)) (now (a .energies))) (now (a .energy)) (given .0 .0)
     (ap said (sym (given .1)) ∙ asked-says (c .before .before .before))
@@ -61,8 +52,7 @@ xel-gated-energy-spec =
     tie.close
     (tie.spec
     returns
-    entries-of-requires
-    gated-energy-requires
+    gated-energy-of-requires
     enum-known-mean
     enum-known-number
     returns-2

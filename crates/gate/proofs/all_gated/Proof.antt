@@ -8,7 +8,8 @@ use lib.ListN.{length, take, drop}
 use Rattle.history.specs.Set.{Histories, histories, allShow}
 use Rattle.history.proofs.Entries.{inside-at, sound-at}
 use Rattle.history.proofs.Verdicts.{Kept, kept}
-use Rattle.blocks.specs.Totals.{mostBlocks, none}
+use Rattle.blocks.specs.Totals.{mostBlocks, Steady, none}
+use Rattle.blocks.proofs.Nothing.{nothing-steady}
 use Rattle.gate.specs.Gate.{allGated}
 use Rattle.gate.proofs.Passes.{gated-turn, gated-end}
 use Rattle.gate.proofs.all_gated.Statement.{statement}
@@ -17,6 +18,7 @@ use Rattle.gate.proofs.all_gated.Tie as tie
 abbrev Inv-loop : tie.InvT-loop
 Inv-loop count counters energies threshold entries bin totals₀ i₀ totals i =
     (i ≤ count)
+    × Steady (totals .sum)
     × (totals .count ≤ i * mostBlocks)
     × (allGated threshold totals (allShow counters energies (drop i (take count entries))) ≡ allGated threshold none (allShow counters energies (take count entries)))
 
@@ -36,7 +38,7 @@ well : (l : tie.At-loop Inv-loop μ-loop) → Kept (given l)
 well l = kept (given l) (l .before .before .before .before .pre)
 
 loop-holds : tie.Need-loop-holds Inv-loop μ-loop
-loop-holds c = (omega arith, omega arith, refl)
+loop-holds c = (omega arith, nothing-steady, omega arith, refl)
 
 mul-entry : tie.Need-mul-entry Inv-loop μ-loop
 mul-entry c = let k = well (c .before) in omega (arith, k .few)
@@ -53,6 +55,7 @@ history-gated-requires c κs =
       sound-at (h .energies) (h .entries) (h .count) (l .loop .i) (omega arith) (omega (arith, k .few)) (k .stores),
       omega (arith, k .few),
       l .before .start-bin .ensures,
+      l .loop .inv .1,
     )
 
 add-i : tie.Need-add-i Inv-loop μ-loop
@@ -68,10 +71,11 @@ loop-again c =
     let k = well l in
     let next = c .history-gated in (
       omega arith,
+      next .ensures .2,
       omega (arith, next .ensures .1),
       gated-turn (h .counters) (h .energies) (h .entries) (h .count) (l .loop .i) (l .loop .totals) (l .before .before .before .before .args .threshold) (omega arith)
           (omega (arith, k .few)) (next .result) (next .ensures .0)
-          ∙ l .loop .inv .2,
+          ∙ l .loop .inv .3,
     )
 
 returns : tie.Need-returns Inv-loop μ-loop
@@ -79,7 +83,7 @@ returns c =
     let l = c .before in
     let h = given l in
     sym (gated-end (h .counters) (h .energies) (h .entries) (h .count) (l .loop .i) (l .loop .totals) (l .before .before .before .before .args .threshold) (omega arith))
-    ∙ l .loop .inv .2
+    ∙ l .loop .inv .3
 
 pub all-gated-spec : {M : Type 1} → statement M
 all-gated-spec =

@@ -8,7 +8,9 @@ use lib.ListN.{length, drop}
 use Rattle.history.specs.declared.set.Shape.{Shape}
 use Rattle.history.specs.Set.{blockEnd, storeEnd, blockAt, shapeShows}
 use Rattle.history.proofs.Entries.{block-inside, store-inside, sound-queue}
-use Rattle.blocks.specs.Totals.{binsFrom}
+use Rattle.blocks.specs.declared.Totals.{Totals}
+use Rattle.blocks.specs.Totals.{Steady, binsFrom}
+use Rattle.blocks.proofs.Nothing.{bins-steady}
 use Rattle.blocks.proofs.Running.{there}
 use Rattle.gate.specs.Gate.{gatedOf}
 use Rattle.gate.proofs.Keeping.{bins-on}
@@ -31,11 +33,14 @@ queue-kept-requires : tie.Need-queue-kept-requires
 queue-kept-requires c κs =
     let w = c .before .before .before .before .before in
     let a = w .args in
-    let sh = c .before .shape2 in (
+    let sh = c .before .shape2 in
+    let stores = sound-queue (now (a .energies)) (a .entry) (sh .given .0 .0) (sh .given .0 .1 .0) (sh .given .1) (w .pre .1) in (
       subst (λ (s : Shape). storeEnd s ≤ length (now (a .energies))) (sh .given .1)
           (store-inside (length (now (a .counters))) (length (now (a .energies))) (a .entry) (w .pre .0)),
-      sound-queue (now (a .energies)) (a .entry) (sh .given .0 .0) (sh .given .0 .1 .0) (sh .given .1) (w .pre .1) .0,
+      stores .0,
+      stores .1,
       w .pre .2,
+      w .pre .4,
     )
 
 returns : tie.Need-returns
@@ -48,11 +53,14 @@ returns c =
     let is = g .before .before .shape .given .1 in
     let gated = g .from-bin in
     let within : start + 1000 ≤ length counters =
-    subst (λ (s : Shape). blockEnd s ≤ length counters) is (block-inside (length counters) (length (now (a .energies))) (a .entry) (w .pre .0)) in (
-      bins-on (a .totals) (gated .result) (a .bin) (drop (a .bin) (blockAt counters start)) (gated .ensures .0 ∙ there (a .totals .sum) counters start (a .bin) within)
+    subst (λ (s : Shape). blockEnd s ≤ length counters) is (block-inside (length counters) (length (now (a .energies))) (a .entry) (w .pre .0)) in
+    let rest = drop (a .bin) (blockAt counters start) in
+    let on = bins-on (a .totals) (gated .result) (a .bin) rest (gated .ensures .0 ∙ there (a .totals .sum) counters start (a .bin) within) in (
+      on
           ∙ ap (λ n. binsFrom (a .totals) n (drop n (blockAt counters start))) (w .pre .3)
           ∙ ap (λ (s : Shape). gatedOf (a .threshold) (a .totals) (shapeShows counters (now (a .energies)) s)) (sym is),
       omega (arith, gated .ensures .1),
+      subst (λ (t : Totals). Steady (t .sum)) (sym on) (bins-steady (a .totals) (a .bin) rest (w .pre .4)),
     )
 
 returns-2 : tie.Need-returns-2
@@ -62,6 +70,7 @@ returns-2 c =
     let sh = c .before .before .shape2 in (
       c .queue-kept .ensures .0 ∙ ap (λ (s : Shape). gatedOf (a .threshold) (a .totals) (shapeShows (now (a .counters)) (now (a .energies)) s)) (sym (sh .given .1)),
       c .queue-kept .ensures .1,
+      c .queue-kept .ensures .2,
     )
 
 pub history-gated-spec : {M : Type 1} → statement M

@@ -6,31 +6,31 @@ use Rattle.ordering.proofs.exchange.Statement.{statement}
 use Rattle.ordering.proofs.exchange.Tie as tie
 
 sub-j : tie.Need-sub-j
-sub-j c = search needs
+sub-j c = omega arith
 
 sub-j-2 : tie.Need-sub-j-2
-sub-j-2 c = search needs
+sub-j-2 c = omega arith
 
 mul-x : tie.Need-mul-x
-mul-x c = search needs
+mul-x c = omega arith
 
 slice-read-x : tie.Need-slice-read-x
-slice-read-x c = search needs
+slice-read-x c = omega arith
 
 mul-y : tie.Need-mul-y
-mul-y c = search needs
+mul-y c = omega arith
 
 slice-read-y : tie.Need-slice-read-y
-slice-read-y c = search needs
+slice-read-y c = omega arith
 
 mul-part : tie.Need-mul-part
-mul-part c = search needs
+mul-part c = omega arith
 
 slice-write-part : tie.Need-slice-write-part
-slice-write-part c = search needs
+slice-write-part c = omega arith
 
 mul-part-2 : tie.Need-mul-part-2
-mul-part-2 c = search needs
+mul-part-2 c = omega arith
 
 slice-write-part-2 : tie.Need-slice-write-part-2
 slice-write-part-2 c = simp length-set (omega arith)

@@ -9,67 +9,67 @@ use Rattle.ordering.proofs.exchange_two.Statement.{statement}
 use Rattle.ordering.proofs.exchange_two.Tie as tie
 
 sub-j : tie.Need-sub-j
-sub-j c = search needs
+sub-j c = omega arith
 
 sub-j-2 : tie.Need-sub-j-2
-sub-j-2 c = search needs
+sub-j-2 c = omega arith
 
 mul-first : tie.Need-mul-first
-mul-first c = search needs
+mul-first c = omega arith
 
 slice-read-first : tie.Need-slice-read-first
-slice-read-first c = search needs
+slice-read-first c = omega arith
 
 add-second : tie.Need-add-second
-add-second c = search needs
+add-second c = omega arith
 
 mul-second : tie.Need-mul-second
-mul-second c = search needs
+mul-second c = omega arith
 
 slice-read-second : tie.Need-slice-read-second
-slice-read-second c = search needs
+slice-read-second c = omega arith
 
 mul-third : tie.Need-mul-third
-mul-third c = search needs
+mul-third c = omega arith
 
 slice-read-third : tie.Need-slice-read-third
-slice-read-third c = search needs
+slice-read-third c = omega arith
 
 add-fourth : tie.Need-add-fourth
-add-fourth c = search needs
+add-fourth c = omega arith
 
 mul-fourth : tie.Need-mul-fourth
-mul-fourth c = search needs
+mul-fourth c = omega arith
 
 slice-read-fourth : tie.Need-slice-read-fourth
-slice-read-fourth c = search needs
+slice-read-fourth c = omega arith
 
 mul-part : tie.Need-mul-part
-mul-part c = search needs
+mul-part c = omega arith
 
 slice-write-part : tie.Need-slice-write-part
-slice-write-part c = search needs
+slice-write-part c = omega arith
 
 add-part : tie.Need-add-part
-add-part c = search needs
+add-part c = omega arith
 
 mul-part-2 : tie.Need-mul-part-2
-mul-part-2 c = search needs
+mul-part-2 c = omega arith
 
 slice-write-part-2 : tie.Need-slice-write-part-2
 slice-write-part-2 c = simp length-set (omega arith)
 
 mul-part-3 : tie.Need-mul-part-3
-mul-part-3 c = search needs
+mul-part-3 c = omega arith
 
 slice-write-part-3 : tie.Need-slice-write-part-3
 slice-write-part-3 c = simp length-set (omega arith)
 
 add-part-2 : tie.Need-add-part-2
-add-part-2 c = search needs
+add-part-2 c = omega arith
 
 mul-part-4 : tie.Need-mul-part-4
-mul-part-4 c = search needs
+mul-part-4 c = omega arith
 
 slice-write-part-4 : tie.Need-slice-write-part-4
 slice-write-part-4 c = simp length-set (omega arith)

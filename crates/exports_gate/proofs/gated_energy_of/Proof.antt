@@ -1,0 +1,49 @@
+-- `exports_gate::gated_energy_of` meets its contract: the set of one is its history, and any other that of the numbers. Assumes nothing.
+use mathlib.Core.Path.{_≡_, ap, _∙_}
+use mathlib.Core.List.{List}
+use Prim.Native.Nat.{_/_}
+use denote.Ref.{now}
+use lib.ListN.{length}
+use Rattle.refusals.specs.Outcome.{Question, saidBy}
+use Rattle.history.specs.declared.set.Entry.{Entry}
+use Rattle.history.specs.Set.{histories}
+use Rattle.blocks.specs.declared.Totals.{Totals}
+use Rattle.sums.specs.Sums.{alone}
+use Rattle.gate.specs.GatedEnergy.{meanAnswer, gatedEnergyOf}
+use Rattle.entries.specs.Sets.{numbersAnEntry}
+use Rattle.exports_gate.proofs.Alone.{set-of-one}
+use borrow.Author.Needs.{needs}
+use Rattle.exports_gate.proofs.gated_energy_of.Statement.{statement}
+use Rattle.exports_gate.proofs.gated_energy_of.Tie as tie
+
+first-of-requires : tie.Need-first-of-requires
+first-of-requires c κs = search needs
+
+gated-energy-of-history-requires : tie.Need-gated-energy-of-history-requires
+gated-energy-of-history-requires c κs = search needs
+
+returns : tie.Need-returns
+returns c =
+    let a = c .before .before .before .before .before .before .args in
+    let counters = now (a .counters) in
+    let energies = now (a .energies) in
+    c .gated-energy-of-history .ensures
+    ∙ ap (λ (entry : Entry). saidBy (gatedEnergyOf (alone entry counters energies))) (c .before .first-of .ensures)
+    ∙ ap (λ (q : Question Totals). saidBy (meanAnswer q)) (set-of-one (now (a .entries)) counters energies (c .before .before .if1 .taken))
+
+entries-of-requires : tie.Need-entries-of-requires
+entries-of-requires c κs = search needs
+
+gated-energy-requires : tie.Need-gated-energy-requires
+gated-energy-requires c κs = search needs
+
+returns-2 : tie.Need-returns-2
+returns-2 c =
+    let a = c .before .before .before .before .before .before .args in
+    c .gated-energy .ensures
+    ∙ ap (λ (entries : List Entry). saidBy (gatedEnergyOf (histories entries (length (now (a .entries)) / numbersAnEntry) (now (a .counters)) (now (a .energies))))) (c .before .entries-of .ensures)
+
+pub gated-energy-of-spec : {M : Type 1} → statement M
+gated-energy-of-spec =
+    tie.close
+    (tie.spec first-of-requires gated-energy-of-history-requires returns entries-of-requires gated-energy-requires returns-2)
