@@ -1,10 +1,10 @@
 -- `weighting::frame_two` meets its contract: each channel by the definitions of one frame. Assumes nothing.
 use borrow.Author.Needs.{needs}
-use Prim.Native.Nat.{_+_, _^_, _<_}
+use Prim.Native.Nat.{_+_, _^_}
 use native.Mathlib.Omega.{arith}
 use mathlib.Core.Path.{_≡_, ap, _∙_}
 use lib.Ieee.{nan}
-use lib.ListN.{length, set, getD}
+use lib.ListN.{set, getD}
 use Rattle.sources.specs.Source.{sourceOf}
 use Rattle.sources.proofs.ByKind.{source-below}
 use Rattle.recurrence.specs.Recurrence.{head, output, shift, next, out}
