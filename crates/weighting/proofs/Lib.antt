@@ -2,3 +2,4 @@ pub mod Destinations
 pub mod Alone
 pub mod Worked
 mod Pairs
+mod Single

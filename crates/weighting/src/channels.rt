@@ -29,7 +29,30 @@ fn sample_at(ints: &[i16], floats: &[f32], i: usize) -> f64
     samples::i16_to_f64(ints[i])
 }
 
-// One channel's frames: its memory after them, and their outputs in dest from place `to` on.
+// A frame of one channel.
+fn frame(
+    c: Coefficients,
+    m: Memory,
+    ints: &[i16],
+    floats: &[f32],
+    i: usize,
+    dest: &mut [f64],
+    j: usize,
+) -> Memory
+    requires { ⌜ i < length (sourceOf (now ints) (now floats)) ⌝ }
+    requires { ⌜ j < length (now dest) ⌝ }
+    ensures { λ r. ⌜ r ≡ next (c .a) m (getD (sourceOf (now (ints .entry)) (now (floats .entry))) i nan) ⌝ }
+    ensures { λ _. ⌜ now (dest .exit) ≡ set (now (dest .entry)) j (out (c .a) (c .b) m (getD (sourceOf (now (ints .entry)) (now (floats .entry))) i nan)) ⌝ }
+{
+    let a = c.a;
+    let b = c.b;
+    let x = sample_at(ints, floats, i);
+    let s0 = recurrence::head_of(a, m, x);
+    dest[j] = recurrence::output_of(b, m, s0);
+    recurrence::shifted(m, s0)
+}
+
+// One channel's frames, two a turn: its memory after them, and their outputs in dest from place `to` on. One a turn, the compiler puts a move of the newest value into the chain.
 fn weigh(
     c: Coefficients,
     m: Memory,
@@ -46,20 +69,19 @@ fn weigh(
     ensures { λ r. ⌜ r ≡ after (c .a) m (column (sourceOf (now (ints .entry)) (now (floats .entry))) first step count) ⌝ }
     ensures { λ r. ⌜ now (dest .exit) ≡ sets (now (dest .entry)) to (outs (c .a) (c .b) m (column (sourceOf (now (ints .entry)) (now (floats .entry))) first step count)) ⌝ }
 {
-    let a = c.a;
-    let b = c.b;
     let mut w = m;
     let mut left = count;
     let mut i = first;
     let mut j = to;
-    while 0 < left {
-        let x = sample_at(ints, floats, i);
-        let s0 = recurrence::head_of(a, w, x);
-        dest[j] = recurrence::output_of(b, w, s0);
-        w = recurrence::shifted(w, s0);
-        i += step;
-        j += 1;
-        left -= 1;
+    while 1 < left {
+        w = frame(c, w, ints, floats, i, dest, j);
+        w = frame(c, w, ints, floats, i + step, dest, j + 1);
+        i += step + step;
+        j += 2;
+        left -= 2;
+    }
+    if 0 < left {
+        return frame(c, w, ints, floats, i, dest, j);
     }
     w
 }

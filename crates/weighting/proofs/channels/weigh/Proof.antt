@@ -1,114 +1,120 @@
--- `weighting::weigh` meets its contract: the samples left, from the memory and the destination as they are, give what all of them give.
--- Assumes nothing.
+-- `weighting::weigh` meets its contract: the frames left give what all of them give; two frames a turn, and one more where their number is odd. Assumes nothing.
 use borrow.Author.Needs.{needs}
 use Prim.Native.Nat.{_+_, _-_, _^_, _≤_, _<_}
 use native.Mathlib.Omega.{arith}
-use mathlib.Core.Path.{_≡_, refl, sym, ap, _∙_}
-use lib.ListN.{length, length-set}
+use mathlib.Core.Path.{_≡_, refl, _∙_}
+use lib.ListN.{length}
 use lib.Seq.{sets}
 use Rattle.samples.specs.Frames.{column}
+use Rattle.calls.specs.Calls.{mostChannels}
 use Rattle.sources.specs.Source.{sourceOf}
-use Rattle.sources.specs.Blocks.{Reach}
-use Rattle.recurrence.specs.Recurrence.{head, after, outs}
 use Rattle.sources.proofs.ByKind.{source-below}
-use Rattle.sources.proofs.Reaching.{reach-here, reach-next, reach-rest}
-use Rattle.recurrence.proofs.Moving.{turn-after, turn-outs, none-after, none-outs}
+use Rattle.recurrence.specs.Recurrence.{after, outs}
+use Rattle.weighting.proofs.Single.{From, turn, here, following, twice, end}
 use Rattle.weighting.proofs.channels.weigh.Statement.{statement}
 use Rattle.weighting.proofs.channels.weigh.Tie as tie
 
 abbrev Inv-loop : tie.InvT-loop
-Inv-loop ints floats first step count dest₀ to a b w₀ left₀ i₀ j₀ dest w left i j =
-    Reach i step left (length (sourceOf ints floats))
-    × ((j + left ≤ length dest₀)
-    × ((length dest ≡ length dest₀)
-    × ((after a w (column (sourceOf ints floats) i step left) ≡ after a w₀ (column (sourceOf ints floats) first step count))
-    × (sets dest j (outs a b w (column (sourceOf ints floats) i step left)) ≡ sets dest₀ to (outs a b w₀ (column (sourceOf ints floats) first step count))))))
+Inv-loop c ints floats first step count dest₀ to w₀ left₀ i₀ j₀ dest w left i j =
+    (length dest ≡ length dest₀)
+    × From (c .a) (c .b) (sourceOf ints floats) step
+    (after (c .a) w₀ (column (sourceOf ints floats) first step count))
+    (sets dest₀ to (outs (c .a) (c .b) w₀ (column (sourceOf ints floats) first step count)))
+    w i j left dest
 
 abbrev μ-loop : tie.MeasureT-loop
-μ-loop ints floats first step count dest₀ to a b w₀ left₀ i₀ j₀ dest w left i j = left
-
-here : (c : tie.In-loop Inv-loop μ-loop) → let a = c .before .before .before .before .before .before .args in
-    c .before .loop .i < length (sourceOf (a .ints .now) (a .floats .now))
-here c = reach-here _ _ _ _ (c .loop-test .taken) (c .before .loop .inv .0)
-
--- the samples are few enough
-small : (c : tie.In-loop Inv-loop μ-loop) → let a = c .before .before .before .before .before .before .args in length (sourceOf (a .ints .now) (a .floats .now)) < 2 ^ 63
-small c =
-    let s = c .before .before .before .before .before .before in
-    source-below (s .args .ints .now) (s .args .floats .now) (2 ^ 63) (omega (arith, s .good)) (omega (arith, s .good))
+μ-loop c ints floats first step count dest₀ to w₀ left₀ i₀ j₀ dest w left i j = left
 
 loop-holds : tie.Need-loop-holds Inv-loop μ-loop
-loop-holds c = let p = c .before .before .before .before in (p .pre .0, (p .pre .1, (refl, (refl, refl))))
+loop-holds c =
+    let p = c .before .before .pre in
+    (refl, record { reach = p .0; room = p .1; memory = refl; given = refl })
 
-sample-at-requires : tie.Need-sample-at-requires Inv-loop μ-loop
-sample-at-requires c κs = here c
+frame-requires : tie.Need-frame-requires Inv-loop μ-loop
+frame-requires c κs = let q = c .before in here _ _ _ _ _ _ _ _ _ _ _ (omega (arith, q .loop-test .taken)) (q .before .loop .inv .1)
 
-head-of-requires : tie.Need-head-of-requires Inv-loop μ-loop
-head-of-requires c κs = search needs
+-- the second frame of a turn is there too
+second : (c : tie.In-loop Inv-loop μ-loop) → let s = c .before .before .before .before in let l = c .before .loop in
+    (l .i + s .args .step < length (sourceOf (s .args .ints .now) (s .args .floats .now))) × ((l .j + 1 < length (s .args .dest .now)) × (s .args .step ≤ mostChannels))
+second c =
+    let l = c .before .loop in
+    let r = following _ _ _ _ _ _ _ _ _ _ _ (c .loop-test .taken) (l .inv .1) in
+    (r .0, (omega (arith, r .1 .0, l .inv .0), r .1 .1))
 
-output-of-requires : tie.Need-output-of-requires Inv-loop μ-loop
-output-of-requires c κs = search needs
+-- the samples are few enough
+small : (c : tie.In-loop Inv-loop μ-loop) → let a = c .before .before .before .before .args in length (sourceOf (a .ints .now) (a .floats .now)) < 2 ^ 63
+small c =
+    let s = c .before .before .before .before in
+    source-below (s .args .ints .now) (s .args .floats .now) (2 ^ 63) (omega (arith, s .good)) (omega (arith, s .good))
 
-mul-dest : tie.Need-mul-dest Inv-loop μ-loop
-mul-dest c =
-    let q = c .before .before .before in
-    omega (arith, q .before .loop .inv .1 .0, q .loop-test .taken, q .before .before .before .before .before .before .good)
+add-frame : tie.Need-add-frame Inv-loop μ-loop
+add-frame c = let q = c .before .before .before .before in omega (arith, second q .0, small q)
 
-slice-write-dest : tie.Need-slice-write-dest Inv-loop μ-loop
-slice-write-dest c = let q = c .before .before .before in omega (arith, q .before .loop .inv .1 .0, q .before .loop .inv .1 .1 .0, q .loop-test .taken)
+add-frame-2 : tie.Need-add-frame-2 Inv-loop μ-loop
+add-frame-2 c =
+    let q = c .before .before .before .before .before in
+    omega (arith, second q .1 .0, q .before .before .before .before .good)
 
-shifted-requires : tie.Need-shifted-requires Inv-loop μ-loop
-shifted-requires c κs = search needs
+frame-requires-2 : tie.Need-frame-requires-2 Inv-loop μ-loop
+frame-requires-2 c κs =
+    let t = c .before .before .before in
+    let e = second (t .before .before) in
+    (e .0, omega (arith, e .1 .0, t .frame .kept .1 .1 .1 .1 .1 .0, t .before .before .before .loop .inv .0))
 
 add-i : tie.Need-add-i Inv-loop μ-loop
-add-i c =
-    let q = c .before .before .before .before in
-    omega (arith, reach-next _ _ _ _ (q .loop-test .taken) (q .before .loop .inv .0), small q)
+add-i c = search needs
+
+add-i-2 : tie.Need-add-i-2 Inv-loop μ-loop
+add-i-2 c =
+    let q = c .before .before .before .before .before .before .before .before in
+    omega (arith, second q .0, second q .1 .1, small q)
 
 add-j : tie.Need-add-j Inv-loop μ-loop
 add-j c =
-    let q = c .before .before .before .before in
-    omega (arith, q .before .loop .inv .1 .0, q .loop-test .taken, q .before .before .before .before .before .before .good)
+    let q = c .before .before .before .before .before .before .before .before in
+    omega (arith, second q .1 .0, q .before .before .before .before .good)
 
 sub-left : tie.Need-sub-left Inv-loop μ-loop
-sub-left c = let q = c .before .before .before .before in omega (arith, q .loop-test .taken)
+sub-left c = search needs
 
 loop-less : tie.Need-loop-less Inv-loop μ-loop
-loop-less c = let q = c .before .before .before .before in omega (arith, q .loop-test .taken)
+loop-less c = search needs
 
 loop-again : tie.Need-loop-again Inv-loop μ-loop
 loop-again c =
-    let o = c .before in
-    let q = o .before .before .before in
+    let two = c .before .before in
+    let one = two .before .before .before .before in
+    let q = one .before .before in
     let l = q .before .loop in
-    let g = q .before .before .before .before .before .before .args in
-    let eg = o .before .head-of .ensures ∙ ap (head (g .c .a) (l .w)) (o .before .before .sample-at .ensures) in
-    let em = c .shifted .ensures in
-    let h = q .loop-test .taken in (
-      reach-rest _ _ _ _ h (l .inv .0),
-      (
-        omega (arith, l .inv .1 .0, h),
-        (
-          simp length-set (l .inv .1 .1 .0),
-          (
-            turn-after (g .c .a) (g .c .b) (l .w) (sourceOf (g .ints .now) (g .floats .now)) (l .i) (g .step) (l .left) h (here q) _ (o .output-of .result) _ eg em ∙ l .inv .1 .1 .1 .0,
-            turn-outs (g .c .a) (g .c .b) (l .w) (sourceOf (g .ints .now) (g .floats .now)) (l .i) (g .step) (l .left) h (here q) _ _ _ eg em (o .output-of .ensures) (l .dest) (l .j) ∙ l .inv .1 .1 .1 .1,
-          ),
-        ),
-      ),
+    let e = one .frame .ensures in
+    let f = two .frame2 .ensures in (
+      two .frame2 .kept .1 .1 .1 .1 .1 .0 ∙ one .frame .kept .1 .1 .1 .1 .1 .0 ∙ l .inv .0,
+      twice _ _ _ _ _ _ _ _ _ (l .i) (l .j) (l .left) _ _ _ (q .loop-test .taken) (e .0) (e .1) (f .0) (f .1) (l .inv .1),
     )
 
+frame-requires-3 : tie.Need-frame-requires-3 Inv-loop μ-loop
+frame-requires-3 c κs = let q = c .before in here _ _ _ _ _ _ _ _ _ _ _ (q .if1 .taken) (q .before .before .loop .inv .1)
+
 same-length : tie.Need-same-length Inv-loop μ-loop
-same-length c = c .before .loop .inv .1 .1 .0
+same-length c = search needs
 
 returns : tie.Need-returns Inv-loop μ-loop
 returns c =
-    let l = c .before .loop in
-    let g = c .before .before .before .before .before .before .args in
-    let z : l .left ≡ 0 = omega (arith, c .loop-test .left) in (
-      sym (none-after (g .c .a) (l .w) (sourceOf (g .ints .now) (g .floats .now)) (l .i) (g .step) (l .left) z) ∙ l .inv .1 .1 .1 .0,
-      sym (none-outs (g .c .a) (g .c .b) (l .w) (sourceOf (g .ints .now) (g .floats .now)) (l .i) (g .step) (l .left) (l .dest) (l .j) z) ∙ l .inv .1 .1 .1 .1,
-    )
+    let t = c .before .before in
+    let q = t .before .before in
+    let l = q .before .before .loop in
+    let e = t .frame3 .ensures in
+    let z : l .left - 1 ≡ 0 = omega (arith, q .before .loop-test .left, q .if1 .taken) in
+    end _ _ _ _ _ _ _ _ _ _ _ z (turn _ _ _ _ _ _ _ _ (l .i) (l .j) (l .left) _ _ (q .if1 .taken) (e .0) (e .1) (l .inv .1))
+
+same-length-2 : tie.Need-same-length-2 Inv-loop μ-loop
+same-length-2 c = search needs
+
+returns-2 : tie.Need-returns-2 Inv-loop μ-loop
+returns-2 c =
+    let l = c .before .before .loop in
+    let z : l .left ≡ 0 = omega (arith, c .if1 .left) in
+    end _ _ _ _ _ _ _ _ _ _ _ z (l .inv .1)
 
 pub weigh-spec : {M : Type 1} → statement M
 weigh-spec =
@@ -117,16 +123,18 @@ weigh-spec =
     Inv-loop
     μ-loop
     loop-holds
-    sample-at-requires
-    head-of-requires
-    output-of-requires
-    mul-dest
-    slice-write-dest
-    shifted-requires
+    frame-requires
+    add-frame
+    add-frame-2
+    frame-requires-2
     add-i
+    add-i-2
     add-j
     sub-left
     loop-less
     loop-again
+    frame-requires-3
     same-length
-    returns)
+    returns
+    same-length-2
+    returns-2)
