@@ -90,25 +90,39 @@ fn row_sum(sum: f64, block: &[u32], row: usize, places: usize) -> f64
     sum
 }
 
-// The blocks of a histogram from a bin upward: the rest of its row, and the rows above.
-fn bins_from(sum: f64, block: &[u32], places: usize, start: usize) -> Totals
-    requires { ⌜ (length (now block) ≡ bins) × (bins ≤ places) ⌝ }
-    ensures { λ r. ⌜ (r ≡ binsFrom (onTopOf sum) start (drop start (now (block .entry)))) × (r .count ≤ mostBlocks) ⌝ }
+// The blocks of whole rows, from one upward, on top of a count and a sum.
+fn rows_from(count: u64, sum: f64, block: &[u32], places: usize, row: usize) -> Totals
+    requires { ⌜ (length (now block) ≡ bins) × (bins ≤ places) × (row ≤ energyRows) × (count ≤ energiesARow * row * largestCount) ⌝ }
+    ensures { λ r. ⌜ (r .count ≡ count + blocksAbove (energiesARow * row) (now (block .entry))) × (r .sum ≡ sumAbove sum (energiesARow * row) (now (block .entry)))
+        × (r .count ≤ mostBlocks) ⌝ }
 {
-    let place = start % tables::ENERGIES_A_ROW;
-    let mut row = start / tables::ENERGIES_A_ROW;
-    if row >= tables::ENERGY_ROWS {
-        return Totals { count: 0, sum };
-    }
-    let mut count = row_count(0, block, row, place);
-    let mut sum = part_sum(sum, block, row, place);
-    row += 1;
+    let mut count = count;
+    let mut sum = sum;
+    let mut row = row;
     while row < tables::ENERGY_ROWS {
         sum = row_sum(sum, block, row, places);
         count = row_count(count, block, row, 0);
         row += 1;
     }
     Totals { count, sum }
+}
+
+// The blocks of a histogram from a bin upward: the rest of its row, where the bin is not a row's first, and the rows above.
+fn bins_from(sum: f64, block: &[u32], places: usize, start: usize) -> Totals
+    requires { ⌜ (length (now block) ≡ bins) × (bins ≤ places) ⌝ }
+    ensures { λ r. ⌜ (r ≡ binsFrom (onTopOf sum) start (drop start (now (block .entry)))) × (r .count ≤ mostBlocks) ⌝ }
+{
+    let place = start % tables::ENERGIES_A_ROW;
+    let row = start / tables::ENERGIES_A_ROW;
+    if row >= tables::ENERGY_ROWS {
+        return Totals { count: 0, sum };
+    }
+    if place == 0 {
+        return rows_from(0, sum, block, places, row);
+    }
+    let count = row_count(0, block, row, place);
+    let part = part_sum(sum, block, row, place);
+    rows_from(count, part, block, places, row + 1)
 }
 
 // The blocks of the histogram whose counters start at a place, from a bin upward: their number, and their energies on top of a running sum.
