@@ -1,24 +1,14 @@
 -- What an `Interleaved` shows of the samples it holds. 01, step 2: "`Interleaved` shows a lent slice as frames."
 use Prim.Native.Nat.{ℕ, zero, suc, _*_}
-use mathlib.Core.Path.{_≡_}
 use mathlib.Core.Bool.{cond, _&&_}
 use mathlib.Core.List.{List, [], _∷_}
 use lib.Dec.{ltb}
 use lib.ListN.{length, take, drop}
 use lib.Ieee.{Float}
-use denote.Ref.{RefT}
 use Rattle.refusals.specs.Outcome.{Question, answers}
 use Rattle.samples.specs.Frames.{framesOf, sampleAt}
 use Rattle.calls.specs.Check.{unless}
 use Rattle.calls.specs.Calls.{checkFrames}
-
--- what it holds, a slice and a number of channels, is what was passed
-abbrev pub holds : {A : Type 0} → RefT (List A) → ℕ → RefT (List A) → ℕ → Type 0
-holds samples channels passed number = (samples ≡ passed) × (channels ≡ number)
-
--- how many channels there are over so many samples: the number that it holds, whatever the samples
-abbrev pub channelsIn : ℕ → ℕ → ℕ
-channelsIn channels samples = channels
 
 -- an answer over so many samples, after CHANNELS and SAMPLES
 abbrev pub checked : {Values : Type 0} → ℕ → ℕ → Values → Question Values

@@ -3,7 +3,7 @@ ghost use mathlib.Core.Path.{_≡_};
 ghost use lib.ListN.{length};
 ghost use Rattle.refusals.specs.Outcome.{saidBy};
 ghost use Rattle.samples.specs.Sample.{samplesOf16};
-ghost use Rattle.interleaved.specs.Shown.{holds, channelsIn, framesIn, sampleIn, upTo, fromOn};
+ghost use Rattle.interleaved.specs.Shown.{framesIn, sampleIn, upTo, fromOn};
 ghost use Rattle.interleaved.specs.Said.{framesSaid, sampleSaid};
 use super::Frames;
 use super::Sample;
@@ -37,13 +37,13 @@ pub struct Interleaved<'a> {
 impl<'a> Interleaved<'a> {
     // What the Rust refuses here, the questions refuse: no answer by cases can hold a reference.
     pub fn new(samples: &'a [i16], channels: usize) -> Interleaved<'a>
-        ensures { λ r. ⌜ holds (r .samples) (r .channels) (samples .entry) channels ⌝ }
+        ensures { λ r. ⌜ (r .samples ≡ samples .entry) × (r .channels ≡ channels) ⌝ }
     {
         Interleaved { samples, channels }
     }
 
     pub fn channels(self) -> usize
-        ensures { λ n. ⌜ n ≡ channelsIn (self .entry .channels) (length (now (self .entry .samples))) ⌝ }
+        ensures { λ n. ⌜ n ≡ self .entry .channels ⌝ }
     {
         self.channels
     }
