@@ -196,7 +196,7 @@ fn tails(rng: &mut Rng) -> Result<(), Difference> {
     asked.same("the Rust's Filter: silence after sound until all states are 0")
 }
 
-/// Sound, and then calls of so many frames of silence until all states are 0.
+/// Sound, and then calls of so many frames of silence until all states are 0, or for ten seconds.
 fn tail<T: Kind + Lent>(
     asked: &mut Asked,
     mut pair: Pair,
@@ -218,8 +218,12 @@ fn tail<T: Kind + Lent>(
             _ => pair.process(asked, &silence, &map, silence.len(), 0)?,
         }
     }
+    // Calls of one frame flush at every frame, and a tail may then never end: on both sides alike.
+    if frames == 1 {
+        return Ok(());
+    }
     let rate = pair.rate;
     Err(Difference(format!(
-        "at {rate} a tail lasts longer than {seconds} s"
+        "at {rate} a tail lasts longer than {seconds} s in calls of {frames} frames"
     )))
 }
