@@ -7,7 +7,7 @@ ghost use lib.ListN.{length, drop};
 ghost use lib.Ieee.{lt};
 ghost use Rattle.histogram_bins.specs.Bin.{bins};
 ghost use Rattle.tables.specs.Tables.{energyAt};
-ghost use Rattle.tables.specs.Rows.{energiesARow, energyRows};
+ghost use Rattle.tables.specs.Rows.{energiesARow, energyRows, energyRow};
 ghost use Rattle.histogram.specs.Histogram.{largestCount};
 ghost use Rattle.blocks.specs.Totals.{mostBlocks, onTopOf, binsFrom, blocksAbove, sumAbove, fromBin};
 ghost use Rattle.blocks.specs.Start.{Past, startBin};
@@ -26,9 +26,9 @@ fn wide(x: u32) -> u64
 
 // How many blocks the bins of a row have, from a place of it on, on top of a count.
 fn row_count(count: u64, block: &[u32], row: usize, place: usize) -> u64
-    requires { ⌜ (length (now block) ≡ bins) × (row < energyRows) × (place ≤ energiesARow) × (count ≤ (energiesARow * row + place) * largestCount) ⌝ }
+    requires { ⌜ (length (now block) ≡ bins) × (row < energyRows) × (place ≤ energiesARow) × (count ≤ mostBlocks) ⌝ }
     ensures { λ r. ⌜ (r + blocksAbove (energiesARow * (row + 1)) (now (block .entry)) ≡ count + blocksAbove (energiesARow * row + place) (now (block .entry)))
-        × (r ≤ energiesARow * (row + 1) * largestCount) ⌝ }
+        × (r ≤ count + energiesARow * largestCount) ⌝ }
 {
     let first = tables::ENERGIES_A_ROW * row;
     let mut count = count;
@@ -40,12 +40,12 @@ fn row_count(count: u64, block: &[u32], row: usize, place: usize) -> u64
     count
 }
 
-// The energies of a row's blocks, from a place of it on, on top of a sum.
-fn part_sum(sum: f64, block: &[u32], row: usize, place: usize) -> f64
-    requires { ⌜ (length (now block) ≡ bins) × (row < energyRows) × (place ≤ energiesARow) ⌝ }
+// The energies of a row's blocks, from a place of it on, on top of a sum. The row's energies are handed in: so the code is small, and is taken in where
+// it is called, whole rows without a loop.
+fn row_sum(sum: f64, block: &[u32], row: usize, energies: [f64; 20], place: usize) -> f64
+    requires { ⌜ (length (now block) ≡ bins) × (row < energyRows) × (energies ≡ energyRow row) × (place ≤ energiesARow) ⌝ }
     ensures { λ r. ⌜ sumAbove r (energiesARow * (row + 1)) (now (block .entry)) ≡ sumAbove sum (energiesARow * row + place) (now (block .entry)) ⌝ }
 {
-    let energies = tables::energy_row(row);
     let first = tables::ENERGIES_A_ROW * row;
     let mut sum = sum;
     let mut i = place;
@@ -56,73 +56,42 @@ fn part_sum(sum: f64, block: &[u32], row: usize, place: usize) -> f64
     sum
 }
 
-// The end of a row that starts at a place, where there are so many places.
-fn row_end(places: usize, first: usize) -> usize
-    requires { ⌜ first ≤ places ⌝ }
-    ensures { λ r. ⌜ (first + energiesARow ≤ places → r ≡ energiesARow) ⌝ }
-{
-    if places - first < tables::ENERGIES_A_ROW {
-        places - first
-    } else {
-        tables::ENERGIES_A_ROW
-    }
-}
-
-// Those of a whole row, four bins a turn. Its end is worked out from the lent places: a compiler that knew it would unroll the row, and the sum would wait
-// for the conversions of all its counters.
-fn row_sum(sum: f64, block: &[u32], row: usize, places: usize) -> f64
-    requires { ⌜ (length (now block) ≡ bins) × (row < energyRows) × (bins ≤ places) ⌝ }
-    ensures { λ r. ⌜ sumAbove r (energiesARow * (row + 1)) (now (block .entry)) ≡ sumAbove sum (energiesARow * row) (now (block .entry)) ⌝ }
-{
-    let energies = tables::energy_row(row);
-    let first = tables::ENERGIES_A_ROW * row;
-    let end = row_end(places, first);
-    let mut sum = sum;
-    let mut i = 0;
-    while i < end {
-        let bin = first + i;
-        sum = sum + (block[bin] as f64) * energies[i];
-        sum = sum + (block[bin + 1] as f64) * energies[i + 1];
-        sum = sum + (block[bin + 2] as f64) * energies[i + 2];
-        sum = sum + (block[bin + 3] as f64) * energies[i + 3];
-        i += 4;
-    }
-    sum
-}
-
-// The blocks of whole rows, from one upward, on top of a count and a sum.
-fn rows_from(count: u64, sum: f64, block: &[u32], places: usize, row: usize) -> Totals
-    requires { ⌜ (length (now block) ≡ bins) × (bins ≤ places) × (row ≤ energyRows) × (count ≤ energiesARow * row * largestCount) ⌝ }
+// The blocks of whole rows, from one upward, on top of a count and a sum. They are counted from the top down: a compiler that saw a row's counters both
+// counted and added would take them through whole numbers' registers, which is slow.
+fn rows_from(count: u64, sum: f64, block: &[u32], row: usize) -> Totals
+    requires { ⌜ (length (now block) ≡ bins) × (row ≤ energyRows) × (count ≤ energiesARow * row * largestCount) ⌝ }
     ensures { λ r. ⌜ (r .count ≡ count + blocksAbove (energiesARow * row) (now (block .entry))) × (r .sum ≡ sumAbove sum (energiesARow * row) (now (block .entry)))
         × (r .count ≤ mostBlocks) ⌝ }
 {
     let mut count = count;
     let mut sum = sum;
-    let mut row = row;
-    while row < tables::ENERGY_ROWS {
-        sum = row_sum(sum, block, row, places);
-        count = row_count(count, block, row, 0);
-        row += 1;
+    let mut up = row;
+    let mut down = tables::ENERGY_ROWS;
+    while up < tables::ENERGY_ROWS {
+        down -= 1;
+        sum = row_sum(sum, block, up, tables::energy_row(up), 0);
+        count = row_count(count, block, down, 0);
+        up += 1;
     }
     Totals { count, sum }
 }
 
 // The blocks of a histogram from a bin upward: the rest of its row, where the bin is not a row's first, and the rows above.
-fn bins_from(sum: f64, block: &[u32], places: usize, start: usize) -> Totals
-    requires { ⌜ (length (now block) ≡ bins) × (bins ≤ places) ⌝ }
+fn bins_from(sum: f64, block: &[u32], start: usize) -> Totals
+    requires { ⌜ length (now block) ≡ bins ⌝ }
     ensures { λ r. ⌜ (r ≡ binsFrom (onTopOf sum) start (drop start (now (block .entry)))) × (r .count ≤ mostBlocks) ⌝ }
 {
-    let place = start % tables::ENERGIES_A_ROW;
     let row = start / tables::ENERGIES_A_ROW;
     if row >= tables::ENERGY_ROWS {
         return Totals { count: 0, sum };
     }
+    let place = start % tables::ENERGIES_A_ROW;
     if place == 0 {
-        return rows_from(0, sum, block, places, row);
+        return rows_from(0, sum, block, row);
     }
     let count = row_count(0, block, row, place);
-    let part = part_sum(sum, block, row, place);
-    rows_from(count, part, block, places, row + 1)
+    let part = row_sum(sum, block, row, tables::energy_row(row), place);
+    rows_from(count, part, block, row + 1)
 }
 
 // The blocks of the histogram whose counters start at a place, from a bin upward: their number, and their energies on top of a running sum.
@@ -138,7 +107,7 @@ pub fn from_bin(sum: f64, counters: &[u32], start: usize, bin: usize) -> Totals
         return Totals { count: 0, sum };
     }
     let end = start + histogram_bins::BINS;
-    bins_from(sum, &counters[start..end], places - start, bin)
+    bins_from(sum, &counters[start..end], bin)
 }
 
 // The energies of a histogram below the threshold are passed over: a hundred bins at a time, then by rows, then one by one. Each turn is a question that a

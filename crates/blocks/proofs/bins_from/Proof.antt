@@ -42,19 +42,24 @@ returns-2 c =
 row-count-requires : tie.Need-row-count-requires
 row-count-requires c κs = search needs
 
-part-sum-requires : tie.Need-part-sum-requires
-part-sum-requires c κs = search needs
+energy-row-requires : tie.Need-energy-row-requires
+energy-row-requires c κs = search needs
+
+row-sum-requires : tie.Need-row-sum-requires
+row-sum-requires c κs = search needs
 
 add-rows-from : tie.Need-add-rows-from
 add-rows-from c = search needs
 
 rows-from-requires-2 : tie.Need-rows-from-requires-2
-rows-from-requires-2 c κs = search needs
+rows-from-requires-2 c κs =
+    let r = c .before .before in
+    (r .before .before .before .before .pre, omega arith, omega (arith, r .row-count .ensures .1))
 
 returns-3 : tie.Need-returns-3
 returns-3 c =
     let p = c .before in
-    let r = p .before in
+    let r = p .before .before in
     let a = r .before .before .before .before .args in
     let block = now (a .block) in
     let from = energiesARow * (a .start / energiesARow) + a .start % energiesARow in
@@ -62,7 +67,7 @@ returns-3 c =
     let e = c .rows-from2 .ensures in (
       joined block (a .sum) (a .start) (c .rows-from2 .result)
           (omega (arith, e .0, r .row-count .ensures .0, ap (λ (n : ℕ). blocksAbove n block) whole))
-          (e .1 ∙ p .part-sum .ensures ∙ ap (λ (n : ℕ). sumAbove (a .sum) n block) whole),
+          (e .1 ∙ p .row-sum .ensures ∙ ap (λ (n : ℕ). sumAbove (a .sum) n block) whole),
       e .2,
     )
 
@@ -74,7 +79,8 @@ bins-from-spec =
     rows-from-requires
     returns-2
     row-count-requires
-    part-sum-requires
+    energy-row-requires
+    row-sum-requires
     add-rows-from
     rows-from-requires-2
     returns-3)

@@ -33,9 +33,6 @@ part-bins-from-start c = search needs
 part-bins-from-end : tie.Need-part-bins-from-end
 part-bins-from-end c = search needs
 
-sub-bins-from-2 : tie.Need-sub-bins-from-2
-sub-bins-from-2 c = search needs
-
 bins-from-requires : tie.Need-bins-from-requires
 bins-from-requires c κs = search needs
 
@@ -59,6 +56,5 @@ from-bin-spec =
     sub-bins-from
     part-bins-from-start
     part-bins-from-end
-    sub-bins-from-2
     bins-from-requires
     returns-3)

@@ -15,7 +15,7 @@ use Rattle.blocks.proofs.row_count.Tie as tie
 abbrev Inv-loop : tie.InvT-loop
 Inv-loop count block row place first count₀ i₀ count' i =
     (i ≤ energiesARow)
-    × (count' ≤ (energiesARow * row + i) * largestCount)
+    × (count' + place * largestCount ≤ count + i * largestCount)
     × (count' + blocksAbove (energiesARow * row + i) block ≡ count + blocksAbove (energiesARow * row + place) block)
 
 abbrev μ-loop : tie.MeasureT-loop
