@@ -1,4 +1,4 @@
--- Demand 2, the gate, proved: "BS.1770 [decides] the meaning of gating". crates/gate carries the proof for queues, crates/range the bins at a gate. Assumes nothing.
+-- Demand 2, the gate, proved: "BS.1770 [decides] the meaning of gating". Meaning.antt and Equals.antt carry the proof for queues, crates/range the bins at a gate. Assumes nothing.
 use mathlib.Core.Path.{_≡_, refl, sym, ap, _∙_}
 use mathlib.Core.Bool.{Bool, true, false, not, cond}
 use mathlib.Core.List.{List, [], _∷_, _++_}
@@ -15,14 +15,14 @@ use Rattle.history.proofs.Verdicts.{asked}
 use Rattle.blocks.specs.declared.Totals.{Totals}
 use Rattle.blocks.specs.Start.{startBin}
 use Rattle.gate.specs.Gate.{gatedOf, gateOver, gateOf}
-use Rattle.gate.specs.Bs1770.{equalsKept, through, measured, Feed, materialOf}
-use Rattle.gate.proofs.Meaning.{gate-is-bs1770}
-use Rattle.gate.proofs.Equals.{strict-same}
 use Rattle.histogram_range.specs.Counted.{blocksIn}
 use Rattle.range.specs.Tech3342.{blocksFrom}
 use Rattle.histogram_range.proofs.Counting.{count-is}
 use Rattle.range.proofs.Starting.{from-start, below-start}
+use Rattle.acceptance_meaning.specs.Bs1770.{equalsKept, through, measured, Feed, materialOf}
 use Rattle.acceptance_meaning.specs.Gate.{Fed, GateIsBs1770}
+use Rattle.acceptance_meaning.proofs.Meaning.{gate-is-bs1770}
+use Rattle.acceptance_meaning.proofs.Equals.{strict-same}
 
 over-fed : (feeds : List Feed) (question : Histories) → Fed feeds question → gateOf question ≡ measured equalsKept (materialOf feeds)
 unfolding gateOf

@@ -1,3 +1,5 @@
 pub mod Ranks
+mod Meaning
+mod Equals
 pub mod Gate
 pub mod Range

@@ -1,5 +1,5 @@
 -- Demand 2, the gate: "ITU-R BS.1770 and EBU Tech 3342 decide the meaning of gating and range." `measured` is BS.1770's measurement over blocks, by its two gates;
--- crates/gate/specs/Bs1770.antt says what it rests on. Departures: the Rust keeps a block that stands at a gate (`equalsKept`) where the document leaves it
+-- Bs1770.antt says what it rests on. Departures: the Rust keeps a block that stands at a gate (`equalsKept`) where the document leaves it
 -- out (`strict`), and a histogram's block stands at the energy of its bin. proofs/Gate.antt proves `GateIsBs1770`.
 use Prim.Native.Nat.{ℕ, _+_, _<_}
 use mathlib.Core.Path.{_≡_}
@@ -14,7 +14,7 @@ use Rattle.history.specs.Set.{counted, Histories, historiesOf, refusalOf, sound
 use Rattle.blocks.specs.declared.Totals.{Totals}
 use Rattle.blocks.specs.Start.{startBin}
 use Rattle.gate.specs.Gate.{gatedOf, gateOf}
-use Rattle.gate.specs.Bs1770.{strict, equalsKept, through, eachThrough, absoluteGate, relativeGate, measured, noneOfEachAt, Feed, materialOf, shownBy}
+use Rattle.acceptance_meaning.specs.Bs1770.{strict, equalsKept, through, eachThrough, absoluteGate, relativeGate, measured, noneOfEachAt, Feed, materialOf, shownBy}
 use Rattle.range.specs.Tech3342.{blocksFrom}
 
 -- the question asks over queues, each filled from its own part of the material, with room for it

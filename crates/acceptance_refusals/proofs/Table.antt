@@ -18,11 +18,10 @@ use Rattle.history.specs.declared.set.Entry.{Entry}
 use Rattle.history.specs.Set.{mostHistories, Histories, chosen, historiesOf, shows, anyOutside, allSound, sound, refusing, refusalOf, unlessRefused}
 use Rattle.blocks.specs.declared.Totals.{Totals}
 use Rattle.blocks.specs.Totals.{none, meanOf}
-use Rattle.sums.specs.Sums.{totalsOf}
-use Rattle.gate.specs.Gate.{thresholdOf, allGated, gateOver, gateOf}
-use Rattle.gate.specs.GatedEnergy.{meanAnswer, gatedEnergyOf}
-use Rattle.gate.specs.Relative.{Level, loudness, energy as energy-of, lowest, levelOf, relativeOf}
-use Rattle.sums.specs.Sums.{alone}
+use Rattle.sums.specs.Sums.{totalsOf, alone}
+use Rattle.threshold.specs.Relative.{thresholdOf, Level, loudness, energy as energy-of, lowest, levelOf, relativeOf}
+use Rattle.gate.specs.Gate.{allGated, gateOver, gateOf}
+use Rattle.gated_energy.specs.GatedEnergy.{meanAnswer, gatedEnergyOf}
 use Rattle.rising_order.specs.Order.{inOrder}
 use Rattle.spans.specs.Span.{Span, notANumber}
 use Rattle.histogram_range.specs.Counted.{addedTo, countedSpan}

@@ -19,11 +19,10 @@ use Rattle.history.specs.declared.set.Entry.{Entry}
 use Rattle.history.specs.Set.{mostHistories, Histories, chosen, historiesOf, shows, anyOutside, allSound}
 use Rattle.blocks.specs.declared.Totals.{Totals}
 use Rattle.blocks.specs.Totals.{none}
-use Rattle.sums.specs.Sums.{totalsOf, allTotals}
-use Rattle.gate.specs.Gate.{thresholdOf, allGated, gateOf}
-use Rattle.gate.specs.GatedEnergy.{gatedEnergyOf}
-use Rattle.sums.specs.Sums.{alone}
-use Rattle.gate.specs.Relative.{relativeOf}
+use Rattle.sums.specs.Sums.{totalsOf, allTotals, alone}
+use Rattle.threshold.specs.Relative.{thresholdOf, relativeOf}
+use Rattle.gate.specs.Gate.{allGated, gateOf}
+use Rattle.gated_energy.specs.GatedEnergy.{gatedEnergyOf}
 use Rattle.queue_range.specs.Listed.{allHeld}
 use Rattle.range.specs.Range.{queuesIn, rangeOf}
 use Rattle.acceptance_refusals.specs.Rows.{Row, row, RefusedBy}

@@ -1,15 +1,13 @@
-// The C interface of the gate. include/xelamphoun.h declares it.
+// The C interface of the gate and of gated energy. include/xelamphoun.h declares it.
 ghost use mathlib.Core.Path.{_≡_};
 ghost use Rattle.refusals.specs.Outcome.{saidBy};
 ghost use Rattle.gate.specs.Gate.{gateOf, said};
-ghost use Rattle.gate.specs.GatedEnergy.{gatedEnergyOf, said as saidEnergy};
-ghost use Rattle.gate.specs.Relative.{relativeOf};
+ghost use Rattle.gated_energy.specs.GatedEnergy.{gatedEnergyOf, said as saidEnergy};
 ghost use Rattle.codes.specs.Codes.{code, valueOr};
-ghost use Rattle.entries.specs.Sets.{setOf, asked, askedAlone};
-ghost use Rattle.exports_gate.specs.Measures.{totalsOver, floatOr};
-use gate::Energy;
+ghost use Rattle.entries.specs.Sets.{setOf, asked};
+ghost use Rattle.exports_gate.specs.Measures.{totalsOver};
 use gate::Gated;
-use gate::Threshold;
+use gated_energy::Energy;
 
 // The gate question over the set of these numbers. A single history is asked by itself, so that no set of sixteen is made.
 fn gate_of(entries: &[usize], counters: &[u32], energies: &[f64]) -> Gated
@@ -27,10 +25,14 @@ fn gated_energy_of(entries: &[usize], counters: &[u32], energies: &[f64]) -> Ene
     ensures { λ r. ⌜ saidEnergy r ≡ saidBy (gatedEnergyOf (setOf (now (entries .entry)) (now (counters .entry)) (now (energies .entry)))) ⌝ }
 {
     if entries.len() == entries::NUMBERS {
-        return gate::gated_energy_of_history(entries::first_of(entries), counters, energies);
+        return gated_energy::gated_energy_of_history(
+            entries::first_of(entries),
+            counters,
+            energies,
+        );
     }
     let count = entries.len() / entries::NUMBERS;
-    gate::gated_energy(entries::entries_of(entries), count, counters, energies)
+    gated_energy::gated_energy(entries::entries_of(entries), count, counters, energies)
 }
 
 #[no_mangle]
@@ -77,31 +79,5 @@ pub extern "C" fn xel_gated_energy(
             0
         }
         Energy::Refused(number) => number,
-    }
-}
-
-#[no_mangle]
-pub extern "C" fn xel_relative_threshold(
-    entry: &[usize],
-    counters: &[u32],
-    energies: &[f64],
-    value: &mut f64,
-) -> u8
-    ensures { λ r. ⌜ (r ≡ code (askedAlone relativeOf (now (entry .entry)) (now (counters .entry)) (now (energies .entry))))
-        × (now (value .exit) ≡ floatOr (now (value .entry)) (askedAlone relativeOf (now (entry .entry)) (now (counters .entry)) (now (energies .entry)))) ⌝ }
-{
-    if entry.len() != entries::NUMBERS {
-        return refusals::SET;
-    }
-    match gate::relative_threshold(entries::first_of(entry), counters, energies) {
-        Threshold::Loudness(loudness) => {
-            *value = loudness;
-            0
-        }
-        Threshold::Energy(energy) => {
-            *value = energy;
-            0
-        }
-        Threshold::Refused(number) => number,
     }
 }

@@ -1,5 +1,4 @@
-pub mod Passes
-pub mod Keeping
-pub mod Questions
-pub mod Meaning
-pub mod Equals
+mod Passes
+mod Gating
+mod Questions
+mod Alone

@@ -1,53 +1,52 @@
--- What the gate question, gated energy and the relative threshold come to, case by case, over histories that nothing refuses. Assumes nothing.
-use mathlib.Core.Path.{_≡_, refl, sym, ap, _∙_}
+-- What the gate question comes to where it is known what was said of the threshold. Assumes nothing.
+use mathlib.Core.Path.{_≡_, refl, ap, _∙_}
 use mathlib.Core.Bool.{Bool, true, false, cond}
-use mathlib.Core.List.{List, [], _∷_}
-use borrow.Author.Tests.{eq-eqb, ne-eqb}
+use Prim.Native.Nat.{ℕ}
+use native.Mathlib.Omega.{arith}
+use lib.Dec.{eqb}
 use lib.Ieee.{Float, isNan}
-use Rattle.refusals.specs.Refusal.{NONE, NAN}
-use Rattle.refusals.specs.Outcome.{Question, went, refused, answers, Said, saidBy}
-use Rattle.history.specs.Set.{History}
+use Rattle.refusals.specs.Refusal.{NONE, NAN, number}
+use Rattle.refusals.specs.Outcome.{Question, refused, answers, Said, says, refusal, saidBy}
+use Rattle.history.specs.Set.{Histories, historiesOf, Verdict, sound, refusing, refusalOf, unlessRefused}
 use Rattle.blocks.specs.declared.Totals.{Totals}
 use Rattle.blocks.specs.Totals.{none}
-use Rattle.sums.specs.Sums.{allTotals}
-use Rattle.gate.specs.Gate.{thresholdOf, allGated, gateOver}
-use Rattle.gate.specs.GatedEnergy.{meanAnswer, meanSaid}
-use Rattle.gate.specs.Relative.{loudness, energy, lowest, levelOf}
+use Rattle.sums.specs.Sums.{allTotals, ofSet}
+use Rattle.threshold.specs.Relative.{thresholdOf, unlessNan, Level, loudness, energy, lowest, levelOf, levelSaid}
+use Rattle.gate.specs.Gate.{allGated, someLeft, unlessNone, gateOver, gateOf}
 
--- ---- the gate question
-module _ (histories : List History) (totals : Totals) (e : totals ≡ allTotals none histories) where
-  pub gate-none : totals .count ≡ 0 → gateOver histories ≡ refused NONE
-  unfolding gateOver
-  gate-none z = rw (← e, eq-eqb (totals .count) 0 z)
+-- what is left at or above an energy, NONE where the threshold is a loudness, or its refusal
+abbrev pub answeredAt : (Float → Question Totals) → Said Level → Said Totals
+answeredAt left (says (energy e)) = saidBy (left e)
+answeredAt left (says (loudness l)) = refusal (number NONE)
+answeredAt left (refusal n) = refusal n
 
-  pub gate-nan : (totals .count ≡ 0 → ⊥) → isNan (totals .sum) ≡ true → gateOver histories ≡ refused NAN
-  unfolding gateOver
-  gate-nan z n = rw (← e, ne-eqb (totals .count) 0 z, n)
+over : (v : Verdict) (totals : Totals) (left : Float → Question Totals)
+    → answeredAt left (levelSaid (saidBy (unlessRefused v (answers totals))))
+    ≡ saidBy (unlessRefused v (unlessNone totals (unlessNan totals (left (thresholdOf totals)))))
+unfolding levelOf
+over sound totals left = go (eqb (totals .count) 0) (isNan (totals .sum))
+  where
+    go : (z n : Bool)
+        → answeredAt left (saidBy (cond z (answers (loudness lowest)) (cond n (refused NAN) (answers (energy (thresholdOf totals))))))
+        ≡ saidBy (cond z (refused NONE) (cond n (refused NAN) (left (thresholdOf totals))))
+    go true n = refl
+    go false true = refl
+    go false false = refl
+over (refusing r) totals left = refl
 
-  module _ (z : totals .count ≡ 0 → ⊥) (n : isNan (totals .sum) ≡ false) (left : Totals) (f : left ≡ allGated (thresholdOf totals) none histories) where
-    pub gate-none-left : left .count ≡ 0 → gateOver histories ≡ refused NONE
-    unfolding gateOver
-    gate-none-left l = rw (← e, ne-eqb (totals .count) 0 z, n, ← f, eq-eqb (left .count) 0 l)
+module _ (h : Histories) where
+  abbrev pub leftAt : Float → Question Totals
+  leftAt threshold = someLeft (allGated threshold none (historiesOf h))
 
-    pub gate-left : (left .count ≡ 0 → ⊥) → gateOver histories ≡ answers left
-    unfolding gateOver
-    gate-left l = rw (← e, ne-eqb (totals .count) 0 z, n, ← f, ne-eqb (left .count) 0 l)
+  pub gate-at : (threshold : Said Level) → threshold ≡ levelSaid (saidBy (ofSet h)) → answeredAt leftAt threshold ≡ saidBy (gateOf h)
+  unfolding ofSet gateOf gateOver
+  gate-at threshold e = ap (answeredAt leftAt) e ∙ over (refusalOf h) (allTotals none (historiesOf h)) leftAt
 
--- ---- gated energy
-pub mean-said : (q : Question Totals) (told : Said Totals) → told ≡ saidBy q → meanSaid told ≡ saidBy (meanAnswer q)
-mean-said (went kept totals) told e = ap meanSaid e
-mean-said (refused r) told e = ap meanSaid e
-
--- ---- the relative threshold
-module _ (totals : Totals) where
-  pub level-none : totals .count ≡ 0 → levelOf totals ≡ answers (loudness lowest)
-  unfolding levelOf
-  level-none z = rw (eq-eqb (totals .count) 0 z)
-
-  pub level-nan : (totals .count ≡ 0 → ⊥) → isNan (totals .sum) ≡ true → levelOf totals ≡ refused NAN
-  unfolding levelOf
-  level-nan z n = rw (ne-eqb (totals .count) 0 z, n)
-
-  pub level-energy : (totals .count ≡ 0 → ⊥) → isNan (totals .sum) ≡ false → levelOf totals ≡ answers (energy (thresholdOf totals))
-  unfolding levelOf
-  level-energy z n = rw (ne-eqb (totals .count) 0 z, n)
+  -- a threshold that is an energy is that of histories which nothing refuses
+  pub nothing-refuses : (e : Float) → says (energy e) ≡ levelSaid (saidBy (ofSet h)) → refusalOf h ≡ sound
+  unfolding ofSet
+  nothing-refuses e s = go (refusalOf h) s
+    where
+      go : (v : Verdict) → says (energy e) ≡ levelSaid (saidBy (unlessRefused v (answers (allTotals none (historiesOf h))))) → v ≡ sound
+      go sound s = refl
+      go (refusing r) s = let z : _≡_ {A = ℕ} 0 1 = cc in absurd (omega arith)

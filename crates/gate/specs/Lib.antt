@@ -1,4 +1,1 @@
 pub mod Gate
-pub mod GatedEnergy
-pub mod Relative
-pub mod Bs1770

@@ -6,26 +6,10 @@ use Prim.Native.Nat.{ℕ}
 use native.Mathlib.Omega.{arith}
 use lib.ListN.{length, replicate}
 use lib.Ieee.{Float}
-use Rattle.refusals.specs.Refusal.{SET, number}
-use Rattle.refusals.specs.Outcome.{Question, refused, answers, Said, says, refusal, saidBy}
+use Rattle.refusals.specs.Refusal.{SET}
+use Rattle.refusals.specs.Outcome.{refused, answers}
 use Rattle.history.specs.declared.set.Entry.{Entry}
-use Rattle.history.specs.Set.{
-  mostHistories,
-  Histories,
-  histories,
-  historiesOf,
-  chosen,
-  shows,
-  isOutside,
-  outsideSet,
-  isSound,
-  allSound,
-  refusalOf,
-  Verdict,
-  sound,
-  refusing,
-  unlessRefused,
-}
+use Rattle.history.specs.Set.{mostHistories, Histories, histories, historiesOf, chosen, shows, isOutside, outsideSet, isSound, allSound, refusalOf, Verdict, unlessRefused}
 use Rattle.history.proofs.Entries.{inside-at}
 use Rattle.history.proofs.Verdicts.{none-outside, set-refused, one-unsound, all-well}
 use Rattle.blocks.specs.declared.Totals.{Totals}
@@ -71,41 +55,3 @@ module _ (entry : Entry) (counters : List ℕ) (energies : List Float) where
   unfolding ofHistory allSound
   history-seen e fine totals s t =
       seen (alone entry counters energies) e totals (totalsOf (shows counters energies entry)) fine (s ∙ sym (and-true (isSound energies entry))) t
-
--- ---- what an answer tells of the histories
-module _ (v : Verdict) (right : Totals) where
-  pub answered-well : (totals : Totals) → says totals ≡ saidBy (unlessRefused v (answers right)) → (v ≡ sound) × (totals ≡ right)
-  answered-well totals e = go v e
-    where
-      go : (w : Verdict) → says totals ≡ saidBy (unlessRefused w (answers right)) → (w ≡ sound) × (totals ≡ right)
-      go sound e = (refl, cc)
-      go (refusing r) e = let z : _≡_ {A = ℕ} 0 1 = cc in absurd (omega arith)
-
-  pub answered-refused : (n : ℕ) → refusal n ≡ saidBy (unlessRefused v (answers right))
-      → {Values : Type 0} (question : Question Values) → saidBy (unlessRefused v question) ≡ refusal n
-  answered-refused n e {Values} question = go v e
-    where
-      go : (w : Verdict) → _≡_ {A = Said Totals} (refusal n) (saidBy (unlessRefused w (answers right))) → _≡_ {A = Said Values} (saidBy (unlessRefused w question)) (refusal n)
-      go sound e = let z : _≡_ {A = ℕ} 0 1 = cc in absurd (omega arith)
-      go (refusing r) e = let z : number r ≡ n = cc in ap refusal z
-
--- of a set, and of a single history
-module _ (h : Histories) where
-  pub set-well : (totals : Totals) → says totals ≡ saidBy (ofSet h) → (refusalOf h ≡ sound) × (totals ≡ allTotals none (historiesOf h))
-  unfolding ofSet
-  set-well totals e = answered-well (refusalOf h) (allTotals none (historiesOf h)) totals e
-
-  pub set-refusing : (n : ℕ) → refusal n ≡ saidBy (ofSet h) → {Values : Type 0} (question : Question Values) → saidBy (unlessRefused (refusalOf h) question) ≡ refusal n
-  unfolding ofSet
-  set-refusing n e question = answered-refused (refusalOf h) (allTotals none (historiesOf h)) n e question
-
-module _ (entry : Entry) (counters : List ℕ) (energies : List Float) where
-  pub history-well : (totals : Totals) → says totals ≡ saidBy (ofHistory entry counters energies)
-      → (refusalOf (alone entry counters energies) ≡ sound) × (totals ≡ totalsOf (shows counters energies entry))
-  unfolding ofHistory
-  history-well totals e = answered-well (refusalOf (alone entry counters energies)) (totalsOf (shows counters energies entry)) totals e
-
-  pub history-refusing : (n : ℕ) → refusal n ≡ saidBy (ofHistory entry counters energies)
-      → {Values : Type 0} (question : Question Values) → saidBy (unlessRefused (refusalOf (alone entry counters energies)) question) ≡ refusal n
-  unfolding ofHistory
-  history-refusing n e question = answered-refused (refusalOf (alone entry counters energies)) (totalsOf (shows counters energies entry)) n e question

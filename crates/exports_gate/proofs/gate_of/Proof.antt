@@ -1,5 +1,5 @@
 -- `exports_gate::gate_of` meets its contract: the set of one is its history, and any other that of the numbers. Assumes nothing.
-use mathlib.Core.Path.{_≡_, ap, _∙_}
+use mathlib.Core.Path.{ap, _∙_}
 use mathlib.Core.List.{List}
 use Prim.Native.Nat.{_/_}
 use denote.Ref.{now}

@@ -1,5 +1,5 @@
 -- `exports_gate::gated_energy_of` meets its contract: the set of one is its history, and any other that of the numbers. Assumes nothing.
-use mathlib.Core.Path.{_≡_, ap, _∙_}
+use mathlib.Core.Path.{ap, _∙_}
 use mathlib.Core.List.{List}
 use Prim.Native.Nat.{_/_}
 use denote.Ref.{now}
@@ -9,7 +9,7 @@ use Rattle.history.specs.declared.set.Entry.{Entry}
 use Rattle.history.specs.Set.{histories}
 use Rattle.blocks.specs.declared.Totals.{Totals}
 use Rattle.sums.specs.Sums.{alone}
-use Rattle.gate.specs.GatedEnergy.{meanAnswer, gatedEnergyOf}
+use Rattle.gated_energy.specs.GatedEnergy.{meanAnswer, gatedEnergyOf}
 use Rattle.entries.specs.Sets.{numbersAnEntry}
 use Rattle.exports_gate.proofs.Alone.{set-of-one}
 use borrow.Author.Needs.{needs}

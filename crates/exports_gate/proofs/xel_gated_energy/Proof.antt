@@ -2,7 +2,7 @@
 use mathlib.Core.Path.{_≡_, sym, ap, _∙_}
 use denote.Ref.{now}
 use Rattle.refusals.specs.Outcome.{saidBy}
-use Rattle.gate.specs.GatedEnergy.{gatedEnergyOf, said}
+use Rattle.gated_energy.specs.GatedEnergy.{gatedEnergyOf, said}
 use Rattle.entries.specs.Sets.{asked}
 use Rattle.entries.proofs.Asked.{asked-part, asked-whole}
 use Rattle.codes.proofs.Told.{values-told, refusal-told}

@@ -1,51 +1,86 @@
--- `gate::gate` meets its contract: the sums' refusal, or what their totals leave. Assumes nothing.
+-- `gate::gate` meets its contract, by what is said of the threshold: the blocks that it leaves, NONE, or its refusal. Assumes nothing.
 use mathlib.Core.Path.{_≡_, sym, ap, _∙_}
 use borrow.Author.Needs.{needs}
 use denote.Ref.{now}
-use Rattle.refusals.specs.Outcome.{says, refusal, saidBy}
-use Rattle.history.specs.Set.{Histories, histories, historiesOf, refusalOf}
-use Rattle.history.proofs.Verdicts.{asked}
-use Rattle.sums.specs.Sums.{ofSet, said}
-use Rattle.sums.proofs.Answering.{set-well, set-refusing}
-use Rattle.gate.specs.Gate.{gateOver, gateOf}
+use Rattle.refusals.specs.Outcome.{saidBy}
+use Rattle.history.specs.Set.{Histories, histories, historiesOf}
+use Rattle.blocks.specs.declared.Totals.{Totals}
+use Rattle.blocks.specs.Totals.{none}
+use Rattle.sums.specs.Sums.{ofSet}
+use Rattle.threshold.specs.declared.Threshold.{Threshold}
+use Rattle.threshold.specs.Relative.{levelSaid, said}
+use Rattle.gate.specs.Gate.{allGated, someLeft, gateOf}
+use Rattle.gate.proofs.Questions.{answeredAt, leftAt, gate-at, nothing-refuses}
 use Rattle.gate.proofs.gate.Statement.{statement}
 use Rattle.gate.proofs.gate.Tie as tie
 
 -- the set, as it was given
-abbrev given : tie.Start → Histories
-given c = histories (c .args .entries) (c .args .count) (now (c .args .counters)) (now (c .args .energies))
+abbrev given : tie.After-of-sums → Histories
+given c =
+    let a = c .before .before .before .before .args in
+    histories (a .entries) (a .count) (now (a .counters)) (now (a .energies))
+
+-- what is said of its threshold
+told : (c : tie.After-of-sums) (threshold : Threshold) → c .of-sums .result ≡ threshold → said threshold ≡ levelSaid (saidBy (ofSet (given c)))
+told c threshold e = sym (ap said e) ∙ c .of-sums .ensures ∙ ap levelSaid (c .before .of-set .ensures)
+
+answers-by : (c : tie.After-of-sums) (threshold : Threshold) → c .of-sums .result ≡ threshold → answeredAt (leftAt (given c)) (said threshold) ≡ saidBy (gateOf (given c))
+answers-by c threshold e = gate-at (given c) (said threshold) (told c threshold e)
 
 of-set-requires : tie.Need-of-set-requires
 of-set-requires c κs = search needs
 
-enum-known-sums : tie.Need-enum-known-sums
-enum-known-sums c = search needs
+of-sums-requires : tie.Need-of-sums-requires
+of-sums-requires c κs = search needs
 
-gate-over-requires : tie.Need-gate-over-requires
-gate-over-requires c κs =
-    let o = c .before .before .before in
-    set-well (given (o .before .before .before)) (c .before .sums .given .0 .0) (sym (ap said (c .before .sums .given .1)) ∙ o .of-set .ensures)
+enum-known-energy : tie.Need-enum-known-energy
+enum-known-energy c = search needs
 
-enum-known-sums-2 : tie.Need-enum-known-sums-2
-enum-known-sums-2 c = search needs
+all-gated-requires : tie.Need-all-gated-requires
+all-gated-requires c κs =
+    let s = c .before .before .before in
+    let energy = c .before .energy .given in
+    nothing-refuses (given s) (energy .0 .0) (told s _ (energy .1))
+
+some-left-requires : tie.Need-some-left-requires
+some-left-requires c κs = search needs
+
+enum-told : tie.Need-enum-told
+enum-told c = search needs
+
+enum-known-refusal : tie.Need-enum-known-refusal
+enum-known-refusal c = search needs
+
+-- the blocks left are those at or above it
+left-is : (c : tie.After-all-gated) →
+    let k = c .before in
+    c .all-gated .result ≡ allGated (k .before .energy .given .0 .0) none (historiesOf (given (k .before .before .before)))
+left-is c = c .all-gated .ensures
 
 returns : tie.Need-returns
-unfolding gateOf
 returns c =
-    let o = c .before .before .before .before in
-    let h = given (o .before .before .before) in
-    let w = set-well h (c .before .before .sums .given .0 .0) (sym (ap said (c .before .before .sums .given .1)) ∙ o .of-set .ensures) in
-    c .gate-over .ensures ∙ sym (ap saidBy (asked (gateOver (historiesOf h)) (refusalOf h) (w .0)))
+    let k = c .before .before in
+    c .some-left .ensures
+    ∙ ap (λ (left : Totals). saidBy (someLeft left)) (left-is (c .before))
+    ∙ answers-by (k .before .before .before) _ (k .before .energy .given .1)
 
 returns-2 : tie.Need-returns-2
-unfolding gateOf
-returns-2 c =
-    let g = c .before in
-    let o = g .before .before in
-    let h = given (o .before .before .before) in
-    sym (set-refusing h (g .sums2 .given .0 .0) (sym (ap said (g .sums2 .given .1)) ∙ o .of-set .ensures) (gateOver (historiesOf h)))
+returns-2 c = answers-by (c .before .before) _ (c .enum-told .given .1)
+
+returns-3 : tie.Need-returns-3
+returns-3 c = answers-by (c .before .before .before) _ (c .before .refusal .given .1)
 
 pub gate-spec : {M : Type 1} → statement M
 gate-spec =
     tie.close
-    (tie.spec of-set-requires enum-known-sums gate-over-requires enum-known-sums-2 returns returns-2)
+    (tie.spec
+    of-set-requires
+    of-sums-requires
+    enum-known-energy
+    all-gated-requires
+    some-left-requires
+    enum-told
+    enum-known-refusal
+    returns
+    returns-2
+    returns-3)

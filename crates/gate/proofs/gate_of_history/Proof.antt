@@ -1,79 +1,108 @@
--- `gate::gate_of_history` meets its contract: the sums' refusal, or what their totals leave. Assumes nothing.
-use native.Mathlib.Omega.{arith}
-use Prim.Native.Nat.{ℕ, _+_}
-use mathlib.Core.List.{List}
+-- `gate::gate_of_history` meets its contract, by what is said of the threshold, as `gate` over the set of this one history. Assumes nothing.
+use mathlib.Core.List.{[], _∷_}
 use mathlib.Core.Path.{_≡_, sym, ap, _∙_}
+use native.Mathlib.Omega.{arith}
 use borrow.Author.Needs.{needs}
 use denote.Ref.{now}
-use lib.Ieee.{Float, binary64, add}
+use lib.ListN.{length}
 use Rattle.refusals.specs.Outcome.{saidBy}
-use Rattle.history.specs.declared.set.Entry.{Entry}
-use Rattle.history.specs.Set.{Histories, historiesOf, shows, allShow, refusalOf, sound}
-use Rattle.history.proofs.Verdicts.{asked}
+use Rattle.history.specs.Set.{Histories, historiesOf, allShow}
+use Rattle.history.proofs.Entries.{inside-at, sound-at}
+use Rattle.history.proofs.Verdicts.{kept}
 use Rattle.blocks.specs.declared.Totals.{Totals}
 use Rattle.blocks.specs.Totals.{none}
-use Rattle.sums.specs.Sums.{totalsOf, allTotals, alone, said}
-use Rattle.sums.specs.declared.Sums.the-variants.{Blocks}
-use Rattle.sums.proofs.Answering.{history-well, history-refusing}
-use Rattle.sums.proofs.Looking.{same}
-use Rattle.gate.specs.Gate.{gateOver, gateOf}
+use Rattle.blocks.proofs.Nothing.{nothing-steady}
+use Rattle.sums.specs.Sums.{alone, ofSet}
+use Rattle.threshold.specs.declared.Threshold.{Threshold}
+use Rattle.threshold.specs.Relative.{levelSaid, said}
+use Rattle.gate.specs.Gate.{allGated, someLeft, gateOf}
+use Rattle.gate.proofs.Questions.{answeredAt, leftAt, gate-at, nothing-refuses}
+use Rattle.gate.proofs.Alone.{alone-same}
 use Rattle.gate.proofs.gate_of_history.Statement.{statement}
 use Rattle.gate.proofs.gate_of_history.Tie as tie
 
 -- the history, as it was given
-abbrev given : tie.Start → Histories
-given c = alone (c .args .entry) (now (c .args .counters)) (now (c .args .energies))
+abbrev given : tie.After-of-sums → Histories
+given c =
+    let a = c .before .before .before .before .args in
+    alone (a .entry) (now (a .counters)) (now (a .energies))
 
--- the totals of a set of one are its history's, added to 0
-one-total : (entry : Entry) (counters : List ℕ) (energies : List Float) (totals : Totals) → totals ≡ totalsOf (shows counters energies entry)
-    → _≡_ {A = Totals} (record { count = totals .count; sum = add binary64 (none .sum) (totals .sum) }) (allTotals none (historiesOf (alone entry counters energies)))
-unfolding allTotals allShow
-one-total entry counters energies totals t =
-    same {count′ = 0 + totalsOf (shows counters energies entry) .count} (omega (arith, ap (λ (x : Totals). x .count) t)) (ap (λ (x : Totals). add binary64 (none .sum) (x .sum)) t)
+-- what is said of its threshold
+told : (c : tie.After-of-sums) (threshold : Threshold) → c .of-sums .result ≡ threshold → said threshold ≡ levelSaid (saidBy (ofSet (given c)))
+told c threshold e =
+    let a = c .before .before .before .before .args in
+    sym (ap said e) ∙ c .of-sums .ensures ∙ ap levelSaid (c .before .of-history .ensures ∙ ap saidBy (alone-same (a .entry) (now (a .counters)) (now (a .energies))))
 
--- what the sums tell
-well : (o : tie.After-of-history) (totals : Totals) → o .of-history .result ≡ Blocks totals →
-    let s = o .before .before .before in
-    (refusalOf (given s) ≡ sound) × (totals ≡ totalsOf (shows (now (s .args .counters)) (now (s .args .energies)) (s .args .entry)))
-well o totals e =
-    let a = o .before .before .before .args in
-    history-well (a .entry) (now (a .counters)) (now (a .energies)) totals (sym (ap said e) ∙ o .of-history .ensures)
+answers-by : (c : tie.After-of-sums) (threshold : Threshold) → c .of-sums .result ≡ threshold → answeredAt (leftAt (given c)) (said threshold) ≡ saidBy (gateOf (given c))
+answers-by c threshold e = gate-at (given c) (said threshold) (told c threshold e)
 
 of-history-requires : tie.Need-of-history-requires
 of-history-requires c κs = search needs
 
-enum-known-sums : tie.Need-enum-known-sums
-enum-known-sums c = search needs
+of-sums-requires : tie.Need-of-sums-requires
+of-sums-requires c κs = search needs
 
-history-over-requires : tie.Need-history-over-requires
-history-over-requires c κs =
-    let o = c .before .before .before .before in
-    let a = o .before .before .before .args in
-    let sums = c .before .before .sums .given in
-    let w = well o (sums .0 .0) (sums .1) in
-    (w .0, one-total (a .entry) (now (a .counters)) (now (a .energies)) (sums .0 .0) (w .1))
+enum-known-energy : tie.Need-enum-known-energy
+enum-known-energy c = search needs
 
-enum-known-sums-2 : tie.Need-enum-known-sums-2
-enum-known-sums-2 c = search needs
+start-bin-requires : tie.Need-start-bin-requires
+start-bin-requires c κs = search needs
+
+history-gated-requires : tie.Need-history-gated-requires
+history-gated-requires c κs =
+    let s = c .before .before .before .before in
+    let a = s .before .before .before .before .args in
+    let counters = now (a .counters) in
+    let energies = now (a .energies) in
+    let energy = c .before .before .energy .given in
+    let k = kept (given s) (nothing-refuses (given s) (energy .0 .0) (told s _ (energy .1))) in (
+      inside-at (length counters) (length energies) (a .entry ∷ []) 1 0 (omega arith) (omega arith) (k .inside),
+      sound-at energies (a .entry ∷ []) 1 0 (omega arith) (omega arith) (k .stores),
+      c .start-bin .ensures,
+      nothing-steady,
+    )
+
+some-left-requires : tie.Need-some-left-requires
+some-left-requires c κs = search needs
+
+enum-told : tie.Need-enum-told
+enum-told c = search needs
+
+enum-known-refusal : tie.Need-enum-known-refusal
+enum-known-refusal c = search needs
+
+-- the blocks left are those at or above it
+left-is : (c : tie.After-history-gated) →
+    let k = c .before .before in
+    c .history-gated .result ≡ allGated (k .before .energy .given .0 .0) none (historiesOf (given (k .before .before .before)))
+unfolding allGated allShow
+left-is c = c .history-gated .ensures .0
 
 returns : tie.Need-returns
-unfolding gateOf
 returns c =
-    let o = c .before .before .before .before .before in
-    let h = given (o .before .before .before) in
-    let sums = c .before .before .before .sums .given in
-    c .history-over .ensures ∙ sym (ap saidBy (asked (gateOver (historiesOf h)) (refusalOf h) (well o (sums .0 .0) (sums .1) .0)))
+    let k = c .before .before .before in
+    c .some-left .ensures
+    ∙ ap (λ (left : Totals). saidBy (someLeft left)) (left-is (c .before))
+    ∙ answers-by (k .before .before .before) _ (k .before .energy .given .1)
 
 returns-2 : tie.Need-returns-2
-unfolding gateOf
-returns-2 c =
-    let g = c .before in
-    let o = g .before .before in
-    let a = o .before .before .before .args in
-    sym (history-refusing (a .entry) (now (a .counters)) (now (a .energies)) (g .sums2 .given .0 .0) (sym (ap said (g .sums2 .given .1)) ∙ o .of-history .ensures)
-    (gateOver (historiesOf (given (o .before .before .before)))))
+returns-2 c = answers-by (c .before .before) _ (c .enum-told .given .1)
+
+returns-3 : tie.Need-returns-3
+returns-3 c = answers-by (c .before .before .before) _ (c .before .refusal .given .1)
 
 pub gate-of-history-spec : {M : Type 1} → statement M
 gate-of-history-spec =
     tie.close
-    (tie.spec of-history-requires enum-known-sums history-over-requires enum-known-sums-2 returns returns-2)
+    (tie.spec
+    of-history-requires
+    of-sums-requires
+    enum-known-energy
+    start-bin-requires
+    history-gated-requires
+    some-left-requires
+    enum-told
+    enum-known-refusal
+    returns
+    returns-2
+    returns-3)

@@ -1,0 +1,89 @@
+-- A single history is the set that is this one: added to 0 its sum stays as it is, since it has no minus. Assumes nothing.
+use mathlib.Core.Path.{_≡_, refl, sym, ap, _∙_}
+use mathlib.Core.Bool.{Bool, true, false, _&&_, true≢false}
+use mathlib.Core.List.{List, [], _∷_}
+use Prim.Native.Nat.{ℕ, _+_, _*_}
+use native.Mathlib.Nat.{add-comm, mul-comm}
+use native.Mathlib.Omega.{arith}
+use lib.Dec.{T}
+use lib.IntN.{pos}
+use lib.Ieee.{Float, nan, inf, fin, binary64, up, down, round, sum, add, ofBits}
+use Rattle.refusals.specs.Outcome.{answers}
+use Rattle.queue.specs.Queue.{suits, heldOf}
+use Rattle.history.specs.declared.set.Entry.{Entry}
+use Rattle.history.specs.declared.set.Shape.{Shape}
+use Rattle.history.specs.declared.set.Shape.the-variants.{Histogram, Queue as Queue-at}
+use Rattle.history.specs.Set.{
+  blockAt,
+  queueAt,
+  shapeShows,
+  shows,
+  allShow,
+  historiesOf,
+  noneBelow,
+  shapeSound,
+  Verdict,
+  sound,
+  refusing,
+  refusalOf,
+  unlessRefused,
+}
+use Rattle.history.proofs.Entries.{sound-at}
+use Rattle.history.proofs.Verdicts.{kept}
+use Rattle.blocks.specs.declared.Totals.{Totals}
+use Rattle.blocks.specs.Totals.{none, unsigned, Steady, withBlocks, energiesFrom}
+use Rattle.blocks.proofs.Nothing.{nothing-added, nothing-steady, steady-added, bins-steady}
+use Rattle.sums.specs.Sums.{totalsOf, allTotals, alone, ofHistory, ofSet}
+use Rattle.sums.proofs.Looking.{same}
+use Rattle.kept.proofs.Keeping.{no-minus, others-sound}
+
+-- ---- 0 and a sum
+nothing : ofBits binary64 0 ≡ fin false 0 (pos 0)
+unfolding ofBits
+nothing = refl
+
+swapped : (x : Float) → T (unsigned x) → add binary64 (fin false 0 (pos 0)) x ≡ add binary64 x (fin false 0 (pos 0))
+unfolding add sum unsigned
+swapped nan u = refl
+swapped (inf s) u = refl
+swapped (fin true m e) u = absurd u
+swapped (fin false m e) u =
+    ap (λ (n : ℕ). round binary64 false n (down (pos 0) * down e)) (add-comm (0 * up (pos 0) * down e) (m * up e * down (pos 0)))
+    ∙ ap (round binary64 false (m * up e * down (pos 0) + 0 * up (pos 0) * down e)) (mul-comm (down (pos 0)) (down e))
+
+to-nothing : (x : Float) → Steady x → add binary64 (none .sum) x ≡ x
+to-nothing x s = ap (λ (z : Float). add binary64 z x) nothing ∙ swapped x (s .1) ∙ ap (add binary64 x) (sym nothing) ∙ nothing-added x s
+
+-- ---- the sum of a sound history has no minus
+energies-steady : (totals : Totals) (l : List Float) → Steady (totals .sum) → noneBelow l ≡ true → Steady (energiesFrom totals l .sum)
+unfolding energiesFrom
+energies-steady totals [] s fine = s
+energies-steady totals (energy ∷ rest) s fine =
+    energies-steady (withBlocks totals 1 energy) rest (steady-added (totals .sum) energy s (no-minus energy rest fine)) (others-sound energy rest fine)
+
+second : (a b : Bool) → a && b ≡ true → b ≡ true
+second true b h = h
+second false b h = absurd (true≢false (sym h))
+
+totals-steady : (counters : List ℕ) (energies : List Float) (shape : Shape) → shapeSound energies shape ≡ true → Steady (totalsOf (shapeShows counters energies shape) .sum)
+totals-steady counters energies (Histogram start) h = bins-steady none 0 (blockAt counters start) nothing-steady
+totals-steady counters energies (Queue-at start queue) h =
+    let held = heldOf (queueAt energies start queue) in
+    energies-steady none held nothing-steady (second (suits queue (queue .maximum)) (noneBelow held) h)
+
+module _ (entry : Entry) (counters : List ℕ) (energies : List Float) where
+  one-total : refusalOf (alone entry counters energies) ≡ sound → totalsOf (shows counters energies entry) ≡ allTotals none (historiesOf (alone entry counters energies))
+  unfolding allTotals allShow
+  one-total e =
+      let totals = totalsOf (shows counters energies entry) in
+      let fine = sound-at energies (entry ∷ []) 1 0 (omega arith) (omega arith) (kept (alone entry counters energies) e .stores) in
+      same {count = totals .count} {count′ = 0 + totals .count} (omega arith) (sym (to-nothing (totals .sum) (totals-steady counters energies (entry .shape) fine)))
+
+  pub alone-same : ofHistory entry counters energies ≡ ofSet (alone entry counters energies)
+  unfolding ofHistory ofSet
+  alone-same = go (refusalOf (alone entry counters energies)) refl
+    where
+      go : (v : Verdict) → refusalOf (alone entry counters energies) ≡ v
+          → unlessRefused v (answers (totalsOf (shows counters energies entry))) ≡ unlessRefused v (answers (allTotals none (historiesOf (alone entry counters energies))))
+      go sound e = ap answers (one-total e)
+      go (refusing r) e = refl

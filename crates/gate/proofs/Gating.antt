@@ -1,0 +1,58 @@
+-- What a history has at or above the gate, counted from 0 on top of a running sum: how many blocks came before plays no part in it, so their number is added.
+-- Assumes nothing.
+use mathlib.Core.Path.{_≡_, refl, sym, ap, _∙_}
+use mathlib.Core.Bool.{Bool, true, false, cond}
+use mathlib.Core.List.{List, [], _∷_}
+use Prim.Native.Nat.{ℕ, suc, _+_}
+use native.Mathlib.Omega.{arith}
+use lib.IntN.{pos}
+use lib.ListN.{drop}
+use lib.Ieee.{Float, binary64, mul, ofInt}
+use Rattle.tables.specs.Tables.{energyAt}
+use Rattle.history.specs.Set.{History, counted, listed}
+use Rattle.blocks.specs.declared.Totals.{Totals}
+use Rattle.blocks.specs.Totals.{onTopOf, withBlocks, binsFrom}
+use Rattle.blocks.specs.Start.{startBin, counts}
+use Rattle.sums.proofs.Looking.{same}
+use Rattle.kept.specs.Kept.{keptFrom}
+use Rattle.gate.specs.Gate.{gatedOf}
+
+module _ (before : ℕ) where
+  -- so many blocks came before
+  abbrev after : Totals → Totals
+  after totals = record { count = before + totals .count; sum = totals .sum }
+
+  after-blocks : (totals : Totals) (blocks : ℕ) (energy : Float) → withBlocks (after totals) blocks energy ≡ after (withBlocks totals blocks energy)
+  after-blocks totals blocks energy = same (omega arith) refl
+
+  bins-after : (totals : Totals) (bin : ℕ) (l : List ℕ) → binsFrom (after totals) bin l ≡ after (binsFrom totals bin l)
+  unfolding binsFrom
+  bins-after totals bin [] = refl
+  bins-after totals bin (blocks ∷ l) =
+      let energy = mul binary64 (ofInt binary64 (pos blocks)) (energyAt bin) in
+      ap (λ (t : Totals). binsFrom t (suc bin) l) (after-blocks totals blocks energy) ∙ bins-after (withBlocks totals blocks energy) (suc bin) l
+
+  kept-after : (threshold : Float) (totals : Totals) (l : List Float) → keptFrom threshold (after totals) l ≡ after (keptFrom threshold totals l)
+  unfolding keptFrom
+  kept-after threshold totals [] = refl
+  kept-after threshold totals (energy ∷ rest) =
+      go (counts threshold energy)
+      (ap (λ (t : Totals). keptFrom threshold t rest) (after-blocks totals 1 energy) ∙ kept-after threshold (withBlocks totals 1 energy) rest)
+      (kept-after threshold totals rest)
+    where
+      go : (b : Bool) → keptFrom threshold (withBlocks (after totals) 1 energy) rest ≡ after (keptFrom threshold (withBlocks totals 1 energy) rest)
+          → keptFrom threshold (after totals) rest ≡ after (keptFrom threshold totals rest)
+          → keptFrom threshold (cond b (withBlocks (after totals) 1 energy) (after totals)) rest ≡ after (keptFrom threshold (cond b (withBlocks totals 1 energy) totals) rest)
+      go true kept passed = kept
+      go false kept passed = passed
+
+  gated-after : (threshold : Float) (totals : Totals) (history : History) → gatedOf threshold (after totals) history ≡ after (gatedOf threshold totals history)
+  gated-after threshold totals (counted counters) = bins-after totals (startBin threshold) (drop (startBin threshold) counters)
+  gated-after threshold totals (listed energies) = kept-after threshold totals energies
+
+pub gated-on : (threshold : Float) (totals : Totals) (history : History) (gated : Totals) → gated ≡ gatedOf threshold (onTopOf (totals .sum)) history
+    → _≡_ {A = Totals} (record { count = totals .count + gated .count; sum = gated .sum }) (gatedOf threshold totals history)
+gated-on threshold totals history gated e =
+    ap (after (totals .count)) e
+    ∙ sym (gated-after (totals .count) threshold (onTopOf (totals .sum)) history)
+    ∙ ap (λ (n : ℕ). gatedOf threshold (record { count = n; sum = totals .sum }) history) {x = totals .count + 0} {y = totals .count} (omega arith)

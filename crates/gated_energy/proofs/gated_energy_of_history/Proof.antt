@@ -1,0 +1,24 @@
+-- `gated_energy::gated_energy_of_history` meets its contract: the mean of what the gate of the history answers, or the same refusal. Assumes nothing.
+use mathlib.Core.Path.{_∙_}
+use borrow.Author.Needs.{needs}
+use denote.Ref.{now}
+use Rattle.sums.specs.Sums.{alone}
+use Rattle.gate.specs.Gate.{gateOf, said}
+use Rattle.gated_energy.proofs.Means.{mean-said}
+use Rattle.gated_energy.proofs.gated_energy_of_history.Statement.{statement}
+use Rattle.gated_energy.proofs.gated_energy_of_history.Tie as tie
+
+gate-of-history-requires : tie.Need-gate-of-history-requires
+gate-of-history-requires c κs = search needs
+
+mean-of-requires : tie.Need-mean-of-requires
+mean-of-requires c κs = search needs
+
+returns : tie.Need-returns
+returns c =
+    let gated = c .before .gate-of-history in
+    let a = c .before .before .before .before .args in
+    c .mean-of .ensures ∙ mean-said (gateOf (alone (a .entry) (now (a .counters)) (now (a .energies)))) (said (gated .result)) (gated .ensures)
+
+pub gated-energy-of-history-spec : {M : Type 1} → statement M
+gated-energy-of-history-spec = tie.close (tie.spec gate-of-history-requires mean-of-requires returns)

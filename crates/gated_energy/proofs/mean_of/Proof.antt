@@ -1,0 +1,33 @@
+-- `gated_energy::mean_of` meets its contract, case by case. Assumes nothing.
+use mathlib.Core.Path.{sym, ap, _∙_}
+use borrow.Author.Needs.{needs}
+use lib.Ieee.{Float, binary64, div}
+use Rattle.refusals.specs.Outcome.{Said, says}
+use Rattle.gate.specs.declared.Gated.{Gated}
+use Rattle.gate.specs.Gate.{said}
+use Rattle.gated_energy.specs.GatedEnergy.{meanSaid}
+use Rattle.gated_energy.proofs.mean_of.Statement.{statement}
+use Rattle.gated_energy.proofs.mean_of.Tie as tie
+
+enum-known-gated : tie.Need-enum-known-gated
+enum-known-gated c = search needs
+
+nearest-u64-to-f64-requires : tie.Need-nearest-u64-to-f64-requires
+nearest-u64-to-f64-requires c κs = search needs
+
+enum-known-gated-2 : tie.Need-enum-known-gated-2
+enum-known-gated-2 c = search needs
+
+returns : tie.Need-returns
+returns c =
+    let g = c .before .before in
+    ap {B = Said Float} (λ (x : Float). says (div binary64 (g .gated .given .0 .1 .0) x)) (c .nearest-u64-to-f64 .ensures)
+    ∙ sym (ap (λ (gated : Gated). meanSaid (said gated)) (g .gated .given .1))
+
+returns-2 : tie.Need-returns-2
+returns-2 c = sym (ap (λ (gated : Gated). meanSaid (said gated)) (c .before .gated2 .given .1))
+
+pub mean-of-spec : {M : Type 1} → statement M
+mean-of-spec =
+    tie.close
+    (tie.spec enum-known-gated nearest-u64-to-f64-requires enum-known-gated-2 returns returns-2)

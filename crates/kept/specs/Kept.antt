@@ -1,0 +1,39 @@
+-- What a queue keeps at a gate (01, step 8): "Queue energies count if not below the threshold."
+use Prim.Native.Nat.{ℕ, _+_}
+use mathlib.Core.Bool.{Bool, not, _&&_, cond}
+use mathlib.Core.List.{List, [], _∷_}
+use lib.Dec.{ltb}
+use lib.ListN.{length}
+use lib.Ieee.{Float}
+use Rattle.queue.specs.declared.Queue.{Queue}
+use Rattle.queue.specs.Queue.{suits, heldOf}
+use Rattle.history.specs.Set.{queueAt}
+use Rattle.blocks.specs.declared.Totals.{Totals}
+use Rattle.blocks.specs.Totals.{onTopOf, none, withBlocks}
+use Rattle.blocks.specs.Start.{counts}
+
+-- energies one after the other, each that counts a block
+unfoldable pub keptFrom : Float → Totals → List Float → Totals
+keptFrom threshold totals [] = totals
+keptFrom threshold totals (energy ∷ rest) = keptFrom threshold (cond (counts threshold energy) (withBlocks totals 1 energy) totals) rest
+
+-- ---- the same with none passed over: an energy below the threshold adds 0. On a sum that 0 leaves as it is this is `keptFrom` (proofs/Keeping.antt)
+abbrev pub energyKept : Float → Float → Float
+energyKept threshold energy = cond (counts threshold energy) energy (none .sum)
+
+abbrev pub blocksKept : Float → Float → ℕ
+blocksKept threshold energy = cond (counts threshold energy) 1 0
+
+unfoldable pub addedFrom : Float → Totals → List Float → Totals
+addedFrom threshold totals [] = totals
+addedFrom threshold totals (energy ∷ rest) = addedFrom threshold (withBlocks totals (blocksKept threshold energy) (energyKept threshold energy)) rest
+
+-- ---- a queue whose store starts at a place
+-- whether the store suits it and ends within so many places
+abbrev pub stands : Queue → ℕ → ℕ → Bool
+stands queue start places = not (ltb places (start + queue .maximum)) && suits queue (queue .maximum)
+
+-- what it keeps, on top of a running sum
+unfoldable pub ofQueue : Float → Float → List Float → ℕ → Queue → Totals
+ofQueue threshold sum energies start queue =
+    cond (stands queue start (length energies)) (addedFrom threshold (onTopOf sum) (heldOf (queueAt energies start queue))) (onTopOf sum)

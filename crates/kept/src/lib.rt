@@ -1,0 +1,76 @@
+// What a queue keeps at a gate: the energies that are not below the threshold.
+use blocks::Totals;
+use queue::Queue;
+ghost use mathlib.Core.Path.{_≡_};
+ghost use Prim.Native.Nat.{_+_, _-_, _≤_};
+ghost use lib.ListN.{length, take, drop};
+ghost use Rattle.queue.specs.Queue.{longest};
+ghost use Rattle.kept.specs.Kept.{energyKept, blocksKept, addedFrom, stands, ofQueue};
+
+// What an energy adds to the sum of those kept: itself, or 0 below the threshold.
+fn kept_energy(energy: f64, threshold: f64) -> f64
+    ensures { λ r. ⌜ r ≡ energyKept threshold energy ⌝ }
+{
+    if !(energy < threshold) {
+        return energy;
+    }
+    0.0
+}
+
+// And to their number.
+fn kept_blocks(energy: f64, threshold: f64) -> u64
+    ensures { λ r. ⌜ r ≡ blocksKept threshold energy ⌝ }
+{
+    if energy < threshold {
+        return 0;
+    }
+    1
+}
+
+// What the energies from a place up to another add to running totals. No turn branches on what they are.
+fn kept_from(totals: Totals, energies: &[f64], from: usize, until: usize, threshold: f64) -> Totals
+    requires { ⌜ (from ≤ until) × (until ≤ length (now energies)) × (totals .count + (until - from) ≤ longest) ⌝ }
+    ensures { λ r. ⌜ (r ≡ addedFrom threshold totals (take (until - from) (drop from (now (energies .entry))))) × (r .count ≤ totals .count + (until - from)) ⌝ }
+{
+    let mut count = totals.count;
+    let mut sum = totals.sum;
+    let mut i = from;
+    while i < until {
+        let energy = energies[i];
+        sum = sum + kept_energy(energy, threshold);
+        count = count + kept_blocks(energy, threshold);
+        i += 1;
+    }
+    Totals { count, sum }
+}
+
+// Whether the queue suits its store, which starts at a place and ends within so many.
+fn stands(queue: Queue, start: usize, places: usize) -> bool
+    ensures { λ r. ⌜ r ≡ stands queue start places ⌝ }
+{
+    if places < start {
+        return false;
+    }
+    if places - start < queue.maximum {
+        return false;
+    }
+    queue.suits(queue.maximum)
+}
+
+// What the queue keeps whose store starts at a place: how many of its energies, and these on top of a running sum, oldest first.
+// Where the store does not suit the queue or ends outside the energies, there is no block.
+pub fn of_queue(sum: f64, energies: &[f64], start: usize, queue: Queue, threshold: f64) -> Totals
+    ensures { λ r. ⌜ r ≡ ofQueue threshold sum (now (energies .entry)) start queue ⌝ }
+{
+    let head = queue.head;
+    let held = queue.held;
+    if stands(queue, start, energies.len()) {
+        let first = queue.first_part();
+        let from = start + head;
+        let until = from + first;
+        let end = start + (held - first);
+        let older = kept_from(Totals { count: 0, sum }, energies, from, until, threshold);
+        return kept_from(older, energies, start, end, threshold);
+    }
+    Totals { count: 0, sum }
+}
