@@ -10,8 +10,9 @@ use Rattle.calls.specs.Check.{passes, fails, then, unless}
 use Rattle.calls.specs.Calls.{wrongChannels, wrongSamples, wrongMap, wrongDest, checkFrames, checkMap, checkDest}
 use Rattle.filter_process.specs.Process.{processCheck, processed}
 use Rattle.filter_seed.specs.Seed.{seedCheck, seeded}
-use Rattle.true_peak.specs.declared.TruePeak.{TruePeak}
-use Rattle.true_peak.specs.TruePeak.{Block, measured, unlessRefused, processed as peakProcessed, seeded as peakSeeded}
+use Rattle.true_peak_state.specs.declared.TruePeak.{TruePeak}
+use Rattle.true_peak_state.specs.TruePeak.{Block, measured}
+use Rattle.true_peak.specs.TruePeak.{unlessRefused, processed as peakProcessed, seeded as peakSeeded}
 use Rattle.interp.specs.Interp.{kindOf}
 use Rattle.acceptance_refusals.specs.Rows.{RefusedBy}
 use Rattle.acceptance_refusals.proofs.Rows.{downRows, by-rows}

@@ -11,8 +11,9 @@ use Rattle.filter.specs.Call.{Call, Kept}
 use Rattle.calls.specs.Calls.{wrongChannels, wrongSamples, wrongMap, wrongDest}
 use Rattle.filter_process.specs.Process.{processed}
 use Rattle.filter_seed.specs.Seed.{seeded}
-use Rattle.true_peak.specs.declared.TruePeak.{TruePeak}
-use Rattle.true_peak.specs.TruePeak.{Block, processed as peakProcessed, seeded as peakSeeded}
+use Rattle.true_peak_state.specs.declared.TruePeak.{TruePeak}
+use Rattle.true_peak_state.specs.TruePeak.{Block}
+use Rattle.true_peak.specs.TruePeak.{processed as peakProcessed, seeded as peakSeeded}
 use Rattle.acceptance_refusals.specs.Rows.{Row, row, RefusedBy}
 use Rattle.acceptance_outcomes.specs.Fixed.{Fixes}
 

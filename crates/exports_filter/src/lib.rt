@@ -12,7 +12,7 @@ use filter::Switches;
 use recurrence::Coefficients;
 use sample_peak::Peaks;
 use states::State;
-use true_peak::TruePeak;
+use true_peak_state::TruePeak;
 
 fn switches_of(on: u8) -> Switches
     ensures { λ r. ⌜ r ≡ switchesOf on ⌝ }

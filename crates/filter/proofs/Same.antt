@@ -2,7 +2,7 @@
 use mathlib.Core.Path.{_≡_, ap, _∙_}
 use Rattle.states.specs.declared.State.{State}
 use Rattle.sample_peak.specs.declared.Peaks.{Peaks}
-use Rattle.true_peak.specs.declared.TruePeak.{TruePeak}
+use Rattle.true_peak_state.specs.declared.TruePeak.{TruePeak}
 use Rattle.filter.specs.declared.Filter.{Filter}
 use Rattle.filter.specs.Filter.{moved}
 

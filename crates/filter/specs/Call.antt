@@ -6,7 +6,7 @@ use lib.Ieee.{Float}
 use Rattle.refusals.specs.Outcome.{Outcome, keptBy, NoValues}
 use Rattle.states.specs.declared.State.{State}
 use Rattle.states.specs.Channels as recurrence
-use Rattle.true_peak.specs.TruePeak.{Block}
+use Rattle.true_peak_state.specs.TruePeak.{Block}
 use Rattle.filter.specs.declared.Filter.{Filter}
 
 -- `samples` are the floats that the interleaved samples become. A seed call has no destination.

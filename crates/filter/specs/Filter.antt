@@ -11,8 +11,8 @@ use Rattle.recurrence.specs.declared.Coefficients.{Coefficients}
 use Rattle.states.specs.declared.State.{State}
 use Rattle.states.specs.Channels.{statePlaces}
 use Rattle.sample_peak.specs.declared.Peaks.{Peaks}
-use Rattle.true_peak.specs.declared.TruePeak.{TruePeak}
-use Rattle.true_peak.specs.TruePeak.{silent}
+use Rattle.true_peak_state.specs.declared.TruePeak.{TruePeak}
+use Rattle.true_peak_state.specs.TruePeak.{silent}
 use Rattle.filter.specs.declared.Switches.{Switches}
 use Rattle.filter.specs.declared.Filter.{Filter}
 

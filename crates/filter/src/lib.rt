@@ -2,12 +2,12 @@
 ghost use mathlib.Core.Path.{_≡_};
 ghost use lib.ListN.{getD};
 ghost use Rattle.samples.specs.Frames.{silence};
-ghost use Rattle.true_peak.specs.TruePeak.{silent};
+ghost use Rattle.true_peak_state.specs.TruePeak.{silent};
 ghost use Rattle.filter.specs.Filter.{atRest, noPeaks, resting, moved, peakOf};
 use recurrence::Coefficients;
 use sample_peak::Peaks;
 use states::State;
-use true_peak::TruePeak;
+use true_peak_state::TruePeak;
 
 // What a call works out. What is off alters nothing.
 pub struct Switches {

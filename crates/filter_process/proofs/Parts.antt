@@ -14,7 +14,8 @@ use Rattle.weighting.specs.Weighting as weighting
 use Rattle.sample_peak.specs.declared.Peaks.{Peaks}
 use Rattle.sample_peak.specs.Peak.{peaksAfter, raised}
 use Rattle.interp.specs.Interp.{kindOf}
-use Rattle.true_peak.specs.declared.TruePeak.{TruePeak}
+use Rattle.true_peak_state.specs.declared.TruePeak.{TruePeak}
+use Rattle.true_peak_state.specs.TruePeak.{Block, measured}
 use Rattle.true_peak.specs.TruePeak as trues
 use Rattle.filter.specs.Call.{Call}
 use Rattle.filter_process.specs.Process.{processCheck}
@@ -32,9 +33,9 @@ pub peaks-are : (on : Bool) (channels : ℕ) (samples : List Float) (stored : Pe
 unfolding raised
 peaks-are on channels samples stored e = ap (λ (k : Check). cond on (keptBy stored (unless k (went (record { values = peaksAfter channels samples (stored .values) }) done))) stored) e
 
-module _ (on : Bool) (rate : ℕ) (b : trues.Block) (t : TruePeak) (e : checkFrames (b .channels) (length (b .samples)) ≡ passes) where
-  pub trues-are : cond on (keptBy t (trues.processed rate b t)) t ≡ cond on (trues.measured (kindOf rate) b t) t
-  trues-are = ap (λ (k : Check). cond on (keptBy t (unless k (went (trues.measured (kindOf rate) b t) done))) t) e
+module _ (on : Bool) (rate : ℕ) (b : Block) (t : TruePeak) (e : checkFrames (b .channels) (length (b .samples)) ≡ passes) where
+  pub trues-are : cond on (keptBy t (trues.processed rate b t)) t ≡ cond on (measured (kindOf rate) b t) t
+  trues-are = ap (λ (k : Check). cond on (keptBy t (unless k (went (measured (kindOf rate) b t) done))) t) e
 
 -- ---- the weighting
 

@@ -11,8 +11,8 @@ use Rattle.weighting.specs.Weighting.{destAfter}
 use Rattle.sample_peak.specs.declared.Peaks.{Peaks}
 use Rattle.sample_peak.specs.Peak.{peaksAfter}
 use Rattle.interp.specs.Interp.{kindOf}
-use Rattle.true_peak.specs.declared.TruePeak.{TruePeak}
-use Rattle.true_peak.specs.TruePeak.{measured}
+use Rattle.true_peak_state.specs.declared.TruePeak.{TruePeak}
+use Rattle.true_peak_state.specs.TruePeak.{measured}
 use Rattle.filter.specs.Filter.{moved}
 use Rattle.filter.specs.Call.{Call, Kept, weighing, hearing, weighedState}
 

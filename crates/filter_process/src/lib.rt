@@ -17,7 +17,7 @@ use recurrence::Coefficients;
 use refusals::Answer;
 use sample_peak::Peaks;
 use states::State;
-use true_peak::TruePeak;
+use true_peak_state::TruePeak;
 
 // The sample peaks after the call, or the stored ones where the sample peak is off.
 fn raise(on: bool, stored: Peaks, channels: usize, ints: &[i16], floats: &[f32]) -> Peaks

@@ -6,8 +6,8 @@ use Rattle.refusals.specs.Outcome.{Outcome, went, NoValues, done}
 use Rattle.calls.specs.Check.{Check, unless}
 use Rattle.calls.specs.Calls.{checkSeed}
 use Rattle.interp.specs.Interp.{kindOf}
-use Rattle.true_peak.specs.declared.TruePeak.{TruePeak}
-use Rattle.true_peak.specs.TruePeak.{measured}
+use Rattle.true_peak_state.specs.declared.TruePeak.{TruePeak}
+use Rattle.true_peak_state.specs.TruePeak.{measured}
 use Rattle.filter.specs.Filter.{moved}
 use Rattle.filter.specs.Call.{Call, Kept, hearing, weighedState}
 

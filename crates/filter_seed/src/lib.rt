@@ -15,7 +15,7 @@ use filter::Filtered;
 use recurrence::Coefficients;
 use refusals::Answer;
 use states::State;
-use true_peak::TruePeak;
+use true_peak_state::TruePeak;
 
 // The interpolator's memory after the call, and its peaks as they are; or all as it is where the true peak is off.
 fn remember(

@@ -9,7 +9,7 @@ use native.Mathlib.Omega.{arith}
 use lib.Dec.{T}
 use lib.ListN.{length, getD}
 use lib.Ieee.{Float, nan, lt}
-use Rattle.floats.proofs.Larger.{right-number, beaten, Over, over-self, larger-old, over-larger, Reached, reached-larger, beats-through}
+use Rattle.floats.proofs.Larger.{right-number, beaten, Over, larger-old, over-larger, Reached, reached-larger, beats-through}
 use Rattle.largest_phase.specs.Largest.{magnitude, louder, loudest}
 use Rattle.largest_phase.specs.Line.{back, scanned, loudestOf}
 

@@ -1,13 +1,13 @@
 // The largest absolute phase over the frames of a line: what the true peak is made of.
 ghost use mathlib.Core.Path.{_≡_};
 ghost use Prim.Native.Nat.{ℕ, _+_, _*_, _<_, _≤_, min};
-ghost use lib.ListN.{length, getD};
+ghost use lib.ListN.{length, getD, set};
 ghost use lib.Ieee.{nan};
 ghost use Rattle.interp.specs.Interp.{fourfold, twofold};
 ghost use Rattle.interp.specs.Phase.{four, two, phasesBy};
 ghost use Rattle.largest_phase.specs.Largest.{magnitude, louder, loudest};
 ghost use Rattle.largest_phase.specs.Line.{block, quarter, back, scanned, loudestOf, Louds, Raised, Pairs};
-ghost use Rattle.largest_phase.specs.Taps.{onFour, fourAt, tapFour, onPair, tapPair};
+ghost use Rattle.largest_phase.specs.Taps.{windows, onFour, fourAt, tapFour, onPair, tapPair};
 use interp::Four;
 use interp::Interp;
 use interp::Two;
@@ -66,10 +66,12 @@ fn loudest_two(peak: f32, p: Two) -> f32
     raised(a, p.p1)
 }
 
-// A frame's four sums carried on by a sample: product and sum are rounded each by itself.
-fn on_four(s: Four, x: f32, c: Four) -> Four
-    ensures { λ r. ⌜ r ≡ onFour s x c ⌝ }
+// A frame's four sums carried on by a sample of its window: product and sum are rounded each by itself.
+fn on_four(s: Four, line: &[f32; LINE], at: usize, place: usize, c: Four) -> Four
+    requires { ⌜ (at < block) × (place < 24) ⌝ }
+    ensures { λ r. ⌜ r ≡ onFour s (getD (now (line .entry)) (at + place) nan) c ⌝ }
 {
+    let x = line[at + place];
     Four {
         p0: s.p0 + x * c.p0,
         p1: s.p1 + x * c.p1,
@@ -113,14 +115,14 @@ fn tap_four(
 ) -> Fours
     requires { ⌜ (j + 3 < 48) × (place < 24) ⌝ }
     requires { ⌜ (a < block) × ((b < block) × ((c < block) × (d < block))) ⌝ }
-    ensures { λ r. ⌜ r ≡ tapFour (now (taps .entry)) j (now (line .entry)) place a b c d e ⌝ }
+    ensures { λ r. ⌜ r ≡ tapFour (now (taps .entry)) (now (line .entry)) (windows a b c d) j place e ⌝ }
 {
     let t = four_at(taps, j);
     Fours {
-        a: on_four(e.a, line[a + place], t),
-        b: on_four(e.b, line[b + place], t),
-        c: on_four(e.c, line[c + place], t),
-        d: on_four(e.d, line[d + place], t),
+        a: on_four(e.a, line, a, place, t),
+        b: on_four(e.b, line, b, place, t),
+        c: on_four(e.c, line, c, place, t),
+        d: on_four(e.d, line, d, place, t),
     }
 }
 
@@ -165,6 +167,14 @@ fn each_four(
     tap_four(taps, 44, line, 12, a, b, c, d, e10)
 }
 
+// What a frame's phases make of the peak, in the frame's place.
+fn store_four(loud: &mut [f32; BLOCK], at: usize, peak: f32, p: Four)
+    requires { ⌜ at < block ⌝ }
+    ensures { λ _. ⌜ now (loud .exit) ≡ set (now (loud .entry)) at (loudest peak (four p)) ⌝ }
+{
+    loud[at] = loudest_four(peak, p);
+}
+
 // Every frame of a line raises the peak by itself, by factor 4: a frame of each of four runs at a time.
 fn frames_fourfold(
     taps: &[f32; Interp::COEFFICIENTS],
@@ -183,22 +193,21 @@ fn frames_fourfold(
         let third = second + run;
         let fourth = third + run;
         let e = each_four(taps, line, at, second, third, fourth);
-        let a = e.a;
-        loud[at] = loudest_four(peak, a);
-        let b = e.b;
-        loud[second] = loudest_four(peak, b);
-        let c = e.c;
-        loud[third] = loudest_four(peak, c);
-        let d = e.d;
-        loud[fourth] = loudest_four(peak, d);
+        store_four(loud, at, peak, e.a);
+        store_four(loud, second, peak, e.b);
+        store_four(loud, third, peak, e.c);
+        store_four(loud, fourth, peak, e.d);
         at += 1;
     }
 }
 
-// A frame's two sums carried on by two samples.
-fn on_pair(s: Two, x: f32, y: f32, c: Four) -> Two
-    ensures { λ r. ⌜ r ≡ onPair s x y c ⌝ }
+// A frame's two sums carried on by two samples of its window.
+fn on_pair(s: Two, line: &[f32; LINE], at: usize, newer: usize, older: usize, c: Four) -> Two
+    requires { ⌜ (at < block) × ((newer < 24) × (older < 24)) ⌝ }
+    ensures { λ r. ⌜ r ≡ onPair s (getD (now (line .entry)) (at + newer) nan) (getD (now (line .entry)) (at + older) nan) c ⌝ }
 {
+    let x = line[at + newer];
+    let y = line[at + older];
     Two {
         p0: s.p0 + x * c.p0 + y * c.p2,
         p1: s.p1 + x * c.p1 + y * c.p3,
@@ -228,14 +237,14 @@ fn tap_pair(
 ) -> Twos
     requires { ⌜ (j + 3 < 48) × ((newer < 24) × (older < 24)) ⌝ }
     requires { ⌜ (a < block) × ((b < block) × ((c < block) × (d < block))) ⌝ }
-    ensures { λ r. ⌜ r ≡ tapPair (now (taps .entry)) j (now (line .entry)) newer older a b c d e ⌝ }
+    ensures { λ r. ⌜ r ≡ tapPair (now (taps .entry)) (now (line .entry)) (windows a b c d) j newer older e ⌝ }
 {
     let t = four_at(taps, j);
     Twos {
-        a: on_pair(e.a, line[a + newer], line[a + older], t),
-        b: on_pair(e.b, line[b + newer], line[b + older], t),
-        c: on_pair(e.c, line[c + newer], line[c + older], t),
-        d: on_pair(e.d, line[d + newer], line[d + older], t),
+        a: on_pair(e.a, line, a, newer, older, t),
+        b: on_pair(e.b, line, b, newer, older, t),
+        c: on_pair(e.c, line, c, newer, older, t),
+        d: on_pair(e.d, line, d, newer, older, t),
     }
 }
 
@@ -275,6 +284,14 @@ fn each_two(
     tap_pair(taps, 44, line, 1, 0, a, b, c, d, e10)
 }
 
+// What a frame's phases make of the peak, in the frame's place.
+fn store_two(loud: &mut [f32; BLOCK], at: usize, peak: f32, p: Two)
+    requires { ⌜ at < block ⌝ }
+    ensures { λ _. ⌜ now (loud .exit) ≡ set (now (loud .entry)) at (loudest peak (two p)) ⌝ }
+{
+    loud[at] = loudest_two(peak, p);
+}
+
 // Every frame of a line raises the peak by itself, by factor 2: a frame of each of four runs at a time.
 fn frames_twofold(
     taps: &[f32; Interp::COEFFICIENTS],
@@ -293,14 +310,10 @@ fn frames_twofold(
         let third = second + run;
         let fourth = third + run;
         let e = each_two(taps, line, at, second, third, fourth);
-        let a = e.a;
-        loud[at] = loudest_two(peak, a);
-        let b = e.b;
-        loud[second] = loudest_two(peak, b);
-        let c = e.c;
-        loud[third] = loudest_two(peak, c);
-        let d = e.d;
-        loud[fourth] = loudest_two(peak, d);
+        store_two(loud, at, peak, e.a);
+        store_two(loud, second, peak, e.b);
+        store_two(loud, third, peak, e.c);
+        store_two(loud, fourth, peak, e.d);
         at += 1;
     }
 }
@@ -331,6 +344,13 @@ fn neighbours(loud: &[f32], larger: &mut [f32])
     }
 }
 
+fn louder_at(peak: f32, loud: &[f32; QUARTER], k: usize) -> f32
+    requires { ⌜ k < quarter ⌝ }
+    ensures { λ r. ⌜ r ≡ louder peak (getD (now (loud .entry)) k nan) ⌝ }
+{
+    louder(peak, loud[k])
+}
+
 // The largest of a few values and the peak, the quarters side by side.
 fn loudest_few(loud: &[f32; QUARTER], peak: f32) -> f32
     ensures { λ r. ⌜ r ≡ loudestOf (now (loud .entry)) 0 quarter peak ⌝ }
@@ -341,10 +361,10 @@ fn loudest_few(loud: &[f32; QUARTER], peak: f32) -> f32
     let mut d = peak;
     let mut k = 0;
     while k < SECOND {
-        a = louder(a, loud[k]);
-        b = louder(b, loud[SECOND + k]);
-        c = louder(c, loud[THIRD + k]);
-        d = louder(d, loud[FOURTH + k]);
+        a = louder_at(a, loud, k);
+        b = louder_at(b, loud, SECOND + k);
+        c = louder_at(c, loud, THIRD + k);
+        d = louder_at(d, loud, FOURTH + k);
         k += 1;
     }
     louder(louder(louder(a, b), c), d)

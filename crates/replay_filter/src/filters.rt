@@ -7,7 +7,7 @@ use recurrence::Coefficients;
 use refusals::Answer;
 use sample_peak::Peaks;
 use states::State;
-use true_peak::TruePeak;
+use true_peak_state::TruePeak;
 
 // 0, or the refusal's number.
 fn number_of(answer: Answer) -> u64 {

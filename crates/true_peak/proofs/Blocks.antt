@@ -1,24 +1,20 @@
 -- A channel's samples taken block by block: the blocks one after another are the whole, so hearing the first block and then the rest is hearing all. Assumes nothing.
-use mathlib.Core.Path.{_≡_, refl, sym, ap, _∙_, subst}
-use mathlib.Core.List.{List, [], _∷_, _++_}
-use Prim.Native.Nat.{ℕ, zero, suc, _+_, _*_, _-_, _≤_}
-use native.Mathlib.Nat.{suc-mul, zero-mul, add-mul}
+use mathlib.Core.Path.{_≡_, sym, ap, _∙_, subst}
+use mathlib.Core.List.{List}
+use Prim.Native.Nat.{ℕ, _+_, _*_, _-_, _≤_}
+use native.Mathlib.Nat.{add-mul}
 use native.Mathlib.Omega.{arith}
-use lib.ListN.{length, getD}
+use lib.ListN.{length}
 use lib.Seq.{sets, length-sets}
-use lib.Ieee.{Float, nan}
+use lib.Ieee.{Float}
 use Rattle.interp.specs.declared.Interp.{Interp}
 use Rattle.interp.specs.Phase.{phases}
-use Rattle.true_peak.specs.Channel.{Channel, channel, hear, heard, past}
+use Rattle.true_peak_state.specs.Channel.{Channel, channel, heard, past}
 use Rattle.largest_phase.specs.Line.{back, scanned}
 use Rattle.samples.specs.Frames.{column}
 use Rattle.samples.proofs.Columns.{length-column, column-append}
+use Rattle.true_peak_state.proofs.Cuts.{heard-append}
 use Rattle.true_peak.proofs.Lines.{heard-stored}
-
-pub heard-append : (i : Interp) (ch : Channel) (xs ys : List Float) → heard i ch (xs ++ ys) ≡ heard i (heard i ch xs) ys
-unfolding heard
-heard-append i ch [] ys = refl
-heard-append i ch (x ∷ xs) ys = heard-append i (hear i ch x) xs ys
 
 -- one block of n samples: the line with it stored, scanned, and carried
 pub block-heard : (i : Interp) (samples old stored new : List Float) (at step n : ℕ) (peak loud : Float)

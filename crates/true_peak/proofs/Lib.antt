@@ -1,6 +1,2 @@
 pub mod Lines
 pub mod Blocks
-pub mod Channels
-pub mod Independence
-pub mod Cuts
-pub mod Worked

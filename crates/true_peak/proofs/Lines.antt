@@ -2,21 +2,22 @@
 -- The window of the next frame is this one's without its oldest sample and with one newer. Assumes nothing.
 use mathlib.Core.Path.{_≡_, refl, sym, ap, _∙_, subst}
 use mathlib.Core.Logic.{_⊎_, inl, inr}
-use mathlib.Core.List.{List, [], _∷_, _++_}
+use mathlib.Core.List.{List, [], _∷_}
 use Prim.Native.Nat.{ℕ, zero, suc, _+_, _*_, _-_, _≤_, _<_}
 use native.Mathlib.Nat.{not-suc-le-zero, le-of-suc-le-suc, suc-mul, add-zero, eq-or-lt-of-le}
 use native.Mathlib.Omega.{arith}
-use lib.ListN.{length, getD, take, drop, set, length-take, length-drop, length-set}
+use lib.ListN.{length, getD, take, drop, set, length-take, length-drop}
 use lib.Seq.{sets, ext-getD, getD-take, getD-drop, getD-set-other, getD-set-same}
 use lib.Ieee.{Float, nan}
 use Rattle.interp.specs.declared.Interp.{Interp}
 use Rattle.interp.specs.Phase.{phases}
-use Rattle.true_peak.specs.Channel.{Channel, hear, heard, past}
+use Rattle.true_peak_state.specs.Channel.{Channel, hear, heard, past}
 use Rattle.largest_phase.specs.Largest.{loudest}
 use Rattle.largest_phase.specs.Line.{back, scanned}
 use Rattle.samples.specs.Frames.{silence, column}
 use Rattle.samples.proofs.Columns.{within}
-use Rattle.true_peak.specs.TruePeak.{historyAt}
+use Rattle.true_peak_state.specs.TruePeak.{historyAt}
+use Rattle.true_peak_state.proofs.Stores.{sets-before, sets-at}
 
 -- ---- runs of a line
 -- two lines that agree at m places have the same run there
@@ -57,29 +58,6 @@ heard-line i l (x ∷ xs) at peak h =
     ∙ ap (λ (ch : Channel). heard i ch xs) (hear-line i l at peak)
     ∙ heard-line i l xs (suc at) (loudest peak (phases i (back l at 24))) later
     ∙ ap (λ (p : ℕ). record { history = back l p past; peak = scanned (phases i) l (suc at) (length xs) (loudest peak (phases i (back l at 24))) }) f
-
--- ---- a run of stores
-pub sets-before : (vs l : List Float) (i p : ℕ) → p < i → getD (sets l i vs) p nan ≡ getD l p nan
-sets-before [] l i p h = refl
-sets-before (v ∷ vs) l i p h =
-    sets-before vs (set l i v) (suc i) p (omega arith) ∙ getD-set-other l i p v nan (λ e. omega arith)
-
-pub sets-at : (vs l : List Float) (i k : ℕ) → k < length vs → i + length vs ≤ length l → getD (sets l i vs) (i + k) nan ≡ getD vs k nan
-sets-at [] l i k h r = absurd (not-suc-le-zero h)
-sets-at (v ∷ vs) l i zero h r =
-    let e : i + 0 ≡ i = omega arith in
-    ap (λ (p : ℕ). getD (sets (set l i v) (suc i) vs) p nan) e
-    ∙ sets-before vs (set l i v) (suc i) i (omega arith)
-    ∙ getD-set-same l i v nan (omega arith)
-sets-at (v ∷ vs) l i (suc k) h r =
-    let e : i + suc k ≡ suc i + k = omega arith in
-    ap (λ (p : ℕ). getD (sets (set l i v) (suc i) vs) p nan) e
-    ∙ sets-at vs (set l i v) (suc i) k (le-of-suc-le-suc h) (simp length-set (omega arith))
-
-pub sets-after : (vs l : List Float) (i p : ℕ) → i + length vs ≤ p → getD (sets l i vs) p nan ≡ getD l p nan
-sets-after [] l i p h = refl
-sets-after (v ∷ vs) l i p h =
-    sets-after vs (set l i v) (suc i) p (omega arith) ∙ getD-set-other l i p v nan (λ e. omega arith)
 
 -- a line with samples stored after its history
 pub heard-stored : (i : Interp) (l xs : List Float) (peak : Float) → past + length xs ≤ length l

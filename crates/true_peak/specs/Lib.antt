@@ -1,3 +1,2 @@
-pub mod Channel
 pub mod Line
 pub mod TruePeak

@@ -1,6 +1,6 @@
 // True peak: the largest absolute phase of each channel, over interleaved samples.
 ghost use mathlib.Core.Path.{_≡_};
-ghost use Prim.Native.Nat.{ℕ, _+_, _*_, _<_, _≤_, _^_};
+ghost use Prim.Native.Nat.{_+_, _*_, _<_, _≤_, _^_};
 ghost use lib.ListN.{length};
 ghost use lib.Seq.{sets};
 ghost use Rattle.refusals.specs.Answer.{said};
@@ -8,41 +8,21 @@ ghost use Rattle.refusals.specs.Outcome.{saidBy, keptBy};
 ghost use Rattle.interp.specs.Interp.{upsampled, kindOf, Known};
 ghost use Rattle.interp.specs.Phase.{coefficients, phases};
 ghost use Rattle.largest_phase.specs.Line.{back, block, scanned};
-ghost use Rattle.true_peak.specs.Channel.{Channel, channel, heard, past};
+ghost use Rattle.true_peak_state.specs.Channel.{channel, heard, past};
 ghost use Rattle.true_peak.specs.Line.{room};
 ghost use Rattle.samples.specs.Frames.{column};
 ghost use Rattle.calls.specs.Calls.{mostChannels};
-ghost use Rattle.true_peak.specs.TruePeak.{Block, silent, historyAt, channelOf, withChannel, measured, processed, seeded};
+ghost use Rattle.true_peak_state.specs.TruePeak.{historyAt, channelOf, withChannel, measured};
+ghost use Rattle.true_peak.specs.TruePeak.{processed, seeded};
 use interp::Interp;
 use interp::Scan;
 use refusals::Answer;
-
-// The memory and the peaks of eight channels.
-pub struct TruePeak {
-    // Channel c's last 23 samples, newest first, from place c * 23 on.
-    pub memory: [f32; 184],
-    pub peaks: [f32; 8],
-}
+use true_peak_state::TruePeak;
 
 // What `process` and `seed` answer, beside the state.
 pub struct Measured {
     pub answer: Answer,
     pub state: TruePeak,
-}
-
-impl TruePeak {
-    // The samples before a frame's own that 24 taps reach.
-    pub const PAST: usize = Interp::TWOFOLD_TAPS - 1;
-
-    // Before the start: zeros.
-    pub fn new() -> TruePeak
-        ensures { λ r. ⌜ r ≡ silent ⌝ }
-    {
-        TruePeak {
-            memory: [0.0; 184],
-            peaks: [0.0; 8],
-        }
-    }
 }
 
 // By the interpolator that the rate has.

@@ -11,7 +11,7 @@ use lib.IntN.{ℤ}
 use lib.ListN.{length, getD, length-map, take, drop, length-drop, take-append-drop, drop-of-length-le}
 use lib.Seq.{sets, length-sets, length-take-le, drop-drop, ext-getD, getD-take}
 use lib.Ieee.{Float, nan}
-use Rattle.refusals.specs.Outcome.{keptBy, went, NoValues, done}
+use Rattle.refusals.specs.Outcome.{keptBy, went, done}
 use Rattle.samples.specs.Sample.{sampleOf16, samplesOf16, samplesOfF32}
 use Rattle.samples.specs.Frames.{column}
 use Rattle.calls.specs.Check.{Check, passes, unless}
@@ -19,11 +19,12 @@ use Rattle.calls.specs.Calls.{mostChannels, checkFrames}
 use Rattle.sources.proofs.Stores.{at-within}
 use Rattle.sources.proofs.ByKind.{rest-from}
 use Rattle.interp.specs.Interp.{Kind, upsampled, noTruePeak, kindOf}
-use Rattle.true_peak.specs.declared.TruePeak.{TruePeak}
-use Rattle.true_peak.specs.Channel.{Channel, heard}
-use Rattle.true_peak.specs.TruePeak.{Block, channelOf, channelSamples, measured, heardBy, processed}
-use Rattle.true_peak.proofs.Independence.{Sized, either, measured-sized, own-channel, other-channel, same-state}
-use Rattle.true_peak.proofs.Cuts.{cut}
+use Rattle.true_peak_state.specs.declared.TruePeak.{TruePeak}
+use Rattle.true_peak_state.specs.Channel.{Channel, heard}
+use Rattle.true_peak_state.specs.TruePeak.{Block, channelOf, channelSamples, measured, heardBy}
+use Rattle.true_peak.specs.TruePeak.{processed}
+use Rattle.true_peak_state.proofs.Independence.{Sized, either, measured-sized, own-channel, other-channel, same-state}
+use Rattle.true_peak_state.proofs.Cuts.{cut}
 use Rattle.true_peaks.specs.Blocks.{places}
 
 -- ---- no samples: nothing moves

@@ -1,21 +1,21 @@
 // The true peak of a call over samples of whatever kind: integers become f32 block by block, and floats are heard where they stand.
 ghost use mathlib.Core.Path.{_≡_};
-ghost use mathlib.Core.List.{map};
 ghost use Prim.Native.Nat.{_+_, _*_, _<_, _≤_};
 ghost use lib.ListN.{length, take, drop};
 ghost use Rattle.refusals.specs.Answer.{said};
 ghost use Rattle.refusals.specs.Outcome.{saidBy, keptBy};
-ghost use Rattle.samples.specs.Sample.{sampleOf16, samplesOf16};
+ghost use Rattle.samples.specs.Sample.{samplesOf16};
 ghost use Rattle.calls.specs.Check.{passes};
 ghost use Rattle.calls.specs.Calls.{mostChannels, checkFrames};
 ghost use Rattle.sources.specs.Source.{sourceOf};
 ghost use Rattle.interp.specs.Interp.{kindOf};
-ghost use Rattle.true_peak.specs.Channel.{past};
-ghost use Rattle.true_peak.specs.TruePeak.{measured, processed, seeded};
+ghost use Rattle.true_peak_state.specs.Channel.{past};
+ghost use Rattle.true_peak_state.specs.TruePeak.{measured};
+ghost use Rattle.true_peak.specs.TruePeak.{processed, seeded};
 ghost use Rattle.true_peaks.specs.Blocks.{places};
 use refusals::Answer;
 use true_peak::Measured;
-use true_peak::TruePeak;
+use true_peak_state::TruePeak;
 
 // The places of a block, and the frames that the interpolator takes at a time: a block is whole runs of them.
 const BLOCK: usize = 4096;

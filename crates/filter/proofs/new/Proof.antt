@@ -2,7 +2,7 @@
 use borrow.Author.Needs.{needs}
 use mathlib.Core.Path.{ap}
 use lib.Ieee.{ofBits}
-use Rattle.true_peak.specs.declared.TruePeak.{TruePeak}
+use Rattle.true_peak_state.specs.declared.TruePeak.{TruePeak}
 use Rattle.filter.specs.Filter.{atRest, noPeaks}
 use Rattle.filter.proofs.new.Statement.{statement}
 use Rattle.filter.proofs.new.Tie as tie

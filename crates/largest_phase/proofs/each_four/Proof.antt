@@ -2,11 +2,10 @@
 use mathlib.Core.Path.{ap, _∙_}
 use native.Mathlib.Omega.{arith}
 use lib.Ieee.{ofBits}
-use Rattle.interp.specs.Interp.{fourfold}
 use Rattle.interp.specs.Phase.{four, phasesBy}
 use Rattle.largest_phase.specs.declared.Fours.{Fours}
 use Rattle.largest_phase.specs.Line.{back}
-use Rattle.largest_phase.specs.Taps.{tapFour}
+use Rattle.largest_phase.specs.Taps.{windows, tapFour}
 use Rattle.largest_phase.proofs.each_four.Statement.{statement}
 use Rattle.largest_phase.proofs.each_four.Tie as tie
 
@@ -49,10 +48,21 @@ tap-four-requires-12 c κs = ((omega arith, omega arith), c .before .before .bef
 returns : tie.Need-returns
 unfolding phasesBy back ofBits
 returns c =
-    let s = c .before .before .before .before .before .before .before .before .before .before .before .before in
-    let a = s .args in
-    let e = c .tap-four12 .ensures ∙ ap (tapFour (a .taps .now) 44 (a .line .now) 12 (a .a) (a .b) (a .c) (a .d)) (c .before .tap-four11 .ensures ∙ ap (tapFour (a .taps .now) 40 (a .line .now) 13 (a .a) (a .b) (a .c) (a .d)) (c .before .before .tap-four10 .ensures ∙ ap (tapFour (a .taps .now) 36 (a .line .now) 14 (a .a) (a .b) (a .c) (a .d)) (c .before .before .before .tap-four9 .ensures ∙ ap (tapFour (a .taps .now) 32 (a .line .now) 15 (a .a) (a .b) (a .c) (a .d)) (c .before .before .before .before .tap-four8 .ensures ∙ ap (tapFour (a .taps .now) 28 (a .line .now) 16 (a .a) (a .b) (a .c) (a .d)) (c .before .before .before .before .before .tap-four7 .ensures ∙ ap (tapFour (a .taps .now) 24 (a .line .now) 17 (a .a) (a .b) (a .c) (a .d)) (c .before .before .before .before .before .before .tap-four6 .ensures ∙ ap (tapFour (a .taps .now) 20 (a .line .now) 18 (a .a) (a .b) (a .c) (a .d)) (c .before .before .before .before .before .before .before .tap-four5 .ensures ∙ ap (tapFour (a .taps .now) 16 (a .line .now) 19 (a .a) (a .b) (a .c) (a .d)) (c .before .before .before .before .before .before .before .before .tap-four4 .ensures ∙ ap (tapFour (a .taps .now) 12 (a .line .now) 20 (a .a) (a .b) (a .c) (a .d)) (c .before .before .before .before .before .before .before .before .before .tap-four3 .ensures ∙ ap (tapFour (a .taps .now) 8 (a .line .now) 21 (a .a) (a .b) (a .c) (a .d)) (c .before .before .before .before .before .before .before .before .before .before .tap-four2 .ensures ∙ ap (tapFour (a .taps .now) 4 (a .line .now) 22 (a .a) (a .b) (a .c) (a .d)) (c .before .before .before .before .before .before .before .before .before .before .before .tap-four .ensures))))))))))) in
-    (ap (λ (r : Fours). four (r .a)) e, (ap (λ (r : Fours). four (r .b)) e, (ap (λ (r : Fours). four (r .c)) e, (ap (λ (r : Fours). four (r .d)) e))))
+    let a = c .before .before .before .before .before .before .before .before .before .before .before .before .args in
+    let more = tapFour (a .taps .now) (a .line .now) (windows (a .a) (a .b) (a .c) (a .d)) in
+    let e =
+    c .tap-four12 .ensures ∙ ap (more 44 12) (
+    c .before .tap-four11 .ensures ∙ ap (more 40 13) (
+    c .before .before .tap-four10 .ensures ∙ ap (more 36 14) (
+    c .before .before .before .tap-four9 .ensures ∙ ap (more 32 15) (
+    c .before .before .before .before .tap-four8 .ensures ∙ ap (more 28 16) (
+    c .before .before .before .before .before .tap-four7 .ensures ∙ ap (more 24 17) (
+    c .before .before .before .before .before .before .tap-four6 .ensures ∙ ap (more 20 18) (
+    c .before .before .before .before .before .before .before .tap-four5 .ensures ∙ ap (more 16 19) (
+    c .before .before .before .before .before .before .before .before .tap-four4 .ensures ∙ ap (more 12 20) (
+    c .before .before .before .before .before .before .before .before .before .tap-four3 .ensures ∙ ap (more 8 21) (
+    c .before .before .before .before .before .before .before .before .before .before .tap-four2 .ensures ∙ ap (more 4 22) (c .before .before .before .before .before .before .before .before .before .before .before .tap-four .ensures))))))))))) in
+    (ap (λ (r : Fours). four (r .a)) e, (ap (λ (r : Fours). four (r .b)) e, (ap (λ (r : Fours). four (r .c)) e, ap (λ (r : Fours). four (r .d)) e)))
 
 pub each-four-spec : {M : Type 1} → statement M
 each-four-spec = tie.close (tie.spec tap-four-requires tap-four-requires-2 tap-four-requires-3 tap-four-requires-4 tap-four-requires-5 tap-four-requires-6 tap-four-requires-7 tap-four-requires-8 tap-four-requires-9 tap-four-requires-10 tap-four-requires-11 tap-four-requires-12 returns)

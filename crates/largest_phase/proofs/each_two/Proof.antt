@@ -1,12 +1,11 @@
--- `largest_phase::each_two` meets its contract: twelve pairs of taps in order are the two phases of each frame. Assumes nothing.
+-- `largest_phase::each_two` meets its contract: twenty-four taps in order are the two phases of each frame. Assumes nothing.
 use mathlib.Core.Path.{ap, _∙_}
 use native.Mathlib.Omega.{arith}
 use lib.Ieee.{ofBits}
-use Rattle.interp.specs.Interp.{twofold}
 use Rattle.interp.specs.Phase.{two, phasesBy}
 use Rattle.largest_phase.specs.declared.Twos.{Twos}
 use Rattle.largest_phase.specs.Line.{back}
-use Rattle.largest_phase.specs.Taps.{tapPair}
+use Rattle.largest_phase.specs.Taps.{windows, tapPair}
 use Rattle.largest_phase.proofs.each_two.Statement.{statement}
 use Rattle.largest_phase.proofs.each_two.Tie as tie
 
@@ -49,10 +48,21 @@ tap-pair-requires-12 c κs = ((omega arith, (omega arith, omega arith)), c .befo
 returns : tie.Need-returns
 unfolding phasesBy back ofBits
 returns c =
-    let s = c .before .before .before .before .before .before .before .before .before .before .before .before in
-    let a = s .args in
-    let e = c .tap-pair12 .ensures ∙ ap (tapPair (a .taps .now) 44 (a .line .now) 1 0 (a .a) (a .b) (a .c) (a .d)) (c .before .tap-pair11 .ensures ∙ ap (tapPair (a .taps .now) 40 (a .line .now) 3 2 (a .a) (a .b) (a .c) (a .d)) (c .before .before .tap-pair10 .ensures ∙ ap (tapPair (a .taps .now) 36 (a .line .now) 5 4 (a .a) (a .b) (a .c) (a .d)) (c .before .before .before .tap-pair9 .ensures ∙ ap (tapPair (a .taps .now) 32 (a .line .now) 7 6 (a .a) (a .b) (a .c) (a .d)) (c .before .before .before .before .tap-pair8 .ensures ∙ ap (tapPair (a .taps .now) 28 (a .line .now) 9 8 (a .a) (a .b) (a .c) (a .d)) (c .before .before .before .before .before .tap-pair7 .ensures ∙ ap (tapPair (a .taps .now) 24 (a .line .now) 11 10 (a .a) (a .b) (a .c) (a .d)) (c .before .before .before .before .before .before .tap-pair6 .ensures ∙ ap (tapPair (a .taps .now) 20 (a .line .now) 13 12 (a .a) (a .b) (a .c) (a .d)) (c .before .before .before .before .before .before .before .tap-pair5 .ensures ∙ ap (tapPair (a .taps .now) 16 (a .line .now) 15 14 (a .a) (a .b) (a .c) (a .d)) (c .before .before .before .before .before .before .before .before .tap-pair4 .ensures ∙ ap (tapPair (a .taps .now) 12 (a .line .now) 17 16 (a .a) (a .b) (a .c) (a .d)) (c .before .before .before .before .before .before .before .before .before .tap-pair3 .ensures ∙ ap (tapPair (a .taps .now) 8 (a .line .now) 19 18 (a .a) (a .b) (a .c) (a .d)) (c .before .before .before .before .before .before .before .before .before .before .tap-pair2 .ensures ∙ ap (tapPair (a .taps .now) 4 (a .line .now) 21 20 (a .a) (a .b) (a .c) (a .d)) (c .before .before .before .before .before .before .before .before .before .before .before .tap-pair .ensures))))))))))) in
-    (ap (λ (r : Twos). two (r .a)) e, (ap (λ (r : Twos). two (r .b)) e, (ap (λ (r : Twos). two (r .c)) e, (ap (λ (r : Twos). two (r .d)) e))))
+    let a = c .before .before .before .before .before .before .before .before .before .before .before .before .args in
+    let more = tapPair (a .taps .now) (a .line .now) (windows (a .a) (a .b) (a .c) (a .d)) in
+    let e =
+    c .tap-pair12 .ensures ∙ ap (more 44 1 0) (
+    c .before .tap-pair11 .ensures ∙ ap (more 40 3 2) (
+    c .before .before .tap-pair10 .ensures ∙ ap (more 36 5 4) (
+    c .before .before .before .tap-pair9 .ensures ∙ ap (more 32 7 6) (
+    c .before .before .before .before .tap-pair8 .ensures ∙ ap (more 28 9 8) (
+    c .before .before .before .before .before .tap-pair7 .ensures ∙ ap (more 24 11 10) (
+    c .before .before .before .before .before .before .tap-pair6 .ensures ∙ ap (more 20 13 12) (
+    c .before .before .before .before .before .before .before .tap-pair5 .ensures ∙ ap (more 16 15 14) (
+    c .before .before .before .before .before .before .before .before .tap-pair4 .ensures ∙ ap (more 12 17 16) (
+    c .before .before .before .before .before .before .before .before .before .tap-pair3 .ensures ∙ ap (more 8 19 18) (
+    c .before .before .before .before .before .before .before .before .before .before .tap-pair2 .ensures ∙ ap (more 4 21 20) (c .before .before .before .before .before .before .before .before .before .before .before .tap-pair .ensures))))))))))) in
+    (ap (λ (r : Twos). two (r .a)) e, (ap (λ (r : Twos). two (r .b)) e, (ap (λ (r : Twos). two (r .c)) e, ap (λ (r : Twos). two (r .d)) e)))
 
 pub each-two-spec : {M : Type 1} → statement M
 each-two-spec = tie.close (tie.spec tap-pair-requires tap-pair-requires-2 tap-pair-requires-3 tap-pair-requires-4 tap-pair-requires-5 tap-pair-requires-6 tap-pair-requires-7 tap-pair-requires-8 tap-pair-requires-9 tap-pair-requires-10 tap-pair-requires-11 tap-pair-requires-12 returns)

@@ -1,10 +1,13 @@
 -- `largest_phase::frames_fourfold` meets its contract: a turn does one frame of each run. Assumes nothing.
 use borrow.Author.Needs.{needs}
-use mathlib.Core.Path.{refl, ap, _∙_}
+use mathlib.Core.Path.{refl, sym, ap, subst, _∙_}
+use mathlib.Core.List.{List}
 use Prim.Native.Nat.{_+_, _-_, _≤_}
 use native.Mathlib.Omega.{arith}
+use lib.ListN.{set}
+use lib.Ieee.{Float}
 use Rattle.interp.specs.Interp.{fourfold}
-use Rattle.interp.specs.Phase.{phasesBy}
+use Rattle.interp.specs.Phase.{four, phasesBy}
 use Rattle.largest_phase.specs.Largest.{loudest}
 use Rattle.largest_phase.proofs.Quarters.{Quarters, quarters-start, quarters-turn, quarters-end}
 use Rattle.largest_phase.proofs.frames_fourfold.Statement.{statement}
@@ -31,41 +34,17 @@ add-fourth c = search needs
 each-four-requires : tie.Need-each-four-requires Inv-loop μ-loop
 each-four-requires c κs = search needs
 
-loudest-four-requires : tie.Need-loudest-four-requires Inv-loop μ-loop
-loudest-four-requires c κs = search needs
+store-four-requires : tie.Need-store-four-requires Inv-loop μ-loop
+store-four-requires c κs = search needs
 
-mul-loud : tie.Need-mul-loud Inv-loop μ-loop
-mul-loud c = search needs
+store-four-requires-2 : tie.Need-store-four-requires-2 Inv-loop μ-loop
+store-four-requires-2 c κs = search needs
 
-element-write-loud : tie.Need-element-write-loud Inv-loop μ-loop
-element-write-loud c = search needs
+store-four-requires-3 : tie.Need-store-four-requires-3 Inv-loop μ-loop
+store-four-requires-3 c κs = search needs
 
-loudest-four-requires-2 : tie.Need-loudest-four-requires-2 Inv-loop μ-loop
-loudest-four-requires-2 c κs = search needs
-
-mul-loud-2 : tie.Need-mul-loud-2 Inv-loop μ-loop
-mul-loud-2 c = search needs
-
-element-write-loud-2 : tie.Need-element-write-loud-2 Inv-loop μ-loop
-element-write-loud-2 c = search needs
-
-loudest-four-requires-3 : tie.Need-loudest-four-requires-3 Inv-loop μ-loop
-loudest-four-requires-3 c κs = search needs
-
-mul-loud-3 : tie.Need-mul-loud-3 Inv-loop μ-loop
-mul-loud-3 c = search needs
-
-element-write-loud-3 : tie.Need-element-write-loud-3 Inv-loop μ-loop
-element-write-loud-3 c = search needs
-
-loudest-four-requires-4 : tie.Need-loudest-four-requires-4 Inv-loop μ-loop
-loudest-four-requires-4 c κs = search needs
-
-mul-loud-4 : tie.Need-mul-loud-4 Inv-loop μ-loop
-mul-loud-4 c = search needs
-
-element-write-loud-4 : tie.Need-element-write-loud-4 Inv-loop μ-loop
-element-write-loud-4 c = search needs
+store-four-requires-4 : tie.Need-store-four-requires-4 Inv-loop μ-loop
+store-four-requires-4 c κs = search needs
 
 add-at : tie.Need-add-at Inv-loop μ-loop
 add-at c = search needs
@@ -75,18 +54,29 @@ loop-less c = search needs
 
 loop-again : tie.Need-loop-again Inv-loop μ-loop
 loop-again c =
-    let l = c .before .before .before .before .before .before .before .before .before .before .loop in
-    let a = c .before .before .before .before .before .before .before .before .before .before .before .args in
     let s = c .before .before .before .before .before .before .before .before .before .before .before in
+    let l = c .before .before .before .before .before .before .before .before .before .before .loop in
     let t = c .before .before .before .before .before .before .before .before .before .loop-test .taken in
-    let e = c .before .before .before .before .before .before .before .before .each-four in (
+    let e = c .before .before .before .before .before .before .before .before .each-four in
+    let a = s .args in
+    let r = e .result in
+    let by = phasesBy (a .taps .now) fourfold in
+    let second = l .at + a .run in
+    let third = second + a .run in
+    let fourth = third + a .run in
+    let stored =
+    c .store-four4 .ensures
+    ∙ ap (λ (louds : List Float). set louds fourth (loudest (a .peak) (four (r .d)))) (c .before .before .store-four3 .ensures
+    ∙ ap (λ (louds : List Float). set louds third (loudest (a .peak) (four (r .c)))) (c .before .before .before .before .store-four2 .ensures
+    ∙ ap (λ (louds : List Float). set louds second (loudest (a .peak) (four (r .b)))) (c .before .before .before .before .before .before .store-four .ensures))) in (
       omega (arith, t),
-      quarters-turn (phasesBy (a .taps .now) fourfold) (a .line .now) (a .peak) (a .run) (l .loud) (l .at) (l .at + a .run) (l .at + a .run + a .run) (l .at + a .run + a .run + a .run) (c .before .before .before .before .before .before .loudest-four .result) (c .before .before .before .before .loudest-four2 .result) (c .before .before .loudest-four3 .result) (c .loudest-four4 .result) t (s .pre .0) refl refl refl
-          (c .before .before .before .before .before .before .loudest-four .ensures ∙ ap (loudest (a .peak)) (e .ensures .0))
-          (c .before .before .before .before .loudest-four2 .ensures ∙ ap (loudest (a .peak)) (e .ensures .1 .0))
-          (c .before .before .loudest-four3 .ensures ∙ ap (loudest (a .peak)) (e .ensures .1 .1 .0))
-          (c .loudest-four4 .ensures ∙ ap (loudest (a .peak)) (e .ensures .1 .1 .1))
-          (l .inv .1),
+      subst (λ (louds : List Float). Quarters by (a .line .now) (a .peak) (a .run) louds (l .at + 1)) (sym stored)
+          (quarters-turn by (a .line .now) (a .peak) (a .run) (l .loud) (l .at) second third fourth (loudest (a .peak) (four (r .a))) (loudest (a .peak) (four (r .b))) (loudest (a .peak) (four (r .c))) (loudest (a .peak) (four (r .d))) t (s .pre .0) refl refl refl
+          (ap (loudest (a .peak)) (e .ensures .0))
+          (ap (loudest (a .peak)) (e .ensures .1 .0))
+          (ap (loudest (a .peak)) (e .ensures .1 .1 .0))
+          (ap (loudest (a .peak)) (e .ensures .1 .1 .1))
+          (l .inv .1)),
     )
 
 returns : tie.Need-returns Inv-loop μ-loop
@@ -106,18 +96,10 @@ frames-fourfold-spec =
     add-third
     add-fourth
     each-four-requires
-    loudest-four-requires
-    mul-loud
-    element-write-loud
-    loudest-four-requires-2
-    mul-loud-2
-    element-write-loud-2
-    loudest-four-requires-3
-    mul-loud-3
-    element-write-loud-3
-    loudest-four-requires-4
-    mul-loud-4
-    element-write-loud-4
+    store-four-requires
+    store-four-requires-2
+    store-four-requires-3
+    store-four-requires-4
     add-at
     loop-less
     loop-again

@@ -24,50 +24,26 @@ abbrev μ-loop : tie.MeasureT-loop
 loop-holds : tie.Need-loop-holds Inv-loop μ-loop
 loop-holds c = (search needs, (refl, (refl, (refl, refl))))
 
-mul-louder : tie.Need-mul-louder Inv-loop μ-loop
-mul-louder c = search needs
+louder-at-requires : tie.Need-louder-at-requires Inv-loop μ-loop
+louder-at-requires c κs = search needs
 
-element-copy-out-louder : tie.Need-element-copy-out-louder Inv-loop μ-loop
-element-copy-out-louder c = search needs
+add-louder-at : tie.Need-add-louder-at Inv-loop μ-loop
+add-louder-at c = search needs
 
-louder-requires : tie.Need-louder-requires Inv-loop μ-loop
-louder-requires c κs = search needs
+louder-at-requires-2 : tie.Need-louder-at-requires-2 Inv-loop μ-loop
+louder-at-requires-2 c κs = search needs
 
-add-louder : tie.Need-add-louder Inv-loop μ-loop
-add-louder c = search needs
+add-louder-at-2 : tie.Need-add-louder-at-2 Inv-loop μ-loop
+add-louder-at-2 c = search needs
 
-mul-louder-2 : tie.Need-mul-louder-2 Inv-loop μ-loop
-mul-louder-2 c = search needs
+louder-at-requires-3 : tie.Need-louder-at-requires-3 Inv-loop μ-loop
+louder-at-requires-3 c κs = search needs
 
-element-copy-out-louder-2 : tie.Need-element-copy-out-louder-2 Inv-loop μ-loop
-element-copy-out-louder-2 c = search needs
+add-louder-at-3 : tie.Need-add-louder-at-3 Inv-loop μ-loop
+add-louder-at-3 c = search needs
 
-louder-requires-2 : tie.Need-louder-requires-2 Inv-loop μ-loop
-louder-requires-2 c κs = search needs
-
-add-louder-2 : tie.Need-add-louder-2 Inv-loop μ-loop
-add-louder-2 c = search needs
-
-mul-louder-3 : tie.Need-mul-louder-3 Inv-loop μ-loop
-mul-louder-3 c = search needs
-
-element-copy-out-louder-3 : tie.Need-element-copy-out-louder-3 Inv-loop μ-loop
-element-copy-out-louder-3 c = search needs
-
-louder-requires-3 : tie.Need-louder-requires-3 Inv-loop μ-loop
-louder-requires-3 c κs = search needs
-
-add-louder-3 : tie.Need-add-louder-3 Inv-loop μ-loop
-add-louder-3 c = search needs
-
-mul-louder-4 : tie.Need-mul-louder-4 Inv-loop μ-loop
-mul-louder-4 c = search needs
-
-element-copy-out-louder-4 : tie.Need-element-copy-out-louder-4 Inv-loop μ-loop
-element-copy-out-louder-4 c = search needs
-
-louder-requires-4 : tie.Need-louder-requires-4 Inv-loop μ-loop
-louder-requires-4 c κs = search needs
+louder-at-requires-4 : tie.Need-louder-at-requires-4 Inv-loop μ-loop
+louder-at-requires-4 c κs = search needs
 
 add-k : tie.Need-add-k Inv-loop μ-loop
 add-k c = search needs
@@ -77,38 +53,38 @@ loop-less c = search needs
 
 loop-again : tie.Need-loop-again Inv-loop μ-loop
 loop-again c =
-    let l = c .before .before .before .before .before .before .before .before .before .loop in
-    let a = c .before .before .before .before .before .before .before .before .before .before .args in
-    let t = c .before .before .before .before .before .before .before .before .loop-test .taken in (
+    let l = c .before .before .before .before .before .loop in
+    let a = c .before .before .before .before .before .before .args in
+    let t = c .before .before .before .before .loop-test .taken in (
       omega arith,
       (
-        run-turn (a .loud .now) 0 (l .k) (l .k) (l .a) (c .before .before .before .before .before .before .louder .result) t (omega arith) (c .before .before .before .before .before .before .louder .ensures) ∙ l .inv .1 .0,
+        run-turn (a .loud .now) 0 (l .k) (l .k) (l .a) (c .before .before .before .louder-at .result) t (omega arith) (c .before .before .before .louder-at .ensures) ∙ l .inv .1 .0,
         (
-          run-turn (a .loud .now) 8 (8 + l .k) (l .k) (l .b) (c .before .before .before .before .louder2 .result) t (refl) (c .before .before .before .before .louder2 .ensures) ∙ l .inv .1 .1 .0,
+          run-turn (a .loud .now) 8 (8 + l .k) (l .k) (l .b) (c .before .before .louder-at2 .result) t refl (c .before .before .louder-at2 .ensures) ∙ l .inv .1 .1 .0,
           (
-            run-turn (a .loud .now) 16 (16 + l .k) (l .k) (l .c) (c .before .before .louder3 .result) t (refl) (c .before .before .louder3 .ensures) ∙ l .inv .1 .1 .1 .0,
-            run-turn (a .loud .now) 24 (24 + l .k) (l .k) (l .d) (c .louder4 .result) t (refl) (c .louder4 .ensures) ∙ l .inv .1 .1 .1 .1,
+            run-turn (a .loud .now) 16 (16 + l .k) (l .k) (l .c) (c .before .louder-at3 .result) t refl (c .before .louder-at3 .ensures) ∙ l .inv .1 .1 .1 .0,
+            run-turn (a .loud .now) 24 (24 + l .k) (l .k) (l .d) (c .louder-at4 .result) t refl (c .louder-at4 .ensures) ∙ l .inv .1 .1 .1 .1,
           ),
         ),
       ),
     )
 
-louder-requires-5 : tie.Need-louder-requires-5 Inv-loop μ-loop
-louder-requires-5 c κs = search needs
+louder-requires : tie.Need-louder-requires Inv-loop μ-loop
+louder-requires c κs = search needs
 
-louder-requires-6 : tie.Need-louder-requires-6 Inv-loop μ-loop
-louder-requires-6 c κs = search needs
+louder-requires-2 : tie.Need-louder-requires-2 Inv-loop μ-loop
+louder-requires-2 c κs = search needs
 
-louder-requires-7 : tie.Need-louder-requires-7 Inv-loop μ-loop
-louder-requires-7 c κs = search needs
+louder-requires-3 : tie.Need-louder-requires-3 Inv-loop μ-loop
+louder-requires-3 c κs = search needs
 
 returns : tie.Need-returns Inv-loop μ-loop
 returns c =
     let l = c .before .before .before .before .loop in
     let a = c .before .before .before .before .before .args in
     let t = c .before .before .before .loop-test .left in
-    c .louder7 .ensures
-    ∙ ap (λ (x : Float). louder x (l .d)) (c .before .louder6 .ensures ∙ ap (λ (x : Float). louder x (l .c)) (c .before .before .louder5 .ensures))
+    c .louder3 .ensures
+    ∙ ap (λ (x : Float). louder x (l .d)) (c .before .louder2 .ensures ∙ ap (λ (x : Float). louder x (l .c)) (c .before .before .louder .ensures))
     ∙ by-quarters (a .loud .now) (a .peak) (l .a) (l .b) (l .c) (l .d)
     (run-end (a .loud .now) (0 + l .k) (l .k) (l .a) t ∙ l .inv .1 .0)
     (run-end (a .loud .now) (8 + l .k) (l .k) (l .b) t ∙ l .inv .1 .1 .0)
@@ -122,25 +98,17 @@ loudest-few-spec =
     Inv-loop
     μ-loop
     loop-holds
-    mul-louder
-    element-copy-out-louder
-    louder-requires
-    add-louder
-    mul-louder-2
-    element-copy-out-louder-2
-    louder-requires-2
-    add-louder-2
-    mul-louder-3
-    element-copy-out-louder-3
-    louder-requires-3
-    add-louder-3
-    mul-louder-4
-    element-copy-out-louder-4
-    louder-requires-4
+    louder-at-requires
+    add-louder-at
+    louder-at-requires-2
+    add-louder-at-2
+    louder-at-requires-3
+    add-louder-at-3
+    louder-at-requires-4
     add-k
     loop-less
     loop-again
-    louder-requires-5
-    louder-requires-6
-    louder-requires-7
+    louder-requires
+    louder-requires-2
+    louder-requires-3
     returns)

@@ -11,84 +11,28 @@ use Rattle.largest_phase.proofs.tap_four.Tie as tie
 four-at-requires : tie.Need-four-at-requires
 four-at-requires c κs = search needs
 
-add-on-four : tie.Need-add-on-four
-add-on-four c = search needs
-
-mul-on-four : tie.Need-mul-on-four
-mul-on-four c = search needs
-
-element-copy-out-on-four : tie.Need-element-copy-out-on-four
-element-copy-out-on-four c = search needs
-
 on-four-requires : tie.Need-on-four-requires
 on-four-requires c κs = search needs
-
-add-on-four-2 : tie.Need-add-on-four-2
-add-on-four-2 c = search needs
-
-mul-on-four-2 : tie.Need-mul-on-four-2
-mul-on-four-2 c = search needs
-
-element-copy-out-on-four-2 : tie.Need-element-copy-out-on-four-2
-element-copy-out-on-four-2 c = search needs
 
 on-four-requires-2 : tie.Need-on-four-requires-2
 on-four-requires-2 c κs = search needs
 
-add-on-four-3 : tie.Need-add-on-four-3
-add-on-four-3 c = search needs
-
-mul-on-four-3 : tie.Need-mul-on-four-3
-mul-on-four-3 c = search needs
-
-element-copy-out-on-four-3 : tie.Need-element-copy-out-on-four-3
-element-copy-out-on-four-3 c = search needs
-
 on-four-requires-3 : tie.Need-on-four-requires-3
 on-four-requires-3 c κs = search needs
-
-add-on-four-4 : tie.Need-add-on-four-4
-add-on-four-4 c = search needs
-
-mul-on-four-4 : tie.Need-mul-on-four-4
-mul-on-four-4 c = search needs
-
-element-copy-out-on-four-4 : tie.Need-element-copy-out-on-four-4
-element-copy-out-on-four-4 c = search needs
 
 on-four-requires-4 : tie.Need-on-four-requires-4
 on-four-requires-4 c κs = search needs
 
 returns : tie.Need-returns
 returns c =
-    let a = c .before .before .before .before .before .before .before .before .before .args in
-    let t = c .before .before .before .before .before .before .before .before .four-at .ensures in
+    let a = c .before .before .before .before .before .args in
+    let t = c .before .before .before .before .four-at .ensures in
     λ i. record {
-      a = (c .before .before .before .before .before .before .on-four .ensures ∙ ap (onFour (a .e .a) (getD (a .line .now) (a .a + a .place) nan)) t) i;
-      b = (c .before .before .before .before .on-four2 .ensures ∙ ap (onFour (a .e .b) (getD (a .line .now) (a .b + a .place) nan)) t) i;
-      c = (c .before .before .on-four3 .ensures ∙ ap (onFour (a .e .c) (getD (a .line .now) (a .c + a .place) nan)) t) i;
+      a = (c .before .before .before .on-four .ensures ∙ ap (onFour (a .e .a) (getD (a .line .now) (a .a + a .place) nan)) t) i;
+      b = (c .before .before .on-four2 .ensures ∙ ap (onFour (a .e .b) (getD (a .line .now) (a .b + a .place) nan)) t) i;
+      c = (c .before .on-four3 .ensures ∙ ap (onFour (a .e .c) (getD (a .line .now) (a .c + a .place) nan)) t) i;
       d = (c .on-four4 .ensures ∙ ap (onFour (a .e .d) (getD (a .line .now) (a .d + a .place) nan)) t) i;
     }
 
 pub tap-four-spec : {M : Type 1} → statement M
-tap-four-spec =
-    tie.close
-    (tie.spec
-    four-at-requires
-    add-on-four
-    mul-on-four
-    element-copy-out-on-four
-    on-four-requires
-    add-on-four-2
-    mul-on-four-2
-    element-copy-out-on-four-2
-    on-four-requires-2
-    add-on-four-3
-    mul-on-four-3
-    element-copy-out-on-four-3
-    on-four-requires-3
-    add-on-four-4
-    mul-on-four-4
-    element-copy-out-on-four-4
-    on-four-requires-4
-    returns)
+tap-four-spec = tie.close (tie.spec four-at-requires on-four-requires on-four-requires-2 on-four-requires-3 on-four-requires-4 returns)

@@ -11,132 +11,28 @@ use Rattle.largest_phase.proofs.tap_pair.Tie as tie
 four-at-requires : tie.Need-four-at-requires
 four-at-requires c κs = search needs
 
-add-on-pair : tie.Need-add-on-pair
-add-on-pair c = search needs
-
-mul-on-pair : tie.Need-mul-on-pair
-mul-on-pair c = search needs
-
-element-copy-out-on-pair : tie.Need-element-copy-out-on-pair
-element-copy-out-on-pair c = search needs
-
-add-on-pair-2 : tie.Need-add-on-pair-2
-add-on-pair-2 c = search needs
-
-mul-on-pair-2 : tie.Need-mul-on-pair-2
-mul-on-pair-2 c = search needs
-
-element-copy-out-on-pair-2 : tie.Need-element-copy-out-on-pair-2
-element-copy-out-on-pair-2 c = search needs
-
 on-pair-requires : tie.Need-on-pair-requires
 on-pair-requires c κs = search needs
-
-add-on-pair-3 : tie.Need-add-on-pair-3
-add-on-pair-3 c = search needs
-
-mul-on-pair-3 : tie.Need-mul-on-pair-3
-mul-on-pair-3 c = search needs
-
-element-copy-out-on-pair-3 : tie.Need-element-copy-out-on-pair-3
-element-copy-out-on-pair-3 c = search needs
-
-add-on-pair-4 : tie.Need-add-on-pair-4
-add-on-pair-4 c = search needs
-
-mul-on-pair-4 : tie.Need-mul-on-pair-4
-mul-on-pair-4 c = search needs
-
-element-copy-out-on-pair-4 : tie.Need-element-copy-out-on-pair-4
-element-copy-out-on-pair-4 c = search needs
 
 on-pair-requires-2 : tie.Need-on-pair-requires-2
 on-pair-requires-2 c κs = search needs
 
-add-on-pair-5 : tie.Need-add-on-pair-5
-add-on-pair-5 c = search needs
-
-mul-on-pair-5 : tie.Need-mul-on-pair-5
-mul-on-pair-5 c = search needs
-
-element-copy-out-on-pair-5 : tie.Need-element-copy-out-on-pair-5
-element-copy-out-on-pair-5 c = search needs
-
-add-on-pair-6 : tie.Need-add-on-pair-6
-add-on-pair-6 c = search needs
-
-mul-on-pair-6 : tie.Need-mul-on-pair-6
-mul-on-pair-6 c = search needs
-
-element-copy-out-on-pair-6 : tie.Need-element-copy-out-on-pair-6
-element-copy-out-on-pair-6 c = search needs
-
 on-pair-requires-3 : tie.Need-on-pair-requires-3
 on-pair-requires-3 c κs = search needs
-
-add-on-pair-7 : tie.Need-add-on-pair-7
-add-on-pair-7 c = search needs
-
-mul-on-pair-7 : tie.Need-mul-on-pair-7
-mul-on-pair-7 c = search needs
-
-element-copy-out-on-pair-7 : tie.Need-element-copy-out-on-pair-7
-element-copy-out-on-pair-7 c = search needs
-
-add-on-pair-8 : tie.Need-add-on-pair-8
-add-on-pair-8 c = search needs
-
-mul-on-pair-8 : tie.Need-mul-on-pair-8
-mul-on-pair-8 c = search needs
-
-element-copy-out-on-pair-8 : tie.Need-element-copy-out-on-pair-8
-element-copy-out-on-pair-8 c = search needs
 
 on-pair-requires-4 : tie.Need-on-pair-requires-4
 on-pair-requires-4 c κs = search needs
 
 returns : tie.Need-returns
 returns c =
-    let a = c .before .before .before .before .before .before .before .before .before .before .before .before .before .args in
-    let t = c .before .before .before .before .before .before .before .before .before .before .before .before .four-at .ensures in
+    let a = c .before .before .before .before .before .args in
+    let t = c .before .before .before .before .four-at .ensures in
     λ i. record {
-      a = (c .before .before .before .before .before .before .before .before .before .on-pair .ensures ∙ ap (onPair (a .e .a) (getD (a .line .now) (a .a + a .newer) nan) (getD (a .line .now) (a .a + a .older) nan)) t) i;
-      b = (c .before .before .before .before .before .before .on-pair2 .ensures ∙ ap (onPair (a .e .b) (getD (a .line .now) (a .b + a .newer) nan) (getD (a .line .now) (a .b + a .older) nan)) t) i;
-      c = (c .before .before .before .on-pair3 .ensures ∙ ap (onPair (a .e .c) (getD (a .line .now) (a .c + a .newer) nan) (getD (a .line .now) (a .c + a .older) nan)) t) i;
+      a = (c .before .before .before .on-pair .ensures ∙ ap (onPair (a .e .a) (getD (a .line .now) (a .a + a .newer) nan) (getD (a .line .now) (a .a + a .older) nan)) t) i;
+      b = (c .before .before .on-pair2 .ensures ∙ ap (onPair (a .e .b) (getD (a .line .now) (a .b + a .newer) nan) (getD (a .line .now) (a .b + a .older) nan)) t) i;
+      c = (c .before .on-pair3 .ensures ∙ ap (onPair (a .e .c) (getD (a .line .now) (a .c + a .newer) nan) (getD (a .line .now) (a .c + a .older) nan)) t) i;
       d = (c .on-pair4 .ensures ∙ ap (onPair (a .e .d) (getD (a .line .now) (a .d + a .newer) nan) (getD (a .line .now) (a .d + a .older) nan)) t) i;
     }
 
 pub tap-pair-spec : {M : Type 1} → statement M
-tap-pair-spec =
-    tie.close
-    (tie.spec
-    four-at-requires
-    add-on-pair
-    mul-on-pair
-    element-copy-out-on-pair
-    add-on-pair-2
-    mul-on-pair-2
-    element-copy-out-on-pair-2
-    on-pair-requires
-    add-on-pair-3
-    mul-on-pair-3
-    element-copy-out-on-pair-3
-    add-on-pair-4
-    mul-on-pair-4
-    element-copy-out-on-pair-4
-    on-pair-requires-2
-    add-on-pair-5
-    mul-on-pair-5
-    element-copy-out-on-pair-5
-    add-on-pair-6
-    mul-on-pair-6
-    element-copy-out-on-pair-6
-    on-pair-requires-3
-    add-on-pair-7
-    mul-on-pair-7
-    element-copy-out-on-pair-7
-    add-on-pair-8
-    mul-on-pair-8
-    element-copy-out-on-pair-8
-    on-pair-requires-4
-    returns)
+tap-pair-spec = tie.close (tie.spec four-at-requires on-pair-requires on-pair-requires-2 on-pair-requires-3 on-pair-requires-4 returns)

@@ -4,8 +4,8 @@ use mathlib.Core.Path.{_≡_, _∙_}
 use Prim.Native.Nat.{_-_, _≤_}
 use native.Mathlib.Nat.{div-mul-le-self}
 use lib.ListN.{length}
-use Rattle.true_peak.specs.TruePeak.{channelsFrom, measured}
-use Rattle.true_peak.proofs.Channels.{channels-start, channels-turn, channels-end}
+use Rattle.true_peak_state.specs.TruePeak.{channelsFrom, measured}
+use Rattle.true_peak_state.proofs.Channels.{channels-start, channels-turn, channels-end}
 use Rattle.true_peak.proofs.all_channels.Statement.{statement}
 use Rattle.true_peak.proofs.all_channels.Tie as tie
 

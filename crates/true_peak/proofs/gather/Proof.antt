@@ -5,7 +5,7 @@ use Prim.Native.Nat.{_+_, _*_, _-_, _≤_, _<_}
 use native.Mathlib.Omega.{arith}
 use lib.ListN.{length}
 use lib.Seq.{sets}
-use Rattle.true_peak.specs.Channel.{past}
+use Rattle.true_peak_state.specs.Channel.{past}
 use Rattle.samples.specs.Frames.{column}
 use Rattle.true_peak.proofs.Lines.{gathered-start, gathered-turn, gathered-end, times-less}
 use Rattle.true_peak.proofs.gather.Statement.{statement}

@@ -3,7 +3,7 @@ use borrow.Author.Needs.{needs}
 use mathlib.Core.Path.{_≡_, _∙_}
 use Prim.Native.Nat.{_+_, _*_, _-_, _≤_}
 use lib.Seq.{sets}
-use Rattle.true_peak.specs.Channel.{past}
+use Rattle.true_peak_state.specs.Channel.{past}
 use Rattle.largest_phase.specs.Line.{back}
 use Rattle.true_peak.proofs.Lines.{kept-start, kept-turn, kept-end}
 use Rattle.true_peak.proofs.keep.Statement.{statement}

@@ -1,10 +1,10 @@
 -- `true_peak::listen` meets its contract: the channel is taken out of the flat state and put back. Assumes nothing.
 use borrow.Author.Needs.{needs, length-unmapped}
 use lib.Ieee.{Float}
-use Rattle.true_peak.specs.Channel.{heard}
+use Rattle.true_peak_state.specs.Channel.{heard}
 use Rattle.samples.specs.Frames.{column}
-use Rattle.true_peak.specs.TruePeak.{channelOf}
-use Rattle.true_peak.proofs.Channels.{put}
+use Rattle.true_peak_state.specs.TruePeak.{channelOf}
+use Rattle.true_peak_state.proofs.Channels.{put}
 use Rattle.true_peak.proofs.listen.Statement.{statement}
 use Rattle.true_peak.proofs.listen.Tie as tie
 

@@ -7,12 +7,12 @@ use native.Mathlib.Omega.{arith}
 use lib.ListN.{length}
 use lib.Ieee.{Float}
 use lib.Seq.{sets}
-use Rattle.true_peak.specs.Channel.{Channel, channel, heard, past}
-use Rattle.largest_phase.specs.Line.{block, back}
+use Rattle.true_peak_state.specs.Channel.{Channel, channel, heard, past}
+use Rattle.largest_phase.specs.Line.{back}
 use Rattle.true_peak.specs.Line.{room}
 use Rattle.samples.specs.Frames.{column}
 use Rattle.calls.specs.Calls.{mostChannels}
-use Rattle.true_peak.specs.TruePeak.{historyAt}
+use Rattle.true_peak_state.specs.TruePeak.{historyAt}
 use Rattle.true_peak.proofs.Blocks.{blocks-turn, places}
 use Rattle.true_peak.proofs.one_channel.Statement.{statement}
 use Rattle.true_peak.proofs.one_channel.Tie as tie

@@ -10,7 +10,7 @@ use lib.Ieee.{Float}
 use Rattle.calls.specs.Check.{passes}
 use Rattle.calls.specs.Calls.{checkFrames}
 use Rattle.interp.specs.Interp.{kindOf}
-use Rattle.true_peak.specs.TruePeak.{measured}
+use Rattle.true_peak_state.specs.TruePeak.{measured}
 use Rattle.true_peaks.proofs.Turns.{block-holds, went-on}
 use Rattle.true_peaks.proofs.hear.Statement.{statement}
 use Rattle.true_peaks.proofs.hear.Tie as tie

@@ -1,18 +1,17 @@
 -- `true_peaks::hear_all` meets its contract: the samples left, from the state as it is, give what all of them give. Assumes nothing.
 use borrow.Author.Needs.{needs}
-use Prim.Native.Nat.{ℕ, _+_, _-_, _*_, _/_, _≤_, _<_}
+use Prim.Native.Nat.{ℕ, _+_, _-_, _*_, _/_, _≤_}
 use native.Mathlib.Nat.{zero-mul, div-le-self, mul-le-mul-right}
 use native.Mathlib.Omega.{arith}
 use mathlib.Core.Path.{_≡_, refl, sym, ap, _∙_}
-use mathlib.Core.List.{List}
 use lib.ListN.{length, drop, length-map}
 use Rattle.samples.specs.Sample.{sampleOf16, samplesOf16}
 use Rattle.calls.proofs.Checking.{Framed, framed}
 use Rattle.sources.proofs.Cutting.{Step, step-of}
 use Rattle.interp.specs.Interp.{kindOf}
-use Rattle.true_peak.specs.declared.TruePeak.{TruePeak}
-use Rattle.true_peak.specs.TruePeak.{measured}
-use Rattle.true_peak.proofs.Independence.{Sized}
+use Rattle.true_peak_state.specs.declared.TruePeak.{TruePeak}
+use Rattle.true_peak_state.specs.TruePeak.{measured}
+use Rattle.true_peak_state.proofs.Independence.{Sized}
 use Rattle.true_peaks.specs.Blocks.{places}
 use Rattle.true_peaks.proofs.Turns.{whole, turn, turn-sized, last}
 use Rattle.true_peaks.proofs.hear_all.Statement.{statement}

@@ -10,7 +10,7 @@ use Rattle.calls.specs.Check.{passes}
 use Rattle.calls.specs.Calls.{checkFrames}
 use Rattle.sources.proofs.ByKind.{source-floats, source-ints}
 use Rattle.interp.specs.Interp.{kindOf}
-use Rattle.true_peak.specs.TruePeak.{measured}
+use Rattle.true_peak_state.specs.TruePeak.{measured}
 use Rattle.true_peaks.proofs.Turns.{as-they-stand, went-on}
 use Rattle.true_peaks.proofs.measure.Statement.{statement}
 use Rattle.true_peaks.proofs.measure.Tie as tie

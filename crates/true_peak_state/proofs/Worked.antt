@@ -10,11 +10,11 @@ use Rattle.interp.specs.Interp.{kindOf}
 use Rattle.interp.specs.Rules.{one}
 use Rattle.interp.specs.Taps.{fourfoldAt, twofoldAt}
 use Rattle.interp.specs.Phase.{nought, phase, phases}
-use Rattle.true_peak.specs.declared.TruePeak.{TruePeak}
+use Rattle.true_peak_state.specs.declared.TruePeak.{TruePeak}
 use Rattle.largest_phase.specs.Largest.{loudest}
-use Rattle.true_peak.specs.Channel.{heard}
+use Rattle.true_peak_state.specs.Channel.{heard}
 use Rattle.samples.specs.Frames.{column}
-use Rattle.true_peak.specs.TruePeak.{Block, silent, measured}
+use Rattle.true_peak_state.specs.TruePeak.{Block, silent, measured}
 
 -- -1.0 and then n zeros, of one channel
 unfoldable pub fullScale : ℕ → Block

@@ -2,22 +2,27 @@
 -- Each channel hears the same samples in the same order, and states with the same channels are the same. Assumes nothing.
 use mathlib.Core.Path.{_≡_, refl, sym, ap, _∙_}
 use mathlib.Core.Logic.{inl, inr}
-use mathlib.Core.List.{List, _∷_, _++_}
+use mathlib.Core.List.{List, [], _∷_, _++_}
 use Prim.Native.Nat.{ℕ, zero, suc, _+_, _*_, _-_, _/_, _%_, _≤_, _<_}
 use native.Mathlib.Nat.{suc-mul, mul-add-div-right, div-add-mod'}
 use native.Mathlib.Omega.{arith}
 use lib.ListN.{length, getD, length-append, List·getD-append}
 use lib.Seq.{getD-append-add}
-use lib.Ieee.{Float, nan}
+use lib.Ieee.{Float}
+use Rattle.interp.specs.declared.Interp.{Interp}
 use Rattle.interp.specs.Interp.{Kind, upsampled, noTruePeak}
-use Rattle.true_peak.specs.declared.TruePeak.{TruePeak}
-use Rattle.true_peak.specs.Channel.{Channel}
+use Rattle.true_peak_state.specs.declared.TruePeak.{TruePeak}
+use Rattle.true_peak_state.specs.Channel.{Channel, hear, heard}
 use Rattle.samples.specs.Frames.{silence, column}
 use Rattle.samples.proofs.Columns.{column-append}
 use Rattle.calls.specs.Calls.{mostChannels}
-use Rattle.true_peak.specs.TruePeak.{Block, channelOf, channelSamples, measured, heardBy}
-use Rattle.true_peak.proofs.Blocks.{heard-append}
-use Rattle.true_peak.proofs.Independence.{Sized, either, measured-sized, own-channel, other-channel, same-state}
+use Rattle.true_peak_state.specs.TruePeak.{Block, channelOf, channelSamples, measured, heardBy}
+use Rattle.true_peak_state.proofs.Independence.{Sized, either, measured-sized, own-channel, other-channel, same-state}
+
+pub heard-append : (i : Interp) (ch : Channel) (xs ys : List Float) → heard i ch (xs ++ ys) ≡ heard i (heard i ch xs) ys
+unfolding heard
+heard-append i ch [] ys = refl
+heard-append i ch (x ∷ xs) ys = heard-append i (hear i ch x) xs ys
 
 heardBy-append : (k : Kind) (ch : Channel) (xs ys : List Float) → heardBy k ch (xs ++ ys) ≡ heardBy k (heardBy k ch xs) ys
 unfolding heardBy

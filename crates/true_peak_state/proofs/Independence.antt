@@ -11,11 +11,11 @@ use lib.Seq.{sets, length-sets, ext-getD, getD-take, getD-drop, getD-set-other, 
 use lib.Ieee.{Float, nan}
 use Rattle.interp.specs.declared.Interp.{Interp}
 use Rattle.interp.specs.Interp.{Kind, upsampled, noTruePeak}
-use Rattle.true_peak.specs.declared.TruePeak.{TruePeak}
-use Rattle.true_peak.specs.Channel.{Channel, hear, heard, past}
+use Rattle.true_peak_state.specs.declared.TruePeak.{TruePeak}
+use Rattle.true_peak_state.specs.Channel.{Channel, hear, heard, past}
 use Rattle.calls.specs.Calls.{mostChannels}
-use Rattle.true_peak.specs.TruePeak.{Block, historyAt, channelOf, withChannel, channelSamples, channelsFrom, measured, heardBy}
-use Rattle.true_peak.proofs.Lines.{sets-before, sets-at, sets-after}
+use Rattle.true_peak_state.specs.TruePeak.{Block, historyAt, channelOf, withChannel, channelSamples, channelsFrom, measured, heardBy}
+use Rattle.true_peak_state.proofs.Stores.{sets-before, sets-at, sets-after}
 
 -- a state as the code has it
 pub record Sized (t : TruePeak) : Type 0 where

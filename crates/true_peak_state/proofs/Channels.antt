@@ -9,9 +9,9 @@ use lib.ListN.{set}
 use lib.Seq.{sets}
 use lib.Ieee.{Float}
 use Rattle.interp.specs.declared.Interp.{Interp}
-use Rattle.true_peak.specs.declared.TruePeak.{TruePeak}
-use Rattle.true_peak.specs.Channel.{Channel, heard, past}
-use Rattle.true_peak.specs.TruePeak.{Block, channelOf, withChannel, channelSamples, channelsFrom}
+use Rattle.true_peak_state.specs.declared.TruePeak.{TruePeak}
+use Rattle.true_peak_state.specs.Channel.{Channel, heard, past}
+use Rattle.true_peak_state.specs.TruePeak.{Block, channelOf, withChannel, channelSamples, channelsFrom}
 
 -- a channel's memory and peak put in their places
 pub put : (t : TruePeak) (c : ℕ) (ch : Channel) (memory : List Float) (peak : Float) → peak ≡ ch .peak → memory ≡ sets (t .memory) (c * past) (ch .history)

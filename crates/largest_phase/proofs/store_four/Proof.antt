@@ -1,0 +1,21 @@
+-- `largest_phase::store_four` meets its contract: what the frame's phases make of the peak is stored. Assumes nothing.
+use borrow.Author.Needs.{needs}
+use mathlib.Core.Path.{ap}
+use lib.ListN.{set}
+use Rattle.largest_phase.proofs.store_four.Statement.{statement}
+use Rattle.largest_phase.proofs.store_four.Tie as tie
+
+loudest-four-requires : tie.Need-loudest-four-requires
+loudest-four-requires c κs = search needs
+
+mul-loud : tie.Need-mul-loud
+mul-loud c = search needs
+
+element-write-loud : tie.Need-element-write-loud
+element-write-loud c = search needs
+
+returns : tie.Need-returns
+returns c = let a = c .before .args in ap (set (a .loud .now) (a .at)) (c .loudest-four .ensures)
+
+pub store-four-spec : {M : Type 1} → statement M
+store-four-spec = tie.close (tie.spec loudest-four-requires mul-loud element-write-loud returns)

@@ -1,0 +1,5 @@
+pub mod Stores
+pub mod Channels
+pub mod Independence
+pub mod Cuts
+pub mod Worked
