@@ -5,7 +5,8 @@ use lib.ListN.{length}
 use lib.Ieee.{Float}
 use Rattle.refusals.specs.Refusal.{number}
 use Rattle.refusals.specs.Outcome.{Question, went, refused}
-use Rattle.interleaved.specs.Shown.{upTo, fromOn, framesIn, sampleIn, Place, at, pastTheEnd}
+use Rattle.interleaved_frames.specs.Shown.{framesIn, sampleIn, Place, at, pastTheEnd}
+use Rattle.interleaved_parts.specs.Parts.{upTo, fromOn}
 
 -- what an `Interleaved` holds
 pub record Part (A : Type 0) : Type 0 where

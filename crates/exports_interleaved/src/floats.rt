@@ -2,11 +2,11 @@
 ghost use mathlib.Core.Path.{_≡_};
 ghost use Rattle.refusals.specs.Outcome.{saidBy};
 ghost use Rattle.samples.specs.Sample.{samplesOfF32};
-ghost use Rattle.interleaved.specs.Said.{framesSaid, sampleSaid};
+ghost use Rattle.interleaved_frames.specs.Said.{framesSaid, sampleSaid};
 ghost use Rattle.exports_interleaved.specs.Part.{partOf, framesOfPart, sampleOfPart};
-use interleaved::Frames;
-use interleaved::Sample;
-use interleaved::floats::Interleaved;
+use interleaved_floats::Interleaved;
+use interleaved_frames::Frames;
+use interleaved_frames::Sample;
 
 fn part<'a>(samples: &'a [f32], channels: usize, first: usize, end: usize) -> Interleaved<'a>
     ensures { λ r. ⌜ (now (r .samples) ≡ partOf channels first end (now (samples .entry)) .samples) × (r .channels ≡ partOf channels first end (now (samples .entry)) .channels) ⌝ }

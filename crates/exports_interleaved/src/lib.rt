@@ -4,8 +4,8 @@ ghost use mathlib.Core.Path.{_≡_};
 ghost use Rattle.samples.specs.Sample.{samplesOf16, samplesOfF32};
 ghost use Rattle.codes.specs.Codes.{code, valueOr};
 ghost use Rattle.exports_interleaved.specs.Part.{partOf, framesOfPart, sampleOfPart, placeCode, sampleElse};
-use interleaved::Frames;
-use interleaved::Sample;
+use interleaved_frames::Frames;
+use interleaved_frames::Sample;
 
 mod floats;
 mod ints;

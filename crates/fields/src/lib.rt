@@ -1,10 +1,7 @@
 // Numbers in bytes, low byte first: the fields of records and of lists of energies.
 ghost use mathlib.Core.Path.{_≡_};
-ghost use Prim.Native.Nat.{_+_, _≤_, _<_};
 ghost use lib.ListN.{length, getD};
-ghost use Rattle.fields.specs.Field.{fieldAt, wordWidth, widest, narrowed, lowBytes};
-
-const WORD: usize = 4;
+ghost use Rattle.fields.specs.Field.{fieldAt, narrowed, lowBytes};
 
 const WIDEST: usize = 8;
 
@@ -38,40 +35,6 @@ fn narrow(width: usize) -> usize
     ensures { λ r. ⌜ r ≡ narrowed width ⌝ }
 {
     if width < WIDEST { width } else { WIDEST }
-}
-
-fn wide(byte: u8) -> u32
-    ensures { λ r. ⌜ (r ≡ byte) × (r < 256) ⌝ }
-{
-    byte as u32
-}
-
-fn word_at(bytes: &[u8], at: usize) -> u32
-    requires { ⌜ at + wordWidth ≤ length (now bytes) ⌝ }
-    ensures { λ r. ⌜ r ≡ fieldAt (now (bytes .entry)) at wordWidth ⌝ }
-{
-    let low = wide(bytes[at]) + 256 * wide(bytes[at + 1]);
-    let high = wide(bytes[at + 2]) + 256 * wide(bytes[at + 3]);
-    low + 65536 * high
-}
-
-// The number in a field's first four bytes, and in its first eight: no turn and no test a byte where it has so many.
-pub fn word(field: &[u8]) -> u32
-    ensures { λ r. ⌜ r ≡ fieldAt (now (field .entry)) 0 wordWidth ⌝ }
-{
-    if field.len() < WORD {
-        return number_at(field, 0, WORD) as u32;
-    }
-    word_at(field, 0)
-}
-
-pub fn double_word(field: &[u8]) -> u64
-    ensures { λ r. ⌜ r ≡ fieldAt (now (field .entry)) 0 widest ⌝ }
-{
-    if field.len() < WIDEST {
-        return number_at(field, 0, WIDEST);
-    }
-    word_at(field, 0) as u64 + 4294967296 * (word_at(field, WORD) as u64)
 }
 
 // The bytes of a number fill the lent field, whatever its width: what the field has no room for is left out, and further bytes are 0.

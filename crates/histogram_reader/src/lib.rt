@@ -22,7 +22,7 @@ fn word_at(bytes: &[u8], at: usize) -> u32
     ensures { λ r. ⌜ r ≡ fieldAt (now (bytes .entry)) at countWidth ⌝ }
 {
     let end = at + COUNT;
-    fields::word(&bytes[at..end])
+    words::word(&bytes[at..end])
 }
 
 // Each word becomes the number in its four bytes.

@@ -9,7 +9,7 @@ ghost use Rattle.interleaved_filter.specs.Over.{over, left};
 ghost use Rattle.interleaved_filter.specs.Said.{saidOf};
 use super::Heard;
 use filter::Filter;
-use interleaved::ints::Interleaved;
+use interleaved_ints::Interleaved;
 
 fn process_slice(
     filter: Filter,

@@ -68,7 +68,7 @@ fn pattern_at(bytes: &[u8], at: usize) -> u64
     ensures { λ r. ⌜ r ≡ fieldAt (now (bytes .entry)) at energyWidth ⌝ }
 {
     let end = at + ENERGY;
-    fields::double_word(&bytes[at..end])
+    words::double_word(&bytes[at..end])
 }
 
 // Every pattern is looked at, also past one that does not fit: without a way out the compiler tests several at once.

@@ -1,8 +1,8 @@
 -- The frames of an interleaved list of samples: a frame is one sample of each channel, channel 0 first.
-use Prim.Native.Nat.{ℕ, zero, suc, _+_, _*_, _/_}
+use Prim.Native.Nat.{ℕ, zero, suc, _+_, _/_}
 use mathlib.Core.List.{List, [], _∷_}
-use mathlib.Core.Bool.{false, cond, _&&_}
-use lib.Dec.{ltb, eqb}
+use mathlib.Core.Bool.{false, cond}
+use lib.Dec.{eqb}
 use lib.IntN.{pos}
 use lib.ListN.{length, getD}
 use lib.Ieee.{Float, fin}
@@ -14,11 +14,6 @@ silence = fin false 0 (pos 0)
 -- how many frames so many samples are, and none at no channels
 abbrev pub framesOf : ℕ → ℕ → ℕ
 framesOf channels samples = cond (eqb channels 0) 0 (samples / channels)
-
--- the sample of a channel in a frame
-unfoldable pub sampleAt : ℕ → List Float → ℕ → ℕ → Float
-sampleAt channels samples channel frame =
-    cond (ltb channel channels && ltb frame (framesOf channels (length samples))) (getD samples (frame * channels + channel) silence) silence
 
 -- count samples from place at on, one in every step places
 unfoldable pub column : List Float → ℕ → ℕ → ℕ → List Float

@@ -2,7 +2,7 @@
 use contract.Running.{givenOf, tables, tablesOf}
 use denote.Triple.Spec.{tripleOf}
 use denote.Triple.Table.{entered, cited}
-use Rattle.interleaved.proofs.TwoKinds.{ints}
+use Rattle.interleaved_ints.proofs.Ints.{ints}
 use Rattle.interleaved_filter.proofs.Walks.Seed.{meets}
 use Rattle.interleaved_filter.proofs.ints.seed_slice as seed-slice
 use Rattle.interleaved_filter.proofs.ints.seed_slice.Symbol as seed-slice-def

@@ -1,0 +1,42 @@
+-- A sample that is read through an `Interleaved` is the sample of the slice at frame · channels + channel, as a float. Assumes nothing.
+use mathlib.Core.Path.{_≡_, sym, ap, subst, _∙_}
+use mathlib.Core.List.{List, map}
+use mathlib.Core.Bool.{cond, _&&_}
+use Prim.Native.Nat.{ℕ, _+_, _*_, _/_, _%_, _≤_, _<_}
+use native.Mathlib.Omega.{arith}
+use borrow.Author.Tests.{eq-eqb, ne-eqb, le-ltb}
+use lib.Dec.{ltb}
+use lib.ListN.{length, length-map, getD}
+use lib.Ieee.{Float}
+use Rattle.refusals.specs.Outcome.{answers}
+use Rattle.samples.specs.Frames.{framesOf}
+use Rattle.frames.specs.Places.{sampleAt}
+use Rattle.samples.proofs.Columns.{frames-of}
+use Rattle.frames.proofs.Places.{sample-of}
+use Rattle.calls.specs.Check.{Check, passes, unless}
+use Rattle.calls.specs.Calls.{mostChannels, checkFrames}
+use Rattle.interleaved_frames.specs.Shown.{Place, at, pastTheEnd, sampleIn, sampleOr}
+use Rattle.interleaved_frames.proofs.Checking.{there}
+
+-- what is whole frames of 1 to 8 channels is not refused
+whole : (channels samples : ℕ) → 0 < channels → channels ≤ mostChannels → samples % channels ≡ 0 → checkFrames channels samples ≡ passes
+unfolding checkFrames
+whole channels samples p h w = rw (ne-eqb channels 0 (λ e. omega arith), le-ltb mostChannels channels h, eq-eqb (samples % channels) 0 w)
+
+module _ {A : Type 0} (f : A → Float) (l : List A) (channels channel frame : ℕ) (d : A) where
+  -- what the definition picks
+  abbrev picked : Place
+  picked = cond (ltb channel channels && ltb frame (framesOf channels (length l))) (at (sampleAt channels (map f l) channel frame)) pastTheEnd
+
+  place : channel < channels → channels ≤ mostChannels → length l % channels ≡ 0 → frame < length l / channels
+      → sampleOr channels (length l) channel frame (sampleAt channels (map f l) channel frame) ≡ answers (at (f (getD l (frame * channels + channel) d)))
+  place h m w k =
+      let p : 0 < channels = omega arith in
+      ap (λ (check : Check). unless check (answers picked)) (whole channels (length l) p m w)
+      ∙ ap answers (there channels (framesOf channels (length l)) channel frame (sampleAt channels (map f l) channel frame) h (subst (λ (n : ℕ). frame < n) (sym (frames-of channels (length l) p)) k))
+      ∙ ap (λ (x : Float). answers (at x)) (sample-of f l channels channel frame d h k)
+
+  pub read : channel < channels → channels ≤ mostChannels → length l % channels ≡ 0 → frame < length l / channels
+      → sampleIn channels (map f l) channel frame ≡ answers (at (f (getD l (frame * channels + channel) d)))
+  read h m w k =
+      ap (λ (n : ℕ). sampleOr channels n channel frame (sampleAt channels (map f l) channel frame)) (length-map l f) ∙ place h m w k
