@@ -61,18 +61,14 @@ pub extern "C" fn xel_process_i16(
         },
     };
     let filtered = filter_process::process_i16(given, data, map, dest, start);
-    let after = filtered.filter;
-    let s = after.state;
-    let s_values = s.values;
-    *state = s_values;
-    let p = after.peaks;
-    let p_values = p.values;
-    *peaks = p_values;
-    let t = after.true_peak;
-    let t_memory = t.memory;
-    *memory = t_memory;
-    let t_peaks = t.peaks;
-    *true_peaks = t_peaks;
+    let state_after = filtered.filter.state.values;
+    *state = state_after;
+    let peaks_after = filtered.filter.peaks.values;
+    *peaks = peaks_after;
+    let memory_after = filtered.filter.true_peak.memory;
+    *memory = memory_after;
+    let true_peaks_after = filtered.filter.true_peak.peaks;
+    *true_peaks = true_peaks_after;
     let answer = filtered.answer;
     number_of(answer)
 }
@@ -114,18 +110,14 @@ pub extern "C" fn xel_process_f32(
         },
     };
     let filtered = filter_process::process_f32(given, data, map, dest, start);
-    let after = filtered.filter;
-    let s = after.state;
-    let s_values = s.values;
-    *state = s_values;
-    let p = after.peaks;
-    let p_values = p.values;
-    *peaks = p_values;
-    let t = after.true_peak;
-    let t_memory = t.memory;
-    *memory = t_memory;
-    let t_peaks = t.peaks;
-    *true_peaks = t_peaks;
+    let state_after = filtered.filter.state.values;
+    *state = state_after;
+    let peaks_after = filtered.filter.peaks.values;
+    *peaks = peaks_after;
+    let memory_after = filtered.filter.true_peak.memory;
+    *memory = memory_after;
+    let true_peaks_after = filtered.filter.true_peak.peaks;
+    *true_peaks = true_peaks_after;
     let answer = filtered.answer;
     number_of(answer)
 }
@@ -159,13 +151,10 @@ pub extern "C" fn xel_seed_i16(
         },
     };
     let filtered = filter_seed::seed_i16(given, data, map);
-    let after = filtered.filter;
-    let s = after.state;
-    let s_values = s.values;
-    *state = s_values;
-    let t = after.true_peak;
-    let t_memory = t.memory;
-    *memory = t_memory;
+    let state_after = filtered.filter.state.values;
+    *state = state_after;
+    let memory_after = filtered.filter.true_peak.memory;
+    *memory = memory_after;
     let answer = filtered.answer;
     number_of(answer)
 }
@@ -199,13 +188,10 @@ pub extern "C" fn xel_seed_f32(
         },
     };
     let filtered = filter_seed::seed_f32(given, data, map);
-    let after = filtered.filter;
-    let s = after.state;
-    let s_values = s.values;
-    *state = s_values;
-    let t = after.true_peak;
-    let t_memory = t.memory;
-    *memory = t_memory;
+    let state_after = filtered.filter.state.values;
+    *state = state_after;
+    let memory_after = filtered.filter.true_peak.memory;
+    *memory = memory_after;
     let answer = filtered.answer;
     number_of(answer)
 }

@@ -1,9 +1,7 @@
 -- The filter between its calls.
 use Prim.Native.Nat.{ℕ}
-use mathlib.Core.Bool.{cond}
 use mathlib.Core.List.{List}
-use lib.Dec.{ltb}
-use lib.ListN.{getD, replicate}
+use lib.ListN.{replicate}
 use lib.Ieee.{Float}
 use Rattle.samples.specs.Frames.{silence}
 use Rattle.calls.specs.Calls.{mostChannels}
@@ -48,7 +46,3 @@ moved filter state peaks trues =
       peaks = peaks;
       «true_peak» = trues;
     }
-
--- a channel's peak among those stored, and 0 where the filter has no such channel
-abbrev pub peakOf : Filter → List Float → ℕ → Float
-peakOf filter stored channel = cond (ltb channel (filter .channels)) (getD stored channel silence) silence

@@ -1,9 +1,7 @@
-// The filter of a measurement: what it keeps between its calls, at rest and afterwards. Crates `filter_process` and `filter_seed` have its calls.
+// The filter of a measurement: what it keeps between its calls, at rest and afterwards. Crates `filter_process` and `filter_seed` have its calls, `filter_peaks` what is read of it.
 ghost use mathlib.Core.Path.{_≡_};
-ghost use lib.ListN.{getD};
-ghost use Rattle.samples.specs.Frames.{silence};
 ghost use Rattle.true_peak_state.specs.TruePeak.{silent};
-ghost use Rattle.filter.specs.Filter.{atRest, noPeaks, resting, moved, peakOf};
+ghost use Rattle.filter.specs.Filter.{atRest, noPeaks, resting, moved};
 use recurrence::Coefficients;
 use sample_peak::Peaks;
 use states::State;
@@ -82,46 +80,4 @@ pub fn reset_peaks(filter: Filter) -> Filter
     let mut trues = filter.true_peak;
     trues.peaks = [0.0; 8];
     with(filter, state, Peaks { values: [0.0; 8] }, trues)
-}
-
-fn place(values: [f64; 8], channel: usize) -> f64
-    ensures { λ r. ⌜ r ≡ getD values channel silence ⌝ }
-{
-    if 8 <= channel {
-        return 0.0;
-    }
-    values[channel]
-}
-
-fn place_f32(values: [f32; 8], channel: usize) -> f32
-    ensures { λ r. ⌜ r ≡ getD values channel silence ⌝ }
-{
-    if 8 <= channel {
-        return 0.0;
-    }
-    values[channel]
-}
-
-// A channel's sample peak, and 0 where the filter has no such channel.
-pub fn sample_peak(filter: Filter, channel: usize) -> f64
-    ensures { λ r. ⌜ r ≡ peakOf filter (filter .peaks .values) channel ⌝ }
-{
-    if filter.channels <= channel {
-        return 0.0;
-    }
-    let stored = filter.peaks;
-    let values = stored.values;
-    place(values, channel)
-}
-
-// A channel's true peak, and 0 where the filter has no such channel.
-pub fn true_peak(filter: Filter, channel: usize) -> f32
-    ensures { λ r. ⌜ r ≡ peakOf filter (filter .«true_peak» .peaks) channel ⌝ }
-{
-    if filter.channels <= channel {
-        return 0.0;
-    }
-    let stored = filter.true_peak;
-    let values = stored.peaks;
-    place_f32(values, channel)
 }

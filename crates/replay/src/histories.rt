@@ -129,7 +129,7 @@ fn all_counted(case: &[u8], counters: &[u32]) -> bool {
 // then the 8 patterns of the store.
 pub(crate) fn queue_same(case: &[u8]) -> bool {
     let mut store = [0.0; 8];
-    part_queued(case, &mut store) && store_same(case, &store)
+    part_queued(case, &mut store) && patterns_same(case, 176, &store)
 }
 
 fn part_queued(case: &[u8], store: &mut [f64]) -> bool {
@@ -170,11 +170,15 @@ fn queued_same(case: &[u8], at: usize, answer: Answer, queue: Queue) -> bool {
         && queue.held as u64 == fields::number_at(case, at + 12, 2)
 }
 
-fn store_same(case: &[u8], store: &[f64]) -> bool {
+// Whether a list of at most 24 floats has the case's patterns from a place on.
+pub(crate) fn patterns_same(case: &[u8], from: usize, values: &[f64]) -> bool {
+    if 4096 < from {
+        return false;
+    }
     let mut place = 0;
-    while place < 8 {
-        if place < store.len() {
-            if floats::pattern_of(store[place]) != fields::number_at(case, 176 + 8 * place, 8) {
+    while place < 24 {
+        if place < values.len() {
+            if floats::pattern_of(values[place]) != fields::number_at(case, from + 8 * place, 8) {
                 return false;
             }
         }

@@ -123,7 +123,7 @@ fn range_same(case: &[u8], counters: &[u32], energies: &[f64]) -> bool {
         energies,
         &mut work,
     );
-    ranged_same(case, range) && work_same(case, &work)
+    ranged_same(case, range) && crate::histories::patterns_same(case, 318, &work)
 }
 
 fn ranged_same(case: &[u8], range: Range) -> bool {
@@ -138,17 +138,4 @@ fn ranged_same(case: &[u8], range: Range) -> bool {
         Range::NotANumber => code == 129,
         Range::Refused(number) => code == number as u64,
     }
-}
-
-fn work_same(case: &[u8], work: &[f64]) -> bool {
-    let mut place = 0;
-    while place < 24 {
-        if place < work.len() {
-            if floats::pattern_of(work[place]) != fields::number_at(case, 318 + 8 * place, 8) {
-                return false;
-            }
-        }
-        place += 1;
-    }
-    true
 }

@@ -316,35 +316,15 @@ fn true_peak_of(case: &[u8]) -> TruePeak {
 
 fn filtered_same(case: &[u8], filtered: Filtered) -> bool {
     let answer = filtered.answer;
-    let after = filtered.filter;
-    let state = after.state;
-    let peaks = after.peaks;
-    let trues = after.true_peak;
+    let state = filtered.filter.state.values;
+    let peaks = filtered.filter.peaks.values;
+    let memory = filtered.filter.true_peak.memory;
+    let true_peaks = filtered.filter.true_peak.peaks;
     number_of(answer) == fields::number_at(case, 584, 2)
-        && state_same(case, state)
-        && peaks_same(case, peaks)
-        && memory_same(case, trues)
-        && true_peaks_same(case, trues)
-}
-
-fn state_same(case: &[u8], state: State) -> bool {
-    let values = state.values;
-    wide_same(case, 586, 15, &values)
-}
-
-fn peaks_same(case: &[u8], peaks: Peaks) -> bool {
-    let values = peaks.values;
-    wide_same(case, 706, 3, &values)
-}
-
-fn memory_same(case: &[u8], trues: TruePeak) -> bool {
-    let values = trues.memory;
-    narrow_same(case, 730, 69, &values)
-}
-
-fn true_peaks_same(case: &[u8], trues: TruePeak) -> bool {
-    let values = trues.peaks;
-    narrow_same(case, 1006, 3, &values)
+        && wide_same(case, 586, 15, &state)
+        && wide_same(case, 706, 3, &peaks)
+        && narrow_same(case, 730, 69, &memory)
+        && narrow_same(case, 1006, 3, &true_peaks)
 }
 
 // ---- impulses

@@ -1,112 +1,94 @@
--- Two channels weighed side by side: what is left of both gives what the whole of both gives, and a frame of each keeps it so.
+-- Two channels weighed side by side: the first is told by its memory, the second by the law of one channel over what the first leaves.
 -- The outputs of the first stand before those of the second, so an output of the second may be stored before the first's are all there. Assumes nothing.
 use Prim.Native.Nat.{ℕ, _+_, _-_, _*_, _≤_, _<_}
 use native.Mathlib.Nat.{suc-mul}
 use native.Mathlib.Omega.{arith}
-use mathlib.Core.Path.{_≡_, refl, ap, sym, subst, _∙_}
+use mathlib.Core.Path.{_≡_, refl, ap, sym, _∙_}
 use mathlib.Core.Bool.{Bool, true}
 use mathlib.Core.List.{List, [], _∷_}
-use lib.ListN.{length, length-set, set, getD, drop}
-use lib.Seq.{sets}
+use lib.ListN.{length, set, getD, drop}
+use lib.Seq.{sets, length-sets}
 use lib.Ieee.{Float, nan}
 use Rattle.samples.specs.Frames.{column}
 use Rattle.samples.proofs.Columns.{length-column}
 use Rattle.recurrence.specs.declared.Memory.{Memory}
 use Rattle.calls.specs.Calls.{mostChannels, used}
 use Rattle.sources.specs.Blocks.{Reach}
-use Rattle.recurrence.specs.Recurrence.{head, output, next, out, after, outs}
+use Rattle.recurrence.specs.Recurrence.{head, next, out, after, outs}
 use Rattle.states.specs.Channels.{memoryOf, withMemory, overUsed}
 use Rattle.weighting.specs.Weighting.{overParts}
-use Rattle.sources.proofs.Reaching.{reach-here, reach-rest}
 use Rattle.recurrence.proofs.Moving.{turn-after, turn-outs, none-after, none-outs, length-outs}
 use Rattle.sources.proofs.Stores.{sets-comm}
 use Rattle.states.proofs.Memories.{changed, changed-above, over-again}
 use Rattle.weighting.proofs.Destinations.{stored, parts-again}
+use Rattle.weighting.proofs.Single.{Single, moved, turn, here, following, end}
 
 -- from memories m and n and a destination, `left` frames of two neighbouring channels give these memories and this destination
 pub record Both (a b block : List Float) (step part : ℕ) (one two : Memory) (whole : List Float) (m n : Memory) (i j left : ℕ) (dest : List Float) : Type 0 where
-  pub reach : Reach (i + 1) step left (length block)
   pub apart : left ≤ part
-  pub room : j + part + left ≤ length dest
   pub first : after a m (column block i step left) ≡ one
-  pub second : after a n (column block (i + 1) step left) ≡ two
-  pub given : sets (sets dest j (outs a b m (column block i step left))) (j + part) (outs a b n (column block (i + 1) step left)) ≡ whole
+  pub second : Single a b block step two whole n (i + 1) (j + part) left (sets dest j (outs a b m (column block i step left)))
 
-module _ (a b block : List Float) (step part : ℕ) (one two : Memory) (whole : List Float) where
-  abbrev pub From : Memory → Memory → ℕ → ℕ → ℕ → List Float → Type 0
-  From = Both a b block step part one two whole
-
+module _ {a b block : List Float} {step part : ℕ} {one two : Memory} {whole : List Float} {m n : Memory} {i j left : ℕ} {dest : List Float} (f : Both a b block step part one two whole m n i j left dest) where
   -- a frame of each
-  pub both-turn : (m n m′ n′ : Memory) (i j left : ℕ) (dest dest′ : List Float) → 0 < left
-      → m′ ≡ next a m (getD block i nan) → n′ ≡ next a n (getD block (i + 1) nan)
+  pub both-turn : (m′ n′ : Memory) (dest′ : List Float) → 0 < left → m′ ≡ next a m (getD block i nan) → n′ ≡ next a n (getD block (i + 1) nan)
       → dest′ ≡ set (set dest j (out a b m (getD block i nan))) (j + part) (out a b n (getD block (i + 1) nan))
-      → From m n i j left dest → From m′ n′ (i + step) (j + 1) (left - 1) dest′
+      → Both a b block step part one two whole m′ n′ (i + step) (j + 1) (left - 1) dest′
   unfolding next out
-  both-turn m n m′ n′ i j left dest dest′ some em en ed f =
-      let rest = reach-rest (i + 1) step left (length block) some (f .reach) in
-      let far : i + 1 < length block = reach-here (i + 1) step left (length block) some (f .reach) in
-      let near : i < length block = omega arith in
-      let place : i + step + 1 ≡ i + 1 + step = omega arith in
-      let spot : j + 1 + part ≡ j + part + 1 = omega arith in
+  both-turn m′ n′ dest′ some em en ed =
+      let near : i < length block = omega (arith, here (f .second) some .0) in
       let x = getD block i nan in
-      let y = getD block (i + 1) nan in
-      let u = output b m (head a m x) in
-      let v = output b n (head a n y) in
+      let u = out a b m x in
+      let v = out a b n (getD block (i + 1) nan) in
       let mine = outs a b m′ (column block (i + step) step (left - 1)) in
-      let other = outs a b n′ (column block (i + 1 + step) step (left - 1)) in
       let size : length mine ≡ left - 1 = length-outs a b m′ (column block (i + step) step (left - 1)) ∙ length-column block (i + step) step (left - 1) in
+      let stores : sets dest′ (j + 1) mine ≡ set (sets dest j (outs a b m (column block i step left))) (j + part) v =
+      ap (λ (d : List Float). sets d (j + 1) mine) ed
+      ∙ sym (sets-comm mine (v ∷ []) (set dest j u) (j + 1) (j + part) (omega (arith, size, f .apart)))
+      ∙ ap (λ (d : List Float). set d (j + part) v) (turn-outs a b m block i step left some near (head a m x) u m′ refl em refl dest j) in
       record {
-        reach = record { few = rest .few; within = omega (arith, rest .within) };
         apart = omega (arith, f .apart);
-        room = omega (arith, ap length ed ∙ length-set (set dest j u) (j + part) v ∙ length-set dest j u, f .room);
         first = turn-after a b m block i step left some near (head a m x) u m′ refl em ∙ f .first;
         second =
-            ap (λ (k : ℕ). after a n′ (column block k step (left - 1))) place
-            ∙ turn-after a b n block (i + 1) step left some far (head a n y) v n′ refl en
-            ∙ f .second;
-        given =
-            ap (λ (k : ℕ). sets (sets dest′ (j + 1) mine) k (outs a b n′ (column block (i + step + 1) step (left - 1)))) spot
-            ∙ ap (λ (k : ℕ). sets (sets dest′ (j + 1) mine) (j + part + 1) (outs a b n′ (column block k step (left - 1)))) place
-            ∙ ap (λ (d : List Float). sets (sets d (j + 1) mine) (j + part + 1) other) ed
-            ∙ ap (λ (d : List Float). sets d (j + part + 1) other) (sym (sets-comm mine (v ∷ []) (set dest j u) (j + 1) (j + part) (omega (arith, size, f .apart))))
-            ∙ ap (λ (d : List Float). sets (set d (j + part) v) (j + part + 1) other) (turn-outs a b m block i step left some near (head a m x) u m′ refl em refl dest j)
-            ∙ turn-outs a b n block (i + 1) step left some far (head a n y) v n′ refl en refl (sets dest j (outs a b m (column block i step left))) (j + part)
-            ∙ f .given;
+            moved (λ p q k. Single a b block step two whole n′ p q k (sets dest′ (j + 1) mine)) (i + 1 + step) (j + part + 1) (left - 1) (i + step + 1) (j + 1 + part) (left - 1) (omega arith) (omega arith) refl
+            (turn (f .second) n′ (sets dest′ (j + 1) mine) some en stores);
       }
 
+  size : length (sets dest j (outs a b m (column block i step left))) ≡ length dest
+  size = length-sets dest j (outs a b m (column block i step left))
+
   -- where the frame stands, and the one after it
-  pub both-here : (m n : Memory) (i j left : ℕ) (dest : List Float) → 0 < left → From m n i j left dest → (i + 1 < length block) × (j + part < length dest)
-  both-here m n i j left dest some f = (reach-here (i + 1) step left (length block) some (f .reach), omega (arith, f .room))
+  pub both-here : 0 < left → (i + 1 < length block) × (j + part < length dest)
+  both-here some = let h = here (f .second) some in (h .0, omega (arith, h .1, size))
 
-  pub both-next : (m n : Memory) (i j left : ℕ) (dest : List Float) → 1 < left → From m n i j left dest → (i + step + 1 < length block) × ((j + 1 + part < length dest) × (step ≤ mostChannels))
-  both-next m n i j left dest two f =
-      let r = reach-rest (i + 1) step left (length block) (omega arith) (f .reach) in
-      (omega (arith, reach-here (i + 1 + step) step (left - 1) (length block) (omega arith) r), (omega (arith, f .room), r .few))
-
-  -- two frames of each
-  pub both-twice : (m n m1 n1 m2 n2 : Memory) (i j left : ℕ) (d d1 d2 : List Float) → 1 < left
-      → m1 ≡ next a m (getD block i nan) → n1 ≡ next a n (getD block (i + 1) nan)
-      → d1 ≡ set (set d j (out a b m (getD block i nan))) (j + part) (out a b n (getD block (i + 1) nan))
-      → m2 ≡ next a m1 (getD block (i + step) nan) → n2 ≡ next a n1 (getD block (i + step + 1) nan)
-      → d2 ≡ set (set d1 (j + 1) (out a b m1 (getD block (i + step) nan))) (j + 1 + part) (out a b n1 (getD block (i + step + 1) nan))
-      → From m n i j left d → From m2 n2 (i + (step + step)) (j + 2) (left - 2) d2
-  both-twice m n m1 n1 m2 n2 i j left d d1 d2 two em en ed em1 en1 ed1 f =
-      let e : i + step + step ≡ i + (step + step) = omega arith in
-      let g : j + 1 + 1 ≡ j + 2 = omega arith in
-      let h : left - 1 - 1 ≡ left - 2 = omega arith in
-      let t : From m2 n2 (i + step + step) (j + 1 + 1) (left - 1 - 1) d2 =
-      both-turn m1 n1 m2 n2 (i + step) (j + 1) (left - 1) d1 d2 (omega arith) em1 en1 ed1 (both-turn m n m1 n1 i j left d d1 (omega arith) em en ed f) in
-      subst (λ (k : ℕ). From m2 n2 (i + (step + step)) (j + 2) k d2) h (subst (λ (k : ℕ). From m2 n2 (i + (step + step)) k (left - 1 - 1) d2) g (subst (λ (k : ℕ). From m2 n2 k (j + 1 + 1) (left - 1 - 1) d2) e t))
+  pub both-next : 1 < left → (i + step + 1 < length block) × ((j + 1 + part < length dest) × (step ≤ mostChannels))
+  both-next more = let h = following (f .second) more in (omega (arith, h .0), (omega (arith, h .1 .0, size), h .1 .1))
 
   -- no frames left
-  pub both-end : (m n : Memory) (i j left : ℕ) (dest : List Float) → left ≡ 0 → From m n i j left dest → (m ≡ one) × ((n ≡ two) × (dest ≡ whole))
-  both-end m n i j left dest z f = (
-    sym (none-after a m block i step left z) ∙ f .first,
-    (
-      sym (none-after a n block (i + 1) step left z) ∙ f .second,
-      sym (none-outs a b n block (i + 1) step left (sets dest j (outs a b m (column block i step left))) (j + part) z ∙ none-outs a b m block i step left dest j z) ∙ f .given,
-    ),
-  )
+  pub both-end : left ≡ 0 → (m ≡ one) × ((n ≡ two) × (dest ≡ whole))
+  both-end z =
+      let e = end (f .second) z in
+      (sym (none-after a m block i step left z) ∙ f .first, (e .0, sym (none-outs a b m block i step left dest j z) ∙ e .1))
+
+module _ {a b block : List Float} {step part : ℕ} {one two : Memory} {whole : List Float} {m n : Memory} {i j left : ℕ} {dest : List Float} (f : Both a b block step part one two whole m n i j left dest) where
+  -- two frames of each
+  pub both-twice : (m1 n1 m2 n2 : Memory) (d1 d2 : List Float) → 1 < left
+      → m1 ≡ next a m (getD block i nan) → n1 ≡ next a n (getD block (i + 1) nan)
+      → d1 ≡ set (set dest j (out a b m (getD block i nan))) (j + part) (out a b n (getD block (i + 1) nan))
+      → m2 ≡ next a m1 (getD block (i + step) nan) → n2 ≡ next a n1 (getD block (i + step + 1) nan)
+      → d2 ≡ set (set d1 (j + 1) (out a b m1 (getD block (i + step) nan))) (j + 1 + part) (out a b n1 (getD block (i + step + 1) nan))
+      → Both a b block step part one two whole m2 n2 (i + (step + step)) (j + 2) (left - 2) d2
+  both-twice m1 n1 m2 n2 d1 d2 more em en ed em1 en1 ed1 =
+      moved (λ p q k. Both a b block step part one two whole m2 n2 p q k d2) (i + step + step) (j + 1 + 1) (left - 1 - 1) (i + (step + step)) (j + 2) (left - 2) (omega arith) (omega arith) (omega arith)
+      (both-turn (both-turn f m1 n1 d1 (omega arith) em en ed) m2 n2 d2 (omega arith) em1 en1 ed1)
+
+-- all frames are left
+pub both-start : (a b block : List Float) (step part : ℕ) (m n : Memory) (i j left : ℕ) (dest : List Float) → Reach (i + 1) step left (length block) → left ≤ part → j + part + left ≤ length dest
+    → let mine = outs a b m (column block i step left) in
+    let other = column block (i + 1) step left in
+    Both a b block step part (after a m (column block i step left)) (after a n other) (sets (sets dest j mine) (j + part) (outs a b n other)) m n i j left dest
+both-start a b block step part m n i j left dest r h room =
+    record { apart = h; first = refl; second = record { reach = r; room = omega (arith, room, length-sets dest j (outs a b m (column block i step left))); memory = refl; given = refl } }
 
 -- ---- two channels more, both used
 

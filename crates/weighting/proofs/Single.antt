@@ -21,16 +21,16 @@ pub record Single (a b block : List Float) (step : ℕ) (one : Memory) (whole : 
   pub memory : after a m (column block i step left) ≡ one
   pub given : sets dest j (outs a b m (column block i step left)) ≡ whole
 
-module _ (a b block : List Float) (step : ℕ) (one : Memory) (whole : List Float) where
-  abbrev pub From : Memory → ℕ → ℕ → ℕ → List Float → Type 0
-  From = Single a b block step one whole
+-- the same at places and a number of frames that are the same
+pub moved : (P : ℕ → ℕ → ℕ → Type 0) (i j left i′ j′ left′ : ℕ) → i ≡ i′ → j ≡ j′ → left ≡ left′ → P i j left → P i′ j′ left′
+moved P i j left i′ j′ left′ e g h p = subst (P i′ j′) h (subst (λ (k : ℕ). P i′ k left) g (subst (λ (k : ℕ). P k j left) e p))
 
+module _ {a b block : List Float} {step : ℕ} {one : Memory} {whole : List Float} {m : Memory} {i j left : ℕ} {dest : List Float} (f : Single a b block step one whole m i j left dest) where
   -- a frame
-  pub turn : (m m′ : Memory) (i j left : ℕ) (dest dest′ : List Float) → 0 < left
-      → m′ ≡ next a m (getD block i nan) → dest′ ≡ set dest j (out a b m (getD block i nan))
-      → From m i j left dest → From m′ (i + step) (j + 1) (left - 1) dest′
+  pub turn : (m′ : Memory) (dest′ : List Float) → 0 < left → m′ ≡ next a m (getD block i nan) → dest′ ≡ set dest j (out a b m (getD block i nan))
+      → Single a b block step one whole m′ (i + step) (j + 1) (left - 1) dest′
   unfolding next out
-  turn m m′ i j left dest dest′ some em ed f =
+  turn m′ dest′ some em ed =
       let x = getD block i nan in
       let u = output b m (head a m x) in
       let here = reach-here i step left (length block) some (f .reach) in
@@ -45,26 +45,24 @@ module _ (a b block : List Float) (step : ℕ) (one : Memory) (whole : List Floa
       }
 
   -- where the frame stands, and the one after it
-  pub here : (m : Memory) (i j left : ℕ) (dest : List Float) → 0 < left → From m i j left dest → (i < length block) × (j < length dest)
-  here m i j left dest some f = (reach-here i step left (length block) some (f .reach), omega (arith, f .room))
+  pub here : 0 < left → (i < length block) × (j < length dest)
+  here some = (reach-here i step left (length block) some (f .reach), omega (arith, f .room))
 
-  pub following : (m : Memory) (i j left : ℕ) (dest : List Float) → 1 < left → From m i j left dest → (i + step < length block) × ((j + 1 < length dest) × (step ≤ mostChannels))
-  following m i j left dest two f =
+  pub following : 1 < left → (i + step < length block) × ((j + 1 < length dest) × (step ≤ mostChannels))
+  following two =
       let r = reach-rest i step left (length block) (omega arith) (f .reach) in
       (reach-here (i + step) step (left - 1) (length block) (omega arith) r, (omega (arith, f .room), r .few))
 
-  -- two frames
-  pub twice : (m m1 m2 : Memory) (i j left : ℕ) (d d1 d2 : List Float) → 1 < left
-      → m1 ≡ next a m (getD block i nan) → d1 ≡ set d j (out a b m (getD block i nan))
-      → m2 ≡ next a m1 (getD block (i + step) nan) → d2 ≡ set d1 (j + 1) (out a b m1 (getD block (i + step) nan))
-      → From m i j left d → From m2 (i + (step + step)) (j + 2) (left - 2) d2
-  twice m m1 m2 i j left d d1 d2 two em ed em1 ed1 f =
-      let e : i + step + step ≡ i + (step + step) = omega arith in
-      let g : j + 1 + 1 ≡ j + 2 = omega arith in
-      let h : left - 1 - 1 ≡ left - 2 = omega arith in
-      let t : From m2 (i + step + step) (j + 1 + 1) (left - 1 - 1) d2 = turn m1 m2 (i + step) (j + 1) (left - 1) d1 d2 (omega arith) em1 ed1 (turn m m1 i j left d d1 (omega arith) em ed f) in
-      subst (λ (k : ℕ). From m2 (i + (step + step)) (j + 2) k d2) h (subst (λ (k : ℕ). From m2 (i + (step + step)) k (left - 1 - 1) d2) g (subst (λ (k : ℕ). From m2 k (j + 1 + 1) (left - 1 - 1) d2) e t))
-
   -- no frames left
-  pub end : (m : Memory) (i j left : ℕ) (dest : List Float) → left ≡ 0 → From m i j left dest → (m ≡ one) × (dest ≡ whole)
-  end m i j left dest z f = (sym (none-after a m block i step left z) ∙ f .memory, sym (none-outs a b m block i step left dest j z) ∙ f .given)
+  pub end : left ≡ 0 → (m ≡ one) × (dest ≡ whole)
+  end z = (sym (none-after a m block i step left z) ∙ f .memory, sym (none-outs a b m block i step left dest j z) ∙ f .given)
+
+module _ {a b block : List Float} {step : ℕ} {one : Memory} {whole : List Float} {m : Memory} {i j left : ℕ} {dest : List Float} (f : Single a b block step one whole m i j left dest) where
+  -- two frames
+  pub twice : (m1 m2 : Memory) (d1 d2 : List Float) → 1 < left
+      → m1 ≡ next a m (getD block i nan) → d1 ≡ set dest j (out a b m (getD block i nan))
+      → m2 ≡ next a m1 (getD block (i + step) nan) → d2 ≡ set d1 (j + 1) (out a b m1 (getD block (i + step) nan))
+      → Single a b block step one whole m2 (i + (step + step)) (j + 2) (left - 2) d2
+  twice m1 m2 d1 d2 two em ed em1 ed1 =
+      moved (λ p q k. Single a b block step one whole m2 p q k d2) (i + step + step) (j + 1 + 1) (left - 1 - 1) (i + (step + step)) (j + 2) (left - 2) (omega arith) (omega arith) (omega arith)
+      (turn (turn f m1 d1 (omega arith) em ed) m2 d2 (omega arith) em1 ed1)

@@ -23,11 +23,13 @@ same-length c = search needs
 
 returns : tie.Need-returns
 returns c =
-    let given = c .before .before .before .before .before .before .before .before .before .before .before .before .before .before .before .before .before .before .before .before .before .before .before .args in
-    let call = c .before .before .before .before .before .before .before .before .before .before .before .process-f32 in
+    let called = c .before .before .before .before .before .before .before in
+    let on = called .before .before .before .before .before .before .before .before in
+    let given = on .before .before .before .before .args in
+    let call = called .process-f32 in
     let filter =
     switched (given .channels) (given .rate) (given .on) (now (given .a)) (now (given .b)) (now (given .state)) (now (given .peaks)) (now (given .memory)) (now (given .true-peaks))
-    (c .before .before .before .before .before .before .before .before .before .before .before .before .before .before .before .before .before .before .before .switches-of .result) (c .before .before .before .before .before .before .before .before .before .before .before .before .before .before .before .before .before .before .before .switches-of .ensures) in
+    (on .switches-of .result) (on .switches-of .ensures) in
     processed-told _ _ (call .result .answer) (call .result .filter) _ _
     (ap (λ (f : Filter). callOf f (samplesOfF32 (now (given .«data»))) (now (given .map)) (now (given .dest)) (given .start)) filter)
     (call .ensures .0) (call .ensures .1 .0) (call .ensures .1 .1) (c .number-of .ensures)

@@ -23,11 +23,13 @@ number-of-requires c κs = search needs
 returns : tie.Need-returns
 unfolding ofBits
 returns c =
-    let given = c .before .before .before .before .before .before .before .before .before .before .before .before .before .args in
-    let call = c .before .before .before .before .before .before .seed-i16 in
+    let called = c .before .before .before in
+    let on = called .before .before .before .before .before in
+    let given = on .before .before .args in
+    let call = called .seed-i16 in
     let filter =
     switched (given .channels) (given .rate) (given .on) (now (given .a)) (now (given .a)) (now (given .state)) noPeaks (now (given .memory)) noPeaks
-    (c .before .before .before .before .before .before .before .before .before .before .before .switches-of .result) (c .before .before .before .before .before .before .before .before .before .before .before .switches-of .ensures) in
+    (on .switches-of .result) (on .switches-of .ensures) in
     seeded-told _ _ (call .result .answer) (call .result .filter) _
     (ap (λ (f : Filter). seedOf f (samplesOf16 (now (given .«data»))) (now (given .map))) filter)
     (call .ensures .0) (call .ensures .1) (c .number-of .ensures)

@@ -1,6 +1,6 @@
 -- `weighting::process` meets its contract: the number of the check is the refusal, and past it state and destination are what the definitions say. Assumes nothing.
 use borrow.Author.Needs.{needs}
-use Prim.Native.Nat.{ℕ, _/_}
+use Prim.Native.Nat.{ℕ}
 use native.Mathlib.Nat.{le-of-eq}
 use native.Mathlib.Omega.{arith}
 use mathlib.Core.Path.{_≡_, sym, ap, _∙_}
@@ -12,10 +12,9 @@ use Rattle.refusals.specs.Outcome.{Outcome, saidBy, keptBy, went, NoValues, don
 use Rattle.calls.specs.Check.{Check, numberOf}
 use Rattle.calls.specs.Calls.{checkProcess}
 use Rattle.calls.proofs.Checking.{passed, Framed, framed, mapped, seeds, Processes, processes, roomy}
-use Rattle.calls.proofs.Stopping.{Refuses, stopped, goes}
+use Rattle.calls.proofs.Stopping.{stopped, goes}
 use Rattle.sources.specs.Source.{sourceOf}
 use Rattle.sources.proofs.Cutting.{all-frames}
-use Rattle.states.specs.declared.State.{State}
 use Rattle.states.specs.Channels.{Call, callOf, stateAfter}
 use Rattle.states.proofs.Whole.{state-is}
 use Rattle.weighting.specs.Weighting.{Kept, destAfter, weighed}

@@ -10,14 +10,14 @@ use Rattle.calls.specs.Calls.{mostChannels}
 use Rattle.sources.specs.Source.{sourceOf}
 use Rattle.sources.proofs.ByKind.{source-below}
 use Rattle.recurrence.specs.Recurrence.{after, outs}
-use Rattle.weighting.proofs.Single.{From, turn, here, following, twice, end}
+use Rattle.weighting.proofs.Single.{Single, turn, here, following, twice, end}
 use Rattle.weighting.proofs.channels.weigh.Statement.{statement}
 use Rattle.weighting.proofs.channels.weigh.Tie as tie
 
 abbrev Inv-loop : tie.InvT-loop
 Inv-loop c ints floats first step count dest₀ to w₀ left₀ i₀ j₀ dest w left i j =
     (length dest ≡ length dest₀)
-    × From (c .a) (c .b) (sourceOf ints floats) step
+    × Single (c .a) (c .b) (sourceOf ints floats) step
     (after (c .a) w₀ (column (sourceOf ints floats) first step count))
     (sets dest₀ to (outs (c .a) (c .b) w₀ (column (sourceOf ints floats) first step count)))
     w i j left dest
@@ -31,14 +31,14 @@ loop-holds c =
     (refl, record { reach = p .0; room = p .1; memory = refl; given = refl })
 
 frame-requires : tie.Need-frame-requires Inv-loop μ-loop
-frame-requires c κs = let q = c .before in here _ _ _ _ _ _ _ _ _ _ _ (omega (arith, q .loop-test .taken)) (q .before .loop .inv .1)
+frame-requires c κs = let q = c .before in here (q .before .loop .inv .1) (omega (arith, q .loop-test .taken))
 
 -- the second frame of a turn is there too
 second : (c : tie.In-loop Inv-loop μ-loop) → let s = c .before .before .before .before in let l = c .before .loop in
     (l .i + s .args .step < length (sourceOf (s .args .ints .now) (s .args .floats .now))) × ((l .j + 1 < length (s .args .dest .now)) × (s .args .step ≤ mostChannels))
 second c =
     let l = c .before .loop in
-    let r = following _ _ _ _ _ _ _ _ _ _ _ (c .loop-test .taken) (l .inv .1) in
+    let r = following (l .inv .1) (c .loop-test .taken) in
     (r .0, (omega (arith, r .1 .0, l .inv .0), r .1 .1))
 
 -- the samples are few enough
@@ -89,11 +89,11 @@ loop-again c =
     let e = one .frame .ensures in
     let f = two .frame2 .ensures in (
       two .frame2 .kept .1 .1 .1 .1 .1 .0 ∙ one .frame .kept .1 .1 .1 .1 .1 .0 ∙ l .inv .0,
-      twice _ _ _ _ _ _ _ _ _ (l .i) (l .j) (l .left) _ _ _ (q .loop-test .taken) (e .0) (e .1) (f .0) (f .1) (l .inv .1),
+      twice (l .inv .1) (one .frame .result) (two .frame2 .result) _ _ (q .loop-test .taken) (e .0) (e .1) (f .0) (f .1),
     )
 
 frame-requires-3 : tie.Need-frame-requires-3 Inv-loop μ-loop
-frame-requires-3 c κs = let q = c .before in here _ _ _ _ _ _ _ _ _ _ _ (q .if1 .taken) (q .before .before .loop .inv .1)
+frame-requires-3 c κs = let q = c .before in here (q .before .before .loop .inv .1) (q .if1 .taken)
 
 same-length : tie.Need-same-length Inv-loop μ-loop
 same-length c = search needs
@@ -105,7 +105,7 @@ returns c =
     let l = q .before .before .loop in
     let e = t .frame3 .ensures in
     let z : l .left - 1 ≡ 0 = omega (arith, q .before .loop-test .left, q .if1 .taken) in
-    end _ _ _ _ _ _ _ _ _ _ _ z (turn _ _ _ _ _ _ _ _ (l .i) (l .j) (l .left) _ _ (q .if1 .taken) (e .0) (e .1) (l .inv .1))
+    end (turn (l .inv .1) (t .frame3 .result) _ (q .if1 .taken) (e .0) (e .1)) z
 
 same-length-2 : tie.Need-same-length-2 Inv-loop μ-loop
 same-length-2 c = search needs
@@ -114,7 +114,7 @@ returns-2 : tie.Need-returns-2 Inv-loop μ-loop
 returns-2 c =
     let l = c .before .before .loop in
     let z : l .left ≡ 0 = omega (arith, c .if1 .left) in
-    end _ _ _ _ _ _ _ _ _ _ _ z (l .inv .1)
+    end (l .inv .1) z
 
 pub weigh-spec : {M : Type 1} → statement M
 weigh-spec =

@@ -1,9 +1,8 @@
 -- `weighting::weigh_channels` meets its contract: the channels left, from the state and the destination as they are, give what all of them give.
 -- A channel that is left has the memory that it came with. Assumes nothing.
-use borrow.Author.Needs.{needs}
-use Prim.Native.Nat.{ℕ, _+_, _*_, _-_, _≤_, _<_}
+use Prim.Native.Nat.{ℕ, _-_, _≤_, _<_}
 use native.Mathlib.Omega.{arith}
-use mathlib.Core.Path.{_≡_, refl, sym, ap, _∙_}
+use mathlib.Core.Path.{_≡_, refl, sym, _∙_}
 use mathlib.Core.List.{List}
 use lib.ListN.{length, drop}
 use lib.Ieee.{Float}
@@ -74,10 +73,14 @@ loop-again : tie.Need-loop-again Inv-loop μ-loop
 loop-again c =
     let t = c .before .before .before in
     let w = t .before .before .before .before .before .before in
+    let l = w .before .before .before in
+    let s = l .before .before .before .before in
+    let a = s .args in
     let e = t .weigh-next2 .ensures in
     let f = w .weigh-next .ensures in
-    fewer _ _ _ _ _ _ _ _ _ _ _ _ _ _ _ _ (e .0) (t .weigh-next2 .kept .1 .1 .1 .1 .1 .1 .1 .0) (e .1 .0) (e .1 .1 .0) (e .1 .1 .1)
-    (fewer _ _ _ _ _ _ _ _ _ _ _ _ _ _ _ _ (f .0) (w .weigh-next .kept .1 .1 .1 .1 .1 .1 .1 .0) (f .1 .0) (f .1 .1 .0) (f .1 .1 .1) (w .before .before .before .loop .inv))
+    let more = fewer (a .c .a) (a .c .b) (sourceOf (a .ints .now) (a .floats .now)) (a .channels) (a .count) (a .part) (a .to) (a .map .now) (a .s .values) (a .dest .now) in
+    more (w .weigh-next .result .state .values) (t .weigh-next2 .result .state .values) (w .weigh-next .result .next) (t .weigh-next2 .result .next) _ _ (e .0) (t .weigh-next2 .kept .1 .1 .1 .1 .1 .1 .1 .0) (e .1 .0) (e .1 .1 .0) (e .1 .1 .1)
+    (more (l .loop .w .values) (w .weigh-next .result .state .values) (l .loop .k) (w .weigh-next .result .next) (l .loop .dest) _ (f .0) (w .weigh-next .kept .1 .1 .1 .1 .1 .1 .1 .0) (f .1 .0) (f .1 .1 .0) (f .1 .1 .1) (l .loop .inv))
 
 loop-less-2 : tie.Need-loop-less-2 Inv-loop μ-loop
 loop-less-2 c = let w = c .before .before .before .before in omega (arith, w .weigh-next .ensures .0)
@@ -85,8 +88,12 @@ loop-less-2 c = let w = c .before .before .before .before in omega (arith, w .we
 loop-again-2 : tie.Need-loop-again-2 Inv-loop μ-loop
 loop-again-2 c =
     let w = c .before .before .before .before in
+    let l = w .before .before .before in
+    let s = l .before .before .before .before in
+    let a = s .args in
     let f = w .weigh-next .ensures in
-    fewer _ _ _ _ _ _ _ _ _ _ _ _ _ _ _ _ (f .0) (w .weigh-next .kept .1 .1 .1 .1 .1 .1 .1 .0) (f .1 .0) (f .1 .1 .0) (f .1 .1 .1) (w .before .before .before .loop .inv)
+    fewer (a .c .a) (a .c .b) (sourceOf (a .ints .now) (a .floats .now)) (a .channels) (a .count) (a .part) (a .to) (a .map .now) (a .s .values) (a .dest .now)
+    (l .loop .w .values) (w .weigh-next .result .state .values) (l .loop .k) (w .weigh-next .result .next) (l .loop .dest) _ (f .0) (w .weigh-next .kept .1 .1 .1 .1 .1 .1 .1 .0) (f .1 .0) (f .1 .1 .0) (f .1 .1 .1) (l .loop .inv)
 
 same-length : tie.Need-same-length Inv-loop μ-loop
 same-length c = c .before .loop .inv .1 .0

@@ -1,8 +1,8 @@
 -- `weighting::weigh_two` meets its contract: the frames left of both channels give what all of them give; two frames a turn, and one more where their number is odd. Assumes nothing.
 use borrow.Author.Needs.{needs}
-use Prim.Native.Nat.{ℕ, _+_, _-_, _*_, _^_, _≤_, _<_}
+use Prim.Native.Nat.{_+_, _-_, _^_, _≤_, _<_}
 use native.Mathlib.Omega.{arith}
-use mathlib.Core.Path.{_≡_, refl, sym, ap, subst, _∙_}
+use mathlib.Core.Path.{_≡_, refl, _∙_}
 use lib.ListN.{length}
 use lib.Seq.{sets}
 use Rattle.samples.specs.Frames.{column}
@@ -10,15 +10,14 @@ use Rattle.calls.specs.Calls.{mostChannels}
 use Rattle.sources.specs.Source.{sourceOf}
 use Rattle.sources.proofs.ByKind.{source-below}
 use Rattle.recurrence.specs.Recurrence.{after, outs}
-use Rattle.sources.proofs.Reaching.{reach-here, reach-next}
-use Rattle.weighting.proofs.Pairs.{From, both-here, both-next, both-turn, both-twice, both-end}
+use Rattle.weighting.proofs.Pairs.{Both, both-start, both-here, both-next, both-turn, both-twice, both-end}
 use Rattle.weighting.proofs.channels.weigh_two.Statement.{statement}
 use Rattle.weighting.proofs.channels.weigh_two.Tie as tie
 
 abbrev Inv-loop : tie.InvT-loop
 Inv-loop c ints floats first step count dest₀ to part w₀ left₀ i₀ j₀ dest w left i j =
     (length dest ≡ length dest₀)
-    × From (c .a) (c .b) (sourceOf ints floats) step part
+    × Both (c .a) (c .b) (sourceOf ints floats) step part
     (after (c .a) (w₀ .one) (column (sourceOf ints floats) first step count))
     (after (c .a) (w₀ .two) (column (sourceOf ints floats) (first + 1) step count))
     (sets (sets dest₀ to (outs (c .a) (c .b) (w₀ .one) (column (sourceOf ints floats) first step count))) (to + part) (outs (c .a) (c .b) (w₀ .two) (column (sourceOf ints floats) (first + 1) step count)))
@@ -29,18 +28,19 @@ abbrev μ-loop : tie.MeasureT-loop
 
 loop-holds : tie.Need-loop-holds Inv-loop μ-loop
 loop-holds c =
-    let p = c .before .before .pre in
-    (refl, record { reach = p .0; apart = p .1 .0; room = p .1 .1; first = refl; second = refl; given = refl })
+    let s = c .before .before in
+    let a = s .args in
+    (refl, both-start (a .c .a) (a .c .b) (sourceOf (a .ints .now) (a .floats .now)) (a .step) (a .part) (a .p .one) (a .p .two) (a .first) (a .to) (a .count) (a .dest .now) (s .pre .0) (s .pre .1 .0) (s .pre .1 .1))
 
 frame-two-requires : tie.Need-frame-two-requires Inv-loop μ-loop
-frame-two-requires c κs = let q = c .before in both-here _ _ _ _ _ _ _ _ _ _ _ _ _ _ (omega (arith, q .loop-test .taken)) (q .before .loop .inv .1)
+frame-two-requires c κs = let q = c .before in both-here (q .before .loop .inv .1) (omega (arith, q .loop-test .taken))
 
 -- the second frame of a turn is there too
 second : (c : tie.In-loop Inv-loop μ-loop) → let s = c .before .before .before .before in let l = c .before .loop in
     (l .i + s .args .step + 1 < length (sourceOf (s .args .ints .now) (s .args .floats .now))) × ((l .j + 1 + s .args .part < length (s .args .dest .now)) × (s .args .step ≤ mostChannels))
 second c =
     let l = c .before .loop in
-    let r = both-next _ _ _ _ _ _ _ _ _ _ _ _ _ _ (c .loop-test .taken) (l .inv .1) in
+    let r = both-next (l .inv .1) (c .loop-test .taken) in
     (r .0, (omega (arith, r .1 .0, l .inv .0), r .1 .1))
 
 -- the samples are few enough
@@ -64,7 +64,7 @@ frame-two-requires-2 c κs =
     (e .0, omega (arith, e .1 .0, t .frame-two .kept .1 .1 .1 .1 .1 .0, t .before .before .before .loop .inv .0))
 
 add-i : tie.Need-add-i Inv-loop μ-loop
-add-i c = search needs
+add-i c = let q = c .before .before .before .before .before .before .before .before in omega (arith, second q .1 .1)
 
 add-i-2 : tie.Need-add-i-2 Inv-loop μ-loop
 add-i-2 c =
@@ -91,11 +91,11 @@ loop-again c =
     let e = one .frame-two .ensures in
     let f = two .frame-two2 .ensures in (
       two .frame-two2 .kept .1 .1 .1 .1 .1 .0 ∙ one .frame-two .kept .1 .1 .1 .1 .1 .0 ∙ l .inv .0,
-      both-twice _ _ _ _ _ _ _ _ _ _ _ _ _ _ (l .i) (l .j) (l .left) _ _ _ (q .loop-test .taken) (e .0 .0) (e .0 .1) (e .1) (f .0 .0) (f .0 .1) (f .1) (l .inv .1),
+      both-twice (l .inv .1) _ _ _ _ _ _ (q .loop-test .taken) (e .0 .0) (e .0 .1) (e .1) (f .0 .0) (f .0 .1) (f .1),
     )
 
 frame-two-requires-3 : tie.Need-frame-two-requires-3 Inv-loop μ-loop
-frame-two-requires-3 c κs = let q = c .before in both-here _ _ _ _ _ _ _ _ _ _ _ _ _ _ (q .if1 .taken) (q .before .before .loop .inv .1)
+frame-two-requires-3 c κs = let q = c .before in both-here (q .before .before .loop .inv .1) (q .if1 .taken)
 
 same-length : tie.Need-same-length Inv-loop μ-loop
 same-length c = search needs
@@ -107,7 +107,7 @@ returns c =
     let l = q .before .before .loop in
     let e = t .frame-two3 .ensures in
     let z : l .left - 1 ≡ 0 = omega (arith, q .before .loop-test .left, q .if1 .taken) in
-    let f = both-end _ _ _ _ _ _ _ _ _ _ _ _ _ _ z (both-turn _ _ _ _ _ _ _ _ _ _ _ _ (l .i) (l .j) (l .left) _ _ (q .if1 .taken) (e .0 .0) (e .0 .1) (e .1) (l .inv .1)) in
+    let f = both-end (both-turn (l .inv .1) _ _ _ (q .if1 .taken) (e .0 .0) (e .0 .1) (e .1)) z in
     (f .0, (f .1 .0, f .1 .1))
 
 same-length-2 : tie.Need-same-length-2 Inv-loop μ-loop
@@ -117,7 +117,7 @@ returns-2 : tie.Need-returns-2 Inv-loop μ-loop
 returns-2 c =
     let l = c .before .before .loop in
     let z : l .left ≡ 0 = omega (arith, c .if1 .left) in
-    let f = both-end _ _ _ _ _ _ _ _ _ _ _ _ _ _ z (l .inv .1) in
+    let f = both-end (l .inv .1) z in
     (f .0, (f .1 .0, f .1 .1))
 
 pub weigh-two-spec : {M : Type 1} → statement M

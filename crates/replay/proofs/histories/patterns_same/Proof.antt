@@ -1,14 +1,17 @@
--- `replay::histories::store_same` is safe and ends: there are eight places. Assumes nothing.
+-- `replay::histories::patterns_same` is safe and ends: there are at most 24 places. Assumes nothing.
 use Prim.Native.Nat.{_-_, _≤_}
 use borrow.Author.Needs.{needs}
-use Rattle.replay.proofs.histories.store_same.Statement.{statement}
-use Rattle.replay.proofs.histories.store_same.Tie as tie
+use Rattle.replay.proofs.histories.patterns_same.Statement.{statement}
+use Rattle.replay.proofs.histories.patterns_same.Tie as tie
 
 abbrev Inv-loop : tie.InvT-loop
-Inv-loop case store place₀ place = place ≤ 8
+Inv-loop case from values place₀ place = place ≤ 24
 
 abbrev μ-loop : tie.MeasureT-loop
-μ-loop case store place₀ place = 8 - place
+μ-loop case from values place₀ place = 24 - place
+
+returns : tie.Need-returns Inv-loop μ-loop
+returns c = search needs
 
 loop-holds : tie.Need-loop-holds Inv-loop μ-loop
 loop-holds c = search needs
@@ -31,8 +34,8 @@ add-number-at c = search needs
 number-at-requires : tie.Need-number-at-requires Inv-loop μ-loop
 number-at-requires c κs = search needs
 
-returns : tie.Need-returns Inv-loop μ-loop
-returns c = search needs
+returns-2 : tie.Need-returns-2 Inv-loop μ-loop
+returns-2 c = search needs
 
 add-place : tie.Need-add-place Inv-loop μ-loop
 add-place c = search needs
@@ -43,15 +46,16 @@ loop-less c = search needs
 loop-again : tie.Need-loop-again Inv-loop μ-loop
 loop-again c = search needs
 
-returns-2 : tie.Need-returns-2 Inv-loop μ-loop
-returns-2 c = search needs
+returns-3 : tie.Need-returns-3 Inv-loop μ-loop
+returns-3 c = search needs
 
-pub store-same-spec : {M : Type 1} → statement M
-store-same-spec =
+pub patterns-same-spec : {M : Type 1} → statement M
+patterns-same-spec =
     tie.close
     (tie.spec
     Inv-loop
     μ-loop
+    returns
     loop-holds
     mul-pattern-of
     shared-slice-read-pattern-of
@@ -59,8 +63,8 @@ store-same-spec =
     mul-number-at
     add-number-at
     number-at-requires
-    returns
+    returns-2
     add-place
     loop-less
     loop-again
-    returns-2)
+    returns-3)

@@ -1,0 +1,38 @@
+-- `true_peak` meets its contract: its tests are those of the law, over the true peaks. Assumes nothing.
+use borrow.Author.Needs.{needs}
+use mathlib.Core.Path.{_≡_}
+use lib.ListN.{length}
+use lib.Ieee.{ofBits}
+use Rattle.filter_peaks.proofs.Places.{no-channel, no-place, place}
+use Rattle.filter_peaks.proofs.true_peak.Statement.{statement}
+use Rattle.filter_peaks.proofs.true_peak.Tie as tie
+
+eight : (s : tie.Start) → length (s .args .filter .«true_peak» .peaks) ≡ 8
+eight s = search needs
+
+returns : tie.Need-returns
+unfolding ofBits
+returns c =
+    let a = c .before .before .args in
+    no-channel (a .filter) (a .filter .«true_peak» .peaks) (a .channel) (c .if1 .taken)
+
+returns-2 : tie.Need-returns-2
+unfolding ofBits
+returns-2 c =
+    let s = c .before .before .before in
+    no-place (s .args .filter) (s .args .filter .«true_peak» .peaks) (s .args .channel) (eight s) (c .before .if1 .left) (c .if2 .taken)
+
+mul-result : tie.Need-mul-result
+mul-result c = search needs
+
+array-read-result : tie.Need-array-read-result
+array-read-result c = search needs
+
+returns-3 : tie.Need-returns-3
+returns-3 c =
+    let q = c .before in
+    let s = q .before .before .before in
+    place (s .args .filter) (s .args .filter .«true_peak» .peaks) (s .args .channel) (eight s) (q .before .if1 .left) (q .if2 .left)
+
+pub true-peak-spec : {M : Type 1} → statement M
+true-peak-spec = tie.close (tie.spec returns returns-2 mul-result array-read-result returns-3)
