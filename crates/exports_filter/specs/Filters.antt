@@ -6,22 +6,14 @@ use lib.Ieee.{Float}
 use Rattle.filter.specs.declared.Switches.{Switches}
 use Rattle.filter.specs.declared.Filter.{Filter}
 use Rattle.filter.specs.Filter.{noPeaks}
+use Rattle.filter_process.specs.Lent.{lentFilter}
 
 -- what is on, by the sum of 1 for loudness, 2 for the sample peak and 4 for the true peak
 abbrev pub switchesOf : ℕ → Switches
 switchesOf on = record { loudness = eqb (on % 2) 1; peak = eqb (on / 2 % 2) 1; «true_peak» = eqb (on / 4 % 2) 1 }
 
 abbrev pub filterOf : ℕ → ℕ → ℕ → List Float → List Float → List Float → List Float → List Float → List Float → Filter
-filterOf channels rate on a b state peaks memory truePeaks =
-    record {
-      channels = channels;
-      rate = rate;
-      switches = switchesOf on;
-      coefficients = record { a = a; b = b };
-      state = record { values = state };
-      peaks = record { values = peaks };
-      «true_peak» = record { memory = memory; peaks = truePeaks };
-    }
+filterOf channels rate on = lentFilter channels rate (switchesOf on)
 
 -- a seed call looks at no output coefficient and at no peak
 abbrev pub seedFilterOf : ℕ → ℕ → ℕ → List Float → List Float → List Float → Filter

@@ -48,28 +48,23 @@ pub extern "C" fn xel_process_i16(
         × (now («true_peaks» .exit) ≡ kept processed call .filter .«true_peak» .peaks)
         × (now (dest .exit) ≡ kept processed call .dest)) ⌝ }
 {
-    let given = Filter {
-        channels: channels,
-        rate: rate,
-        switches: switches_of(on),
-        coefficients: Coefficients { a: *a, b: *b },
-        state: State { values: *state },
-        peaks: Peaks { values: *peaks },
-        true_peak: TruePeak {
-            memory: *memory,
-            peaks: *true_peaks,
-        },
-    };
-    let filtered = filter_process::process_i16(given, data, map, dest, start);
-    let state_after = filtered.filter.state.values;
-    *state = state_after;
-    let peaks_after = filtered.filter.peaks.values;
-    *peaks = peaks_after;
-    let memory_after = filtered.filter.true_peak.memory;
-    *memory = memory_after;
-    let true_peaks_after = filtered.filter.true_peak.peaks;
-    *true_peaks = true_peaks_after;
-    let answer = filtered.answer;
+    let none: [f32; 0] = [];
+    let answer = filter_process::process_lent(
+        channels,
+        rate,
+        switches_of(on),
+        a,
+        b,
+        state,
+        peaks,
+        memory,
+        true_peaks,
+        data,
+        &none,
+        map,
+        dest,
+        start,
+    );
     number_of(answer)
 }
 
@@ -97,28 +92,23 @@ pub extern "C" fn xel_process_f32(
         × (now («true_peaks» .exit) ≡ kept processed call .filter .«true_peak» .peaks)
         × (now (dest .exit) ≡ kept processed call .dest)) ⌝ }
 {
-    let given = Filter {
-        channels: channels,
-        rate: rate,
-        switches: switches_of(on),
-        coefficients: Coefficients { a: *a, b: *b },
-        state: State { values: *state },
-        peaks: Peaks { values: *peaks },
-        true_peak: TruePeak {
-            memory: *memory,
-            peaks: *true_peaks,
-        },
-    };
-    let filtered = filter_process::process_f32(given, data, map, dest, start);
-    let state_after = filtered.filter.state.values;
-    *state = state_after;
-    let peaks_after = filtered.filter.peaks.values;
-    *peaks = peaks_after;
-    let memory_after = filtered.filter.true_peak.memory;
-    *memory = memory_after;
-    let true_peaks_after = filtered.filter.true_peak.peaks;
-    *true_peaks = true_peaks_after;
-    let answer = filtered.answer;
+    let none: [i16; 0] = [];
+    let answer = filter_process::process_lent(
+        channels,
+        rate,
+        switches_of(on),
+        a,
+        b,
+        state,
+        peaks,
+        memory,
+        true_peaks,
+        &none,
+        data,
+        map,
+        dest,
+        start,
+    );
     number_of(answer)
 }
 

@@ -5,72 +5,151 @@ ghost use Rattle.refusals.specs.Answer.{said};
 ghost use Rattle.refusals.specs.Outcome.{saidBy, keptBy};
 ghost use Rattle.samples.specs.Sample.{samplesOf16, samplesOfF32};
 ghost use Rattle.sources.specs.Source.{sourceOf};
+ghost use Rattle.states.specs.declared.State.{State};
 ghost use Rattle.states.specs.Channels as recurrence;
 ghost use Rattle.weighting.specs.Weighting as weighting;
+ghost use Rattle.sample_peak.specs.declared.Peaks.{Peaks};
 ghost use Rattle.sample_peak.specs.Peak.{raised};
+ghost use Rattle.true_peak_state.specs.declared.TruePeak.{TruePeak};
 ghost use Rattle.true_peak.specs.TruePeak as trues;
 ghost use Rattle.filter.specs.Call.{callOf, kept};
 ghost use Rattle.filter_process.specs.Process.{processed};
+ghost use Rattle.filter_process.specs.Lent.{lentFilter};
 use filter::Filter;
 use filter::Filtered;
+use filter::Switches;
 use recurrence::Coefficients;
 use refusals::Answer;
 use sample_peak::Peaks;
 use states::State;
 use true_peak_state::TruePeak;
 
-// The sample peaks after the call, or the stored ones where the sample peak is off.
-fn raise(on: bool, stored: Peaks, channels: usize, ints: &[i16], floats: &[f32]) -> Peaks
-    ensures { λ r. ⌜ r ≡ cond on (keptBy stored (raised channels (sourceOf (now (ints .entry)) (now (floats .entry))) stored)) stored ⌝ }
+// The sample peaks after the call. Where the sample peak is off they are not looked at.
+fn raise(on: bool, peaks: &mut [f64; 8], channels: usize, ints: &[i16], floats: &[f32])
+    ensures { λ _. ⌜ (let stored : Peaks = record { values = now (peaks .entry) } in
+        now (peaks .exit) ≡ cond on (keptBy stored (raised channels (sourceOf (now (ints .entry)) (now (floats .entry))) stored)) stored .values) ⌝ }
 {
     if !on {
-        return stored;
+        return;
     }
-    let m = sample_peak::process(stored, channels, ints, floats);
-    m.peaks
+    let m = sample_peak::process(Peaks { values: *peaks }, channels, ints, floats);
+    let after = m.peaks.values;
+    *peaks = after;
 }
 
-// The true peaks after the call, or the stored ones where the true peak is off.
+// The true peaks and the interpolator's memory after the call. Where the true peak is off they are not looked at.
 fn listen(
     on: bool,
     rate: u32,
-    stored: TruePeak,
+    memory: &mut [f32; 184],
+    peaks: &mut [f32; 8],
     channels: usize,
     ints: &[i16],
     floats: &[f32],
-) -> TruePeak
-    ensures { λ r. ⌜ r ≡ cond on (keptBy stored (trues.processed rate (record { channels = channels; samples = sourceOf (now (ints .entry)) (now (floats .entry)) }) stored)) stored ⌝ }
+)
+    ensures { λ _. ⌜ (let stored : TruePeak = record { memory = now (memory .entry); peaks = now (peaks .entry) } in
+        let after = cond on (keptBy stored (trues.processed rate (record { channels = channels; samples = sourceOf (now (ints .entry)) (now (floats .entry)) }) stored)) stored in
+        (now (memory .exit) ≡ after .memory) × (now (peaks .exit) ≡ after .peaks)) ⌝ }
 {
     if !on {
-        return stored;
+        return;
     }
+    let stored = TruePeak {
+        memory: *memory,
+        peaks: *peaks,
+    };
     let m = true_peaks::process(rate, stored, channels, ints, floats);
-    m.state
+    let memory_after = m.state.memory;
+    *memory = memory_after;
+    let peaks_after = m.state.peaks;
+    *peaks = peaks_after;
 }
 
-// The state after the call and the outputs in the destination, or all as it is where loudness is off.
+// The state after the call and the outputs in the destination. Where loudness is off neither is looked at.
 fn weigh(
     on: bool,
-    c: Coefficients,
-    s: State,
+    a: &[f64; 5],
+    b: &[f64; 5],
+    state: &mut [f64; 40],
     channels: usize,
     ints: &[i16],
     floats: &[f32],
     map: &[u8],
     dest: &mut [f64],
     start: usize,
-) -> State
-    ensures { λ r. ⌜ r ≡ cond on (weighting.kept (recurrence.callOf c s channels (sourceOf (now (ints .entry)) (now (floats .entry))) (now (map .entry))) (now (dest .entry)) start .state) s ⌝ }
-    ensures { λ r. ⌜ now (dest .exit) ≡ cond on (weighting.kept (recurrence.callOf c s channels (sourceOf (now (ints .entry)) (now (floats .entry))) (now (map .entry))) (now (dest .entry)) start .dest) (now (dest .entry)) ⌝ }
+)
+    ensures { λ _. ⌜ (let stored : State = record { values = now (state .entry) } in
+        let after = weighting.kept (recurrence.callOf (record { a = now (a .entry); b = now (b .entry) }) stored channels (sourceOf (now (ints .entry)) (now (floats .entry))) (now (map .entry))) (now (dest .entry)) start in
+        (now (state .exit) ≡ cond on (after .state) stored .values) × (now (dest .exit) ≡ cond on (after .dest) (now (dest .entry)))) ⌝ }
 {
     if !on {
-        return s;
+        return;
     }
-    let m = weighting::process(c, s, channels, ints, floats, map, dest, start);
-    m.state
+    let c = Coefficients { a: *a, b: *b };
+    let stored = State { values: *state };
+    let m = weighting::process(c, stored, channels, ints, floats, map, dest, start);
+    let after = m.state.values;
+    *state = after;
 }
 
-// `process` for samples of either kind. Everything is checked before anything moves.
+// One call for samples of either kind, integers, or floats where there are no integers, on arrays that are lent each by itself.
+// Everything is checked before anything moves, and what is off is not looked at.
+pub fn process_lent(
+    channels: usize,
+    rate: u32,
+    switches: Switches,
+    a: &[f64; 5],
+    b: &[f64; 5],
+    state: &mut [f64; 40],
+    peaks: &mut [f64; 8],
+    memory: &mut [f32; 184],
+    true_peaks: &mut [f32; 8],
+    ints: &[i16],
+    floats: &[f32],
+    map: &[u8],
+    dest: &mut [f64],
+    start: usize,
+) -> Answer
+    ensures { λ r. ⌜ (let call = callOf (lentFilter channels rate switches (now (a .entry)) (now (b .entry)) (now (state .entry)) (now (peaks .entry)) (now (memory .entry)) (now («true_peaks» .entry))) (sourceOf (now (ints .entry)) (now (floats .entry))) (now (map .entry)) (now (dest .entry)) start in
+        (said r ≡ saidBy (processed call))
+        × (now (state .exit) ≡ kept processed call .filter .state .values)
+        × (now (peaks .exit) ≡ kept processed call .filter .peaks .values)
+        × (now (memory .exit) ≡ kept processed call .filter .«true_peak» .memory)
+        × (now («true_peaks» .exit) ≡ kept processed call .filter .«true_peak» .peaks)
+        × (now (dest .exit) ≡ kept processed call .dest)) ⌝ }
+{
+    let loudness = switches.loudness;
+    let samples = sources::size_of(ints, floats);
+    let number = calls::refused_process(loudness, channels, samples, map, dest.len(), start);
+    if number != 0 {
+        return Answer::Refused(number);
+    }
+    raise(switches.peak, peaks, channels, ints, floats);
+    listen(
+        switches.true_peak,
+        rate,
+        memory,
+        true_peaks,
+        channels,
+        ints,
+        floats,
+    );
+    weigh(
+        loudness,
+        a,
+        b,
+        state,
+        channels,
+        ints,
+        floats,
+        map,
+        dest,
+        start,
+    );
+    Answer::Done
+}
+
+// `process_lent` on copies of the filter's arrays.
 fn process(
     filter: Filter,
     ints: &[i16],
@@ -83,34 +162,23 @@ fn process(
     ensures { λ r. ⌜ r .filter ≡ kept processed (callOf filter (sourceOf (now (ints .entry)) (now (floats .entry))) (now (map .entry)) (now (dest .entry)) start) .filter ⌝ }
     ensures { λ r. ⌜ now (dest .exit) ≡ kept processed (callOf filter (sourceOf (now (ints .entry)) (now (floats .entry))) (now (map .entry)) (now (dest .entry)) start) .dest ⌝ }
 {
-    let channels = filter.channels;
-    let on = filter.switches;
-    let samples = sources::size_of(ints, floats);
-    let number = calls::refused_process(on.loudness, channels, samples, map, dest.len(), start);
-    if number != 0 {
-        return Filtered {
-            answer: Answer::Refused(number),
-            filter: filter,
-        };
-    }
-    let peaks_before = filter.peaks;
-    let peaks = raise(on.peak, peaks_before, channels, ints, floats);
-    let trues_before = filter.true_peak;
-    let trues = listen(
-        on.true_peak,
+    let switches = filter.switches;
+    let a = filter.coefficients.a;
+    let b = filter.coefficients.b;
+    let mut state = filter.state.values;
+    let mut peaks = filter.peaks.values;
+    let mut memory = filter.true_peak.memory;
+    let mut true_peaks = filter.true_peak.peaks;
+    let answer = process_lent(
+        filter.channels,
         filter.rate,
-        trues_before,
-        channels,
-        ints,
-        floats,
-    );
-    let c = filter.coefficients;
-    let before = filter.state;
-    let state = weigh(
-        on.loudness,
-        c,
-        before,
-        channels,
+        switches,
+        &a,
+        &b,
+        &mut state,
+        &mut peaks,
+        &mut memory,
+        &mut true_peaks,
         ints,
         floats,
         map,
@@ -118,8 +186,16 @@ fn process(
         start,
     );
     Filtered {
-        answer: Answer::Done,
-        filter: filter::with(filter, state, peaks, trues),
+        answer: answer,
+        filter: filter::with(
+            filter,
+            State { values: state },
+            Peaks { values: peaks },
+            TruePeak {
+                memory: memory,
+                peaks: true_peaks,
+            },
+        ),
     }
 }
 

@@ -1,19 +1,23 @@
 -- `listen` meets its contract: its test is the definition's. Assumes nothing.
 use borrow.Author.Needs.{needs}
 use borrow.Author.Tests.{not-true, not-false}
+use mathlib.Core.Path.{refl, ap}
+use Rattle.true_peak_state.specs.declared.TruePeak.{TruePeak}
 use Rattle.filter_process.proofs.listen.Statement.{statement}
 use Rattle.filter_process.proofs.listen.Tie as tie
 
 returns : tie.Need-returns
-returns c = rw (not-true (c .before .before .args .on) (c .if1 .taken))
+returns c = rw (not-true (c .before .before .args .on) (c .if1 .taken)) (refl, refl)
 
 process-requires : tie.Need-process-requires
 process-requires c κs = search needs
 
 returns-2 : tie.Need-returns-2
 returns-2 c =
-    let q = c .before .before in
-    rw (not-false (q .before .before .args .on) (q .if1 .left)) (c .before .process .ensures .1)
+    let m = c .before .before in
+    let q = m .before .before .before in
+    let e = m .process .ensures .1 in
+    rw (not-false (q .before .before .args .on) (q .if1 .left)) (ap (λ (t : TruePeak). t .memory) e, ap (λ (t : TruePeak). t .peaks) e)
 
 pub listen-spec : {M : Type 1} → statement M
 listen-spec = tie.close (tie.spec returns process-requires returns-2)

@@ -1,56 +1,15 @@
--- `process` meets its contract: the number of the check is the refusal, and past it each part leaves what the definitions say. Assumes nothing.
+-- `process` meets its contract: the arrays are the filter's, and the filter moves to what is left in them. Assumes nothing.
 use borrow.Author.Needs.{needs}
-use Prim.Native.Nat.{ℕ}
-use mathlib.Core.Path.{_≡_, sym, ap, _∙_}
-use lib.ListN.{length}
-use Rattle.refusals.specs.Outcome.{Outcome, saidBy, keptBy, went, NoValues, done}
-use Rattle.calls.specs.Check.{numberOf}
-use Rattle.calls.specs.Calls.{checkProcess}
-use Rattle.calls.proofs.Checking.{passed}
-use Rattle.calls.proofs.Stopping.{stopped, goes}
+use mathlib.Core.Path.{_∙_}
+use denote.Ref.{now}
 use Rattle.sources.specs.Source.{sourceOf}
-use Rattle.filter.specs.Filter.{moved}
-use Rattle.filter.specs.Call.{Call, Kept, callOf, given, weighing, hearing, weighedState}
-use Rattle.filter.proofs.Same.{same-moved}
-use Rattle.filter_process.specs.Process.{weighedDest, measuredPeaks, measuredTruePeaks, processCheck, processed}
-use Rattle.filter_process.proofs.Parts.{process-frames, peaks-are, trues-are, weighed-state, weighed-dest}
+use Rattle.filter.specs.Call.{callOf}
+use Rattle.filter_process.proofs.Parts.{moved-to}
 use Rattle.filter_process.proofs.process.Statement.{statement}
 use Rattle.filter_process.proofs.process.Tie as tie
 
--- the call of the definitions
-abbrev call : tie.Start → Call
-call s = let a = s .args in callOf (a .filter) (sourceOf (a .ints .now) (a .floats .now)) (a .map .now) (a .dest .now) (a .start)
-
-abbrev leaves : tie.Start → Outcome Kept NoValues
-leaves s = let k = call s in went (record { filter = moved (k .filter) (weighedState k) (measuredPeaks k) (measuredTruePeaks k); dest = weighedDest k }) done
-
-numbered : (c : tie.After-refused-process) → c .refused-process .result ≡ numberOf (processCheck (call (c .before .before .before .before .before .before)))
-numbered c =
-    let a = c .before .before .before .before .before .before .args in
-    c .refused-process .ensures ∙ ap (λ (n : ℕ). numberOf (checkProcess (a .filter .switches .loudness) (a .filter .channels) n (a .map .now) (length (a .dest .now)) (a .start))) (c .before .size-of .ensures)
-
-size-of-requires : tie.Need-size-of-requires
-size-of-requires c κs = search needs
-
-refused-process-requires : tie.Need-refused-process-requires
-refused-process-requires c κs = search needs
-
-returns : tie.Need-returns
-unfolding processed
-returns c =
-    let r = c .before in
-    let s = r .before .before .before .before .before .before in
-    let f = stopped (processCheck (call s)) (leaves s) (given (call s)) (r .refused-process .result) (numbered r) (c .if1 .taken) in
-    (f .says, (ap (λ (k : Kept). k .filter) (f .keeps), ap (λ (k : Kept). k .dest) (f .keeps)))
-
-raise-requires : tie.Need-raise-requires
-raise-requires c κs = search needs
-
-listen-requires : tie.Need-listen-requires
-listen-requires c κs = search needs
-
-weigh-requires : tie.Need-weigh-requires
-weigh-requires c κs = search needs
+process-lent-requires : tie.Need-process-lent-requires
+process-lent-requires c κs = search needs
 
 with-requires : tie.Need-with-requires
 with-requires c κs = search needs
@@ -58,44 +17,19 @@ with-requires c κs = search needs
 same-length : tie.Need-same-length
 same-length c = search needs
 
-returns-2 : tie.Need-returns-2
-unfolding processed
-returns-2 c =
-    let w = c .before .before .before in
-    let l = w .before .before .before .before in
-    let p = l .before .before in
-    let e = p .before .before in
-    let r = e .before in
-    let s = r .before .before .before .before .before .before in
-    let k = call s in
-    let f = s .args .filter in
-    let ok = passed (processCheck k) (sym (numbered r) ∙ e .if1 .left) in
-    let frames = process-frames k ok in
-    let z = goes (processCheck k) (leaves s) (r .refused-process .result) (numbered r) (e .if1 .left) in (
-      sym (ap saidBy z),
+returns : tie.Need-returns
+returns c =
+    let p = c .before .before .before in
+    let s = p .before .before .before .before .before .before .before .before .before .before .before .before .before .before .before .before .before .before in
+    let a = s .args in
+    let e = p .process-lent .ensures in (
+      e .0,
       (
         c .with .ensures
-            ∙ same-moved f
-            (w .weigh .ensures .0 ∙ weighed-state (f .switches .loudness) (weighing k) (k .dest) (k .start) ok)
-            (p .raise .ensures ∙ peaks-are (f .switches .peak) (f .channels) (k .samples) (f .peaks) frames)
-            (l .listen .ensures ∙ trues-are (f .switches .«true_peak») (f .rate) (hearing k) (f .«true_peak») frames)
-            ∙ sym (ap (λ (o : Outcome Kept NoValues). keptBy (given k) o .filter) z),
-        w .weigh .ensures .1
-            ∙ weighed-dest (f .switches .loudness) (weighing k) (k .dest) (k .start) ok
-            ∙ sym (ap (λ (o : Outcome Kept NoValues). keptBy (given k) o .dest) z),
+            ∙ moved-to (callOf (a .filter) (sourceOf (now (a .ints)) (now (a .floats))) (now (a .map)) (now (a .dest)) (a .start)) (e .1) (e .2) (e .3) (e .4),
+        e .5,
       ),
     )
 
 pub process-spec : {M : Type 1} → statement M
-process-spec =
-    tie.close
-    (tie.spec
-    size-of-requires
-    refused-process-requires
-    returns
-    raise-requires
-    listen-requires
-    weigh-requires
-    with-requires
-    same-length
-    returns-2)
+process-spec = tie.close (tie.spec process-lent-requires with-requires same-length returns)

@@ -1,6 +1,8 @@
 -- `raise` meets its contract: its test is the definition's. Assumes nothing.
 use borrow.Author.Needs.{needs}
 use borrow.Author.Tests.{not-true, not-false}
+use mathlib.Core.Path.{ap}
+use Rattle.sample_peak.specs.declared.Peaks.{Peaks}
 use Rattle.filter_process.proofs.raise.Statement.{statement}
 use Rattle.filter_process.proofs.raise.Tie as tie
 
@@ -12,8 +14,8 @@ process-requires c κs = search needs
 
 returns-2 : tie.Need-returns-2
 returns-2 c =
-    let q = c .before .before in
-    rw (not-false (q .before .before .args .on) (q .if1 .left)) (c .before .process .ensures .1)
+    let q = c .before .before .before in
+    rw (not-false (q .before .before .args .on) (q .if1 .left)) (ap (λ (p : Peaks). p .values) (c .before .process .ensures .1))
 
 pub raise-spec : {M : Type 1} → statement M
 raise-spec = tie.close (tie.spec returns process-requires returns-2)

@@ -1,7 +1,8 @@
 -- `weigh` meets its contract: its test is the definition's. Assumes nothing.
 use borrow.Author.Needs.{needs}
 use borrow.Author.Tests.{not-true, not-false}
-use mathlib.Core.Path.{refl}
+use mathlib.Core.Path.{refl, ap}
+use Rattle.states.specs.declared.State.{State}
 use Rattle.filter_process.proofs.weigh.Statement.{statement}
 use Rattle.filter_process.proofs.weigh.Tie as tie
 
@@ -17,8 +18,9 @@ same-length c = search needs
 returns-2 : tie.Need-returns-2
 returns-2 c =
     let w = c .before .before .before in
-    let q = w .before .before in
-    rw (not-false (q .before .before .before .before .args .on) (q .if1 .left)) (w .process .ensures .1)
+    let q = w .before .before .before .before .before in
+    let e = w .process .ensures .1 in
+    rw (not-false (q .before .before .before .before .args .on) (q .if1 .left)) (ap (λ (s : State). s .values) (e .0), e .1)
 
 pub weigh-spec : {M : Type 1} → statement M
 weigh-spec = tie.close (tie.spec returns process-requires same-length returns-2)

@@ -1,0 +1,108 @@
+-- `process_lent` meets its contract: the number of the check is the refusal, and past it each part leaves what the definitions say. Assumes nothing.
+use borrow.Author.Needs.{needs}
+use Prim.Native.Nat.{ℕ}
+use mathlib.Core.Path.{_≡_, sym, ap, _∙_}
+use lib.ListN.{length}
+use denote.Ref.{now}
+use Rattle.refusals.specs.Outcome.{Outcome, saidBy, keptBy, went, NoValues, done}
+use Rattle.calls.specs.Check.{numberOf}
+use Rattle.calls.specs.Calls.{checkProcess}
+use Rattle.calls.proofs.Checking.{passed}
+use Rattle.calls.proofs.Stopping.{stopped, goes}
+use Rattle.sources.specs.Source.{sourceOf}
+use Rattle.states.specs.declared.State.{State}
+use Rattle.sample_peak.specs.declared.Peaks.{Peaks}
+use Rattle.true_peak_state.specs.declared.TruePeak.{TruePeak}
+use Rattle.filter.specs.Filter.{moved}
+use Rattle.filter.specs.Call.{Call, Kept, callOf, given, weighing, hearing, weighedState}
+use Rattle.filter_process.specs.Lent.{lentFilter}
+use Rattle.filter_process.specs.Process.{weighedDest, measuredPeaks, measuredTruePeaks, processCheck, processed}
+use Rattle.filter_process.proofs.Parts.{process-frames, peaks-are, trues-are, weighed-state, weighed-dest}
+use Rattle.filter_process.proofs.process_lent.Statement.{statement}
+use Rattle.filter_process.proofs.process_lent.Tie as tie
+
+-- the call of the definitions
+abbrev call : tie.Start → Call
+call s =
+    let a = s .args in
+    callOf
+    (lentFilter (a .channels) (a .rate) (a .switches) (now (a .a)) (now (a .b)) (now (a .state)) (now (a .peaks)) (now (a .memory)) (now (a .true-peaks)))
+    (sourceOf (now (a .ints)) (now (a .floats))) (now (a .map)) (now (a .dest)) (a .start)
+
+abbrev leaves : tie.Start → Outcome Kept NoValues
+leaves s = let k = call s in went (record { filter = moved (k .filter) (weighedState k) (measuredPeaks k) (measuredTruePeaks k); dest = weighedDest k }) done
+
+numbered : (c : tie.After-refused-process) → c .refused-process .result ≡ numberOf (processCheck (call (c .before .before .before .before .before)))
+numbered c =
+    let a = c .before .before .before .before .before .args in
+    c .refused-process .ensures ∙ ap (λ (n : ℕ). numberOf (checkProcess (a .switches .loudness) (a .channels) n (now (a .map)) (length (now (a .dest))) (a .start))) (c .before .size-of .ensures)
+
+size-of-requires : tie.Need-size-of-requires
+size-of-requires c κs = search needs
+
+refused-process-requires : tie.Need-refused-process-requires
+refused-process-requires c κs = search needs
+
+-- what is kept of each array by an equation of what is kept of all
+returns : tie.Need-returns
+unfolding processed
+returns c =
+    let r = c .before in
+    let s = r .before .before .before .before .before in
+    let f = stopped (processCheck (call s)) (leaves s) (given (call s)) (r .refused-process .result) (numbered r) (c .if1 .taken) in (
+      f .says,
+      ap (λ (k : Kept). k .filter .state .values) (f .keeps),
+      ap (λ (k : Kept). k .filter .peaks .values) (f .keeps),
+      ap (λ (k : Kept). k .filter .«true_peak» .memory) (f .keeps),
+      ap (λ (k : Kept). k .filter .«true_peak» .peaks) (f .keeps),
+      ap (λ (k : Kept). k .dest) (f .keeps),
+    )
+
+raise-requires : tie.Need-raise-requires
+raise-requires c κs = search needs
+
+listen-requires : tie.Need-listen-requires
+listen-requires c κs = search needs
+
+weigh-requires : tie.Need-weigh-requires
+weigh-requires c κs = search needs
+
+same-length : tie.Need-same-length
+same-length c = search needs
+
+returns-2 : tie.Need-returns-2
+unfolding processed
+returns-2 c =
+    let w = c .before .before in
+    let l = w .before .before .before in
+    let p = l .before .before .before in
+    let e = p .before .before in
+    let r = e .before in
+    let s = r .before .before .before .before .before in
+    let k = call s in
+    let f = k .filter in
+    let ok = passed (processCheck k) (sym (numbered r) ∙ e .if1 .left) in
+    let frames = process-frames k ok in
+    let trues = trues-are (f .switches .«true_peak») (f .rate) (hearing k) (f .«true_peak») frames in
+    let z = sym (goes (processCheck k) (leaves s) (r .refused-process .result) (numbered r) (e .if1 .left)) in (
+      ap saidBy z,
+      w .weigh .ensures .0
+          ∙ ap (λ (x : State). x .values) (weighed-state (f .switches .loudness) (weighing k) (k .dest) (k .start) ok)
+          ∙ ap (λ (o : Outcome Kept NoValues). keptBy (given k) o .filter .state .values) z,
+      p .raise .ensures
+          ∙ ap (λ (x : Peaks). x .values) (peaks-are (f .switches .peak) (f .channels) (k .samples) (f .peaks) frames)
+          ∙ ap (λ (o : Outcome Kept NoValues). keptBy (given k) o .filter .peaks .values) z,
+      l .listen .ensures .0
+          ∙ ap (λ (x : TruePeak). x .memory) trues
+          ∙ ap (λ (o : Outcome Kept NoValues). keptBy (given k) o .filter .«true_peak» .memory) z,
+      l .listen .ensures .1
+          ∙ ap (λ (x : TruePeak). x .peaks) trues
+          ∙ ap (λ (o : Outcome Kept NoValues). keptBy (given k) o .filter .«true_peak» .peaks) z,
+      w .weigh .ensures .1
+          ∙ weighed-dest (f .switches .loudness) (weighing k) (k .dest) (k .start) ok
+          ∙ ap (λ (o : Outcome Kept NoValues). keptBy (given k) o .dest) z,
+    )
+
+pub process-lent-spec : {M : Type 1} → statement M
+process-lent-spec =
+    tie.close (tie.spec size-of-requires refused-process-requires returns raise-requires listen-requires weigh-requires same-length returns-2)
