@@ -4,7 +4,7 @@ use mathlib.Core.Path.{_≡_, refl, sym, ap, _∙_, subst}
 use mathlib.Core.Logic.{_⊎_, inl, inr}
 use mathlib.Core.List.{List, [], _∷_}
 use Prim.Native.Nat.{ℕ, zero, suc, _+_, _*_, _-_, _≤_, _<_}
-use native.Mathlib.Nat.{not-suc-le-zero, le-of-suc-le-suc, suc-mul, add-zero, eq-or-lt-of-le}
+use native.Mathlib.Nat.{not-suc-le-zero, le-of-suc-le-suc, add-mul, suc-mul, add-zero, eq-or-lt-of-le}
 use native.Mathlib.Omega.{arith}
 use lib.ListN.{length, getD, take, drop, set, length-take, length-drop}
 use lib.Seq.{sets, ext-getD, getD-take, getD-drop, getD-set-other, getD-set-same}
@@ -175,6 +175,35 @@ gathered-turn samples l i step n k h here =
     ∙ ap (λ (p : ℕ). sets (set l (past + k) (getD samples i silence)) p (column samples (i + step) step (n - (k + 1)))) g
     ∙ ap (λ (m : ℕ). sets l (past + k) (column samples i step m)) (sym e)
 
+-- four at a time: these are stored so,
+pub four-stored : (samples l : List Float) (i step k : ℕ) → i + step + step + step < length samples
+    → set (set (set (set l (past + k) (getD samples i nan)) (past + k + 1) (getD samples (i + step) nan)) (past + k + 2) (getD samples (i + step + step) nan)) (past + k + 3) (getD samples (i + step + step + step) nan)
+    ≡ sets l (past + k) (column samples i step 4)
+unfolding column
+four-stored samples l i step k h =
+    let one : past + k + 1 ≡ suc (past + k) = omega arith in
+    let two : past + k + 2 ≡ suc (suc (past + k)) = omega arith in
+    let three : past + k + 3 ≡ suc (suc (suc (past + k))) = omega arith in
+    rw (
+      within samples i nan silence (omega arith),
+      within samples (i + step) nan silence (omega arith),
+      within samples (i + step + step) nan silence (omega arith),
+      within samples (i + step + step + step) nan silence h,
+      one,
+      two,
+      three,
+    )
+
+-- and leave the rest
+pub gathered-four : (samples l : List Float) (i step n k : ℕ) → k + 4 ≤ n
+    → sets (sets l (past + k) (column samples i step 4)) (past + (k + 4)) (column samples (i + step + step + step + step) step (n - (k + 4))) ≡ sets l (past + k) (column samples i step (n - k))
+unfolding column
+gathered-four samples l i step n k h =
+    let e : n - k ≡ suc (suc (suc (suc (n - (k + 4))))) = omega arith in
+    let g : past + (k + 4) ≡ suc (suc (suc (suc (past + k)))) = omega arith in
+    ap (λ (p : ℕ). sets (sets l (past + k) (column samples i step 4)) p (column samples (i + step + step + step + step) step (n - (k + 4)))) g
+    ∙ ap (λ (m : ℕ). sets l (past + k) (column samples i step m)) (sym e)
+
 pub gathered-start : (samples l : List Float) (first step n : ℕ) → first + n * step < length samples + step
     → (first + (n - 0) * step < length samples + step) × (sets l past (column samples first step (n - 0)) ≡ sets l past (column samples first step n))
 gathered-start samples l first step n h =
@@ -190,3 +219,9 @@ pub times-less : (n k step : ℕ) → k < n → (n - k) * step ≡ (n - (k + 1))
 times-less n k step h =
     let e : n - k ≡ suc (n - (k + 1)) = omega arith in
     ap (λ (m : ℕ). m * step) e ∙ suc-mul (n - (k + 1)) step
+
+-- and for four fewer
+pub times-four : (n k step : ℕ) → k + 4 ≤ n → (n - k) * step ≡ (n - (k + 4)) * step + 4 * step
+times-four n k step h =
+    let e : n - k ≡ n - (k + 4) + 4 = omega arith in
+    ap (λ (m : ℕ). m * step) e ∙ add-mul (n - (k + 4)) 4 step

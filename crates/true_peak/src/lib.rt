@@ -59,7 +59,30 @@ fn recall(memory: &[f32; 184], c: usize, line: &mut [f32; largest_phase::LINE])
     }
 }
 
-// n samples of a channel, from place first on, to the line after the history.
+// Four samples of a channel, from place first on, to the line from place k after the history on.
+fn gather_four(
+    samples: &[f32],
+    first: usize,
+    step: usize,
+    k: usize,
+    line: &mut [f32; largest_phase::LINE],
+)
+    requires { ⌜ k + 4 ≤ block ⌝ }
+    requires { ⌜ first + step + step + step < length (now samples) ⌝ }
+    requires { ⌜ length (now samples) < 2 ^ 64 ⌝ }
+    ensures { λ _. ⌜ now (line .exit) ≡ sets (now (line .entry)) (past + k) (column (now (samples .entry)) first step 4) ⌝ }
+{
+    let second = first + step;
+    let third = second + step;
+    let fourth = third + step;
+    let at = TruePeak::PAST + k;
+    line[at] = samples[first];
+    line[at + 1] = samples[second];
+    line[at + 2] = samples[third];
+    line[at + 3] = samples[fourth];
+}
+
+// n samples of a channel, from place first on, to the line after the history, four at a time while there are so many.
 fn gather(
     samples: &[f32],
     first: usize,
@@ -75,9 +98,15 @@ fn gather(
     let mut i = first;
     let mut k = 0;
     while k < n {
-        line[TruePeak::PAST + k] = samples[i];
-        i += step;
-        k += 1;
+        if n - k < 4 {
+            line[TruePeak::PAST + k] = samples[i];
+            i += step;
+            k += 1;
+        } else {
+            gather_four(samples, i, step, k, line);
+            i += 4 * step;
+            k += 4;
+        }
     }
 }
 
