@@ -10,8 +10,8 @@ use Rattle.codes.specs.Codes.{code, numberSaid}
 use Rattle.codes.proofs.Told.{answer-told}
 use Rattle.filter.specs.declared.Switches.{Switches}
 use Rattle.filter.specs.declared.Filter.{Filter}
+use Rattle.filter.specs.Filter.{lentFilter}
 use Rattle.filter.specs.Call.{Call, callOf, kept}
-use Rattle.filter_process.specs.Lent.{lentFilter}
 use Rattle.filter_process.specs.Process.{processed}
 use Rattle.filter_seed.specs.Seed.{seeded}
 use Rattle.exports_filter.specs.Filters.{switchesOf, filterOf}
@@ -48,13 +48,16 @@ processed-told call call′ answer state peaks memory truePeaks dest n e told nu
   told .5 ∙ ap (λ (c : Call). kept processed c .dest) e,
 )
 
-pub seeded-told : (call call′ : Call) (answer : Answer) (filter : Filter) (n : ℕ) → call ≡ call′
-    → said answer ≡ saidBy (seeded call) → filter ≡ kept seeded call .filter → n ≡ numberSaid answer
+pub seeded-told : (call call′ : Call) (answer : Answer) (state memory : List Float) (n : ℕ) → call ≡ call′
+    → (said answer ≡ saidBy (seeded call))
+    × (state ≡ kept seeded call .filter .state .values)
+    × (memory ≡ kept seeded call .filter .«true_peak» .memory)
+    → n ≡ numberSaid answer
     → (n ≡ code (seeded call′))
-    × (filter .state .values ≡ kept seeded call′ .filter .state .values)
-    × (filter .«true_peak» .memory ≡ kept seeded call′ .filter .«true_peak» .memory)
-seeded-told call call′ answer filter n e says-so keeps number = (
-  number ∙ answer-told (seeded call) answer says-so ∙ ap (λ (c : Call). code (seeded c)) e,
-  ap (λ (f : Filter). f .state .values) keeps ∙ ap (λ (c : Call). kept seeded c .filter .state .values) e,
-  ap (λ (f : Filter). f .«true_peak» .memory) keeps ∙ ap (λ (c : Call). kept seeded c .filter .«true_peak» .memory) e,
+    × (state ≡ kept seeded call′ .filter .state .values)
+    × (memory ≡ kept seeded call′ .filter .«true_peak» .memory)
+seeded-told call call′ answer state memory n e told number = (
+  number ∙ answer-told (seeded call) answer (told .0) ∙ ap (λ (c : Call). code (seeded c)) e,
+  told .1 ∙ ap (λ (c : Call). kept seeded c .filter .state .values) e,
+  told .2 ∙ ap (λ (c : Call). kept seeded c .filter .«true_peak» .memory) e,
 )

@@ -5,8 +5,7 @@ use lib.Dec.{eqb}
 use lib.Ieee.{Float}
 use Rattle.filter.specs.declared.Switches.{Switches}
 use Rattle.filter.specs.declared.Filter.{Filter}
-use Rattle.filter.specs.Filter.{noPeaks}
-use Rattle.filter_process.specs.Lent.{lentFilter}
+use Rattle.filter.specs.Filter.{noPeaks, lentFilter}
 
 -- what is on, by the sum of 1 for loudness, 2 for the sample peak and 4 for the true peak
 abbrev pub switchesOf : ℕ → Switches

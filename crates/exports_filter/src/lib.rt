@@ -7,12 +7,7 @@ ghost use Rattle.filter_process.specs.Process.{processed};
 ghost use Rattle.filter_seed.specs.Seed.{seeded};
 ghost use Rattle.exports_filter.specs.Filters.{switchesOf, filterOf, seedFilterOf};
 use codes::number_of;
-use filter::Filter;
 use filter::Switches;
-use recurrence::Coefficients;
-use sample_peak::Peaks;
-use states::State;
-use true_peak_state::TruePeak;
 
 fn switches_of(on: u8) -> Switches
     ensures { λ r. ⌜ r ≡ switchesOf on ⌝ }
@@ -128,24 +123,23 @@ pub extern "C" fn xel_seed_i16(
         × (now (state .exit) ≡ kept seeded call .filter .state .values)
         × (now (memory .exit) ≡ kept seeded call .filter .«true_peak» .memory)) ⌝ }
 {
-    let given = Filter {
-        channels: channels,
-        rate: rate,
-        switches: switches_of(on),
-        coefficients: Coefficients { a: *a, b: *a },
-        state: State { values: *state },
-        peaks: Peaks { values: [0.0; 8] },
-        true_peak: TruePeak {
-            memory: *memory,
-            peaks: [0.0; 8],
-        },
-    };
-    let filtered = filter_seed::seed_i16(given, data, map);
-    let state_after = filtered.filter.state.values;
-    *state = state_after;
-    let memory_after = filtered.filter.true_peak.memory;
-    *memory = memory_after;
-    let answer = filtered.answer;
+    let no_peaks: [f64; 8] = [0.0; 8];
+    let no_true_peaks: [f32; 8] = [0.0; 8];
+    let none: [f32; 0] = [];
+    let answer = filter_seed::seed_lent(
+        channels,
+        rate,
+        switches_of(on),
+        a,
+        a,
+        state,
+        &no_peaks,
+        memory,
+        &no_true_peaks,
+        data,
+        &none,
+        map,
+    );
     number_of(answer)
 }
 
@@ -165,23 +159,22 @@ pub extern "C" fn xel_seed_f32(
         × (now (state .exit) ≡ kept seeded call .filter .state .values)
         × (now (memory .exit) ≡ kept seeded call .filter .«true_peak» .memory)) ⌝ }
 {
-    let given = Filter {
-        channels: channels,
-        rate: rate,
-        switches: switches_of(on),
-        coefficients: Coefficients { a: *a, b: *a },
-        state: State { values: *state },
-        peaks: Peaks { values: [0.0; 8] },
-        true_peak: TruePeak {
-            memory: *memory,
-            peaks: [0.0; 8],
-        },
-    };
-    let filtered = filter_seed::seed_f32(given, data, map);
-    let state_after = filtered.filter.state.values;
-    *state = state_after;
-    let memory_after = filtered.filter.true_peak.memory;
-    *memory = memory_after;
-    let answer = filtered.answer;
+    let no_peaks: [f64; 8] = [0.0; 8];
+    let no_true_peaks: [f32; 8] = [0.0; 8];
+    let none: [i16; 0] = [];
+    let answer = filter_seed::seed_lent(
+        channels,
+        rate,
+        switches_of(on),
+        a,
+        a,
+        state,
+        &no_peaks,
+        memory,
+        &no_true_peaks,
+        &none,
+        data,
+        map,
+    );
     number_of(answer)
 }

@@ -1,15 +1,14 @@
 -- What each part of the filter leaves of a call that passes: what its definition says. Assumes nothing.
 use Prim.Native.Nat.{ℕ}
-use mathlib.Core.Path.{_≡_, refl, ap, _∙_}
+use mathlib.Core.Path.{_≡_, refl, ap}
 use mathlib.Core.Bool.{Bool, true, false, cond}
 use mathlib.Core.List.{List}
 use lib.ListN.{length}
 use lib.Ieee.{Float}
 use Rattle.refusals.specs.Outcome.{keptBy, went, done}
-use Rattle.calls.specs.Check.{Check, passes, fails, unless}
+use Rattle.calls.specs.Check.{Check, passes, unless}
 use Rattle.calls.specs.Calls.{checkFrames, checkProcess}
 use Rattle.calls.proofs.Checking.{seeds, processes}
-use Rattle.states.specs.declared.State.{State}
 use Rattle.states.specs.Channels as recurrence
 use Rattle.weighting.specs.Weighting as weighting
 use Rattle.sample_peak.specs.declared.Peaks.{Peaks}
@@ -19,8 +18,8 @@ use Rattle.true_peak_state.specs.declared.TruePeak.{TruePeak}
 use Rattle.true_peak_state.specs.TruePeak.{Block, measured}
 use Rattle.true_peak.specs.TruePeak as trues
 use Rattle.filter.specs.Filter.{moved}
-use Rattle.filter.specs.Call.{Call, given, kept, weighedState}
-use Rattle.filter.proofs.Same.{same-moved}
+use Rattle.filter.specs.Call.{Call, kept, weighedState}
+use Rattle.filter.proofs.Moving.{left-moved}
 use Rattle.filter_process.specs.Process.{weighedDest, measuredPeaks, measuredTruePeaks, processCheck, processed}
 
 pub process-frames : (call : Call) → processCheck call ≡ passes → checkFrames (call .filter .channels) (length (call .samples)) ≡ passes
@@ -63,13 +62,6 @@ weighed-dest false call dest start e = refl
 
 -- ---- the filter
 
--- of a filter a call moves the state and the peaks, refused or not
-moves : (check : Check) (call : Call) (s : State) (p : Peaks) (t : TruePeak) (dest : List Float)
-    → (let f = keptBy (given call) (unless check (went (record { filter = moved (call .filter) s p t; dest = dest }) done)) .filter in
-    moved (call .filter) (f .state) (f .peaks) (f .«true_peak») ≡ f)
-moves passes call s p t dest = refl
-moves (fails r) call s p t dest = refl
-
 pub moved-to : (call : Call) {state peaks memory truePeaks : List Float}
     → state ≡ kept processed call .filter .state .values
     → peaks ≡ kept processed call .filter .peaks .values
@@ -77,8 +69,4 @@ pub moved-to : (call : Call) {state peaks memory truePeaks : List Float}
     → truePeaks ≡ kept processed call .filter .«true_peak» .peaks
     → moved (call .filter) (record { values = state }) (record { values = peaks }) (record { memory = memory; peaks = truePeaks }) ≡ kept processed call .filter
 unfolding processed
-moved-to call {memory = memory} {truePeaks = truePeaks} s p m t =
-    let after = kept processed call .filter .«true_peak» in
-    same-moved (call .filter) (ap (λ (x : List Float). record { values = x }) s) (ap (λ (x : List Float). record { values = x }) p)
-    (ap (λ (x : List Float). record { memory = x; peaks = truePeaks }) m ∙ ap (λ (x : List Float). record { memory = after .memory; peaks = x }) t)
-    ∙ moves (processCheck call) call (weighedState call) (measuredPeaks call) (measuredTruePeaks call) (weighedDest call)
+moved-to call = left-moved (processCheck call) call (weighedState call) (measuredPeaks call) (measuredTruePeaks call) (weighedDest call)

@@ -5,86 +5,148 @@ ghost use Rattle.refusals.specs.Answer.{said};
 ghost use Rattle.refusals.specs.Outcome.{saidBy, keptBy};
 ghost use Rattle.samples.specs.Sample.{samplesOf16, samplesOfF32};
 ghost use Rattle.sources.specs.Source.{sourceOf};
+ghost use Rattle.states.specs.declared.State.{State};
 ghost use Rattle.states.specs.Channels as recurrence;
 ghost use Rattle.seeding.specs.Seeding as seeding;
+ghost use Rattle.true_peak_state.specs.declared.TruePeak.{TruePeak};
 ghost use Rattle.true_peak.specs.TruePeak as trues;
+ghost use Rattle.filter.specs.Filter.{lentFilter};
 ghost use Rattle.filter.specs.Call.{seedOf, kept};
 ghost use Rattle.filter_seed.specs.Seed.{seeded};
 use filter::Filter;
 use filter::Filtered;
+use filter::Switches;
 use recurrence::Coefficients;
 use refusals::Answer;
+use sample_peak::Peaks;
 use states::State;
 use true_peak_state::TruePeak;
 
-// The interpolator's memory after the call, and its peaks as they are; or all as it is where the true peak is off.
+// The interpolator's memory after the call. Where the true peak is off it is not looked at.
 fn remember(
     on: bool,
     rate: u32,
-    stored: TruePeak,
+    memory: &mut [f32; 184],
+    peaks: &[f32; 8],
     channels: usize,
     ints: &[i16],
     floats: &[f32],
-) -> TruePeak
-    ensures { λ r. ⌜ r ≡ cond on (keptBy stored (trues.seeded rate (record { channels = channels; samples = sourceOf (now (ints .entry)) (now (floats .entry)) }) stored)) stored ⌝ }
+)
+    ensures { λ _. ⌜ (let stored : TruePeak = record { memory = now (memory .entry); peaks = now (peaks .entry) } in
+        now (memory .exit) ≡ cond on (keptBy stored (trues.seeded rate (record { channels = channels; samples = sourceOf (now (ints .entry)) (now (floats .entry)) }) stored)) stored .memory) ⌝ }
 {
     if !on {
-        return stored;
+        return;
     }
+    let stored = TruePeak {
+        memory: *memory,
+        peaks: *peaks,
+    };
     let m = true_peaks::seed(rate, stored, channels, ints, floats);
-    m.state
+    let after = m.state.memory;
+    *memory = after;
 }
 
-// The state after a seed call, or as it is where loudness is off.
+// The state after the call. Where loudness is off it is not looked at.
 fn advance(
     on: bool,
-    c: Coefficients,
-    s: State,
+    a: &[f64; 5],
+    b: &[f64; 5],
+    state: &mut [f64; 40],
     channels: usize,
     ints: &[i16],
     floats: &[f32],
     map: &[u8],
-) -> State
-    ensures { λ r. ⌜ r ≡ cond on (keptBy s (seeding.moved (recurrence.callOf c s channels (sourceOf (now (ints .entry)) (now (floats .entry))) (now (map .entry))))) s ⌝ }
+)
+    ensures { λ _. ⌜ (let stored : State = record { values = now (state .entry) } in
+        now (state .exit) ≡ cond on (keptBy stored (seeding.moved (recurrence.callOf (record { a = now (a .entry); b = now (b .entry) }) stored channels (sourceOf (now (ints .entry)) (now (floats .entry))) (now (map .entry))))) stored .values) ⌝ }
 {
     if !on {
-        return s;
+        return;
     }
-    let m = seeding::seed(c, s, channels, ints, floats, map);
-    m.state
+    let c = Coefficients { a: *a, b: *b };
+    let stored = State { values: *state };
+    let m = seeding::seed(c, stored, channels, ints, floats, map);
+    let after = m.state.values;
+    *state = after;
 }
 
-// `seed` for samples of either kind.
-fn seed(filter: Filter, ints: &[i16], floats: &[f32], map: &[u8]) -> Filtered
-    ensures { λ r. ⌜ said (r .answer) ≡ saidBy (seeded (seedOf filter (sourceOf (now (ints .entry)) (now (floats .entry))) (now (map .entry)))) ⌝ }
-    ensures { λ r. ⌜ r .filter ≡ kept seeded (seedOf filter (sourceOf (now (ints .entry)) (now (floats .entry))) (now (map .entry))) .filter ⌝ }
+// One call for samples of either kind, integers, or floats where there are no integers, on arrays that are lent each by itself.
+// Everything is checked before anything moves, and what is off is not looked at. The peaks say which filter it is, and stay.
+pub fn seed_lent(
+    channels: usize,
+    rate: u32,
+    switches: Switches,
+    a: &[f64; 5],
+    b: &[f64; 5],
+    state: &mut [f64; 40],
+    peaks: &[f64; 8],
+    memory: &mut [f32; 184],
+    true_peaks: &[f32; 8],
+    ints: &[i16],
+    floats: &[f32],
+    map: &[u8],
+) -> Answer
+    ensures { λ r. ⌜ (let call = seedOf (lentFilter channels rate switches (now (a .entry)) (now (b .entry)) (now (state .entry)) (now (peaks .entry)) (now (memory .entry)) (now («true_peaks» .entry))) (sourceOf (now (ints .entry)) (now (floats .entry))) (now (map .entry)) in
+        (said r ≡ saidBy (seeded call))
+        × (now (state .exit) ≡ kept seeded call .filter .state .values)
+        × (now (memory .exit) ≡ kept seeded call .filter .«true_peak» .memory)) ⌝ }
 {
-    let channels = filter.channels;
-    let on = filter.switches;
     let samples = sources::size_of(ints, floats);
     let number = calls::refused_seed(channels, samples, map);
     if number != 0 {
-        return Filtered {
-            answer: Answer::Refused(number),
-            filter: filter,
-        };
+        return Answer::Refused(number);
     }
-    let peaks = filter.peaks;
-    let trues_before = filter.true_peak;
-    let trues = remember(
-        on.true_peak,
-        filter.rate,
-        trues_before,
+    remember(
+        switches.true_peak,
+        rate,
+        memory,
+        true_peaks,
         channels,
         ints,
         floats,
     );
-    let c = filter.coefficients;
-    let before = filter.state;
-    let state = advance(on.loudness, c, before, channels, ints, floats, map);
+    advance(switches.loudness, a, b, state, channels, ints, floats, map);
+    Answer::Done
+}
+
+// `seed_lent` on copies of the filter's arrays.
+fn seed(filter: Filter, ints: &[i16], floats: &[f32], map: &[u8]) -> Filtered
+    ensures { λ r. ⌜ said (r .answer) ≡ saidBy (seeded (seedOf filter (sourceOf (now (ints .entry)) (now (floats .entry))) (now (map .entry)))) ⌝ }
+    ensures { λ r. ⌜ r .filter ≡ kept seeded (seedOf filter (sourceOf (now (ints .entry)) (now (floats .entry))) (now (map .entry))) .filter ⌝ }
+{
+    let switches = filter.switches;
+    let a = filter.coefficients.a;
+    let b = filter.coefficients.b;
+    let mut state = filter.state.values;
+    let peaks = filter.peaks.values;
+    let mut memory = filter.true_peak.memory;
+    let true_peaks = filter.true_peak.peaks;
+    let answer = seed_lent(
+        filter.channels,
+        filter.rate,
+        switches,
+        &a,
+        &b,
+        &mut state,
+        &peaks,
+        &mut memory,
+        &true_peaks,
+        ints,
+        floats,
+        map,
+    );
     Filtered {
-        answer: Answer::Done,
-        filter: filter::with(filter, state, peaks, trues),
+        answer: answer,
+        filter: filter::with(
+            filter,
+            State { values: state },
+            Peaks { values: peaks },
+            TruePeak {
+                memory: memory,
+                peaks: true_peaks,
+            },
+        ),
     }
 }
 

@@ -13,9 +13,8 @@ use Rattle.sources.specs.Source.{sourceOf}
 use Rattle.states.specs.declared.State.{State}
 use Rattle.sample_peak.specs.declared.Peaks.{Peaks}
 use Rattle.true_peak_state.specs.declared.TruePeak.{TruePeak}
-use Rattle.filter.specs.Filter.{moved}
+use Rattle.filter.specs.Filter.{moved, lentFilter}
 use Rattle.filter.specs.Call.{Call, Kept, callOf, given, weighing, hearing, weighedState}
-use Rattle.filter_process.specs.Lent.{lentFilter}
 use Rattle.filter_process.specs.Process.{weighedDest, measuredPeaks, measuredTruePeaks, processCheck, processed}
 use Rattle.filter_process.proofs.Parts.{process-frames, peaks-are, trues-are, weighed-state, weighed-dest}
 use Rattle.filter_process.proofs.process_lent.Statement.{statement}

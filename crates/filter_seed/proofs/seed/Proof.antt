@@ -1,77 +1,26 @@
--- `seed` meets its contract: the number of the check is the refusal, and past it each part leaves what the definitions say. Assumes nothing.
+-- `seed` meets its contract: the arrays are the filter's, and the filter moves to what is left in them. Assumes nothing.
 use borrow.Author.Needs.{needs}
-use Prim.Native.Nat.{ℕ}
-use mathlib.Core.Path.{_≡_, refl, sym, ap, _∙_}
-use Rattle.refusals.specs.Outcome.{Outcome, saidBy, keptBy, went, NoValues, done}
-use Rattle.calls.specs.Check.{numberOf}
-use Rattle.calls.specs.Calls.{checkSeed}
-use Rattle.calls.proofs.Checking.{passed}
-use Rattle.calls.proofs.Stopping.{stopped, goes}
+use mathlib.Core.Path.{_∙_}
+use denote.Ref.{now}
 use Rattle.sources.specs.Source.{sourceOf}
-use Rattle.filter.specs.Filter.{moved}
-use Rattle.filter.specs.Call.{Call, Kept, seedOf, given, weighing, hearing, weighedState}
-use Rattle.filter.proofs.Same.{same-moved}
-use Rattle.filter_seed.specs.Seed.{rememberedTruePeaks, seedCheck, seeded}
-use Rattle.filter_seed.proofs.Parts.{seed-frames, memory-is, seeded-state}
+use Rattle.filter.specs.Call.{seedOf}
+use Rattle.filter_seed.proofs.Parts.{seeded-to}
 use Rattle.filter_seed.proofs.seed.Statement.{statement}
 use Rattle.filter_seed.proofs.seed.Tie as tie
 
--- the call of the definitions
-abbrev call : tie.Start → Call
-call s = let a = s .args in seedOf (a .filter) (sourceOf (a .ints .now) (a .floats .now)) (a .map .now)
-
-abbrev leaves : tie.Start → Outcome Kept NoValues
-leaves s = let k = call s in went (record { filter = moved (k .filter) (weighedState k) (k .filter .peaks) (rememberedTruePeaks k); dest = k .dest }) done
-
-numbered : (c : tie.After-refused-seed) → c .refused-seed .result ≡ numberOf (seedCheck (call (c .before .before .before .before .before)))
-numbered c =
-    let a = c .before .before .before .before .before .args in
-    c .refused-seed .ensures ∙ ap (λ (n : ℕ). numberOf (checkSeed (a .filter .channels) n (a .map .now))) (c .before .size-of .ensures)
-
-size-of-requires : tie.Need-size-of-requires
-size-of-requires c κs = search needs
-
-refused-seed-requires : tie.Need-refused-seed-requires
-refused-seed-requires c κs = search needs
-
-returns : tie.Need-returns
-unfolding seeded
-returns c =
-    let r = c .before in
-    let s = r .before .before .before .before .before in
-    let f = stopped (seedCheck (call s)) (leaves s) (given (call s)) (r .refused-seed .result) (numbered r) (c .if1 .taken) in
-    (f .says, ap (λ (k : Kept). k .filter) (f .keeps))
-
-remember-requires : tie.Need-remember-requires
-remember-requires c κs = search needs
-
-advance-requires : tie.Need-advance-requires
-advance-requires c κs = search needs
+seed-lent-requires : tie.Need-seed-lent-requires
+seed-lent-requires c κs = search needs
 
 with-requires : tie.Need-with-requires
 with-requires c κs = search needs
 
-returns-2 : tie.Need-returns-2
-unfolding seeded
-returns-2 c =
-    let w = c .before in
-    let l = w .before .before .before in
-    let e = l .before .before .before in
-    let r = e .before in
-    let s = r .before .before .before .before .before in
-    let k = call s in
-    let f = s .args .filter in
-    let ok = passed (seedCheck k) (sym (numbered r) ∙ e .if1 .left) in
-    let z = goes (seedCheck k) (leaves s) (r .refused-seed .result) (numbered r) (e .if1 .left) in (
-      sym (ap saidBy z),
-      c .with .ensures
-          ∙ same-moved f
-          (w .advance .ensures ∙ seeded-state (f .switches .loudness) (weighing k) ok)
-          refl
-          (l .remember .ensures ∙ memory-is (f .switches .«true_peak») (f .rate) (hearing k) (f .«true_peak») (seed-frames k ok))
-          ∙ sym (ap (λ (o : Outcome Kept NoValues). keptBy (given k) o .filter) z),
-    )
+returns : tie.Need-returns
+returns c =
+    let p = c .before in
+    let s = p .before .before .before .before .before .before .before .before .before .before .before .before .before .before .before .before in
+    let a = s .args in
+    let e = p .seed-lent .ensures in
+    (e .0, c .with .ensures ∙ seeded-to (seedOf (a .filter) (sourceOf (now (a .ints)) (now (a .floats))) (now (a .map))) (e .1) (e .2))
 
 pub seed-spec : {M : Type 1} → statement M
-seed-spec =
-    tie.close (tie.spec size-of-requires refused-seed-requires returns remember-requires advance-requires with-requires returns-2)
+seed-spec = tie.close (tie.spec seed-lent-requires with-requires returns)

@@ -1,0 +1,78 @@
+-- `seed_lent` meets its contract: the number of the check is the refusal, and past it each part leaves what the definitions say. Assumes nothing.
+use borrow.Author.Needs.{needs}
+use Prim.Native.Nat.{ℕ}
+use mathlib.Core.Path.{_≡_, sym, ap, _∙_}
+use denote.Ref.{now}
+use Rattle.refusals.specs.Outcome.{Outcome, saidBy, keptBy, went, NoValues, done}
+use Rattle.calls.specs.Check.{numberOf}
+use Rattle.calls.specs.Calls.{checkSeed}
+use Rattle.calls.proofs.Checking.{passed}
+use Rattle.calls.proofs.Stopping.{stopped, goes}
+use Rattle.sources.specs.Source.{sourceOf}
+use Rattle.states.specs.declared.State.{State}
+use Rattle.true_peak_state.specs.declared.TruePeak.{TruePeak}
+use Rattle.filter.specs.Filter.{moved, lentFilter}
+use Rattle.filter.specs.Call.{Call, Kept, seedOf, given, weighing, hearing, weighedState}
+use Rattle.filter_seed.specs.Seed.{rememberedTruePeaks, seedCheck, seeded}
+use Rattle.filter_seed.proofs.Parts.{seed-frames, memory-is, seeded-state}
+use Rattle.filter_seed.proofs.seed_lent.Statement.{statement}
+use Rattle.filter_seed.proofs.seed_lent.Tie as tie
+
+-- the call of the definitions
+abbrev call : tie.Start → Call
+call s =
+    let a = s .args in
+    seedOf
+    (lentFilter (a .channels) (a .rate) (a .switches) (now (a .a)) (now (a .b)) (now (a .state)) (now (a .peaks)) (now (a .memory)) (now (a .true-peaks)))
+    (sourceOf (now (a .ints)) (now (a .floats))) (now (a .map))
+
+abbrev leaves : tie.Start → Outcome Kept NoValues
+leaves s = let k = call s in went (record { filter = moved (k .filter) (weighedState k) (k .filter .peaks) (rememberedTruePeaks k); dest = k .dest }) done
+
+numbered : (c : tie.After-refused-seed) → c .refused-seed .result ≡ numberOf (seedCheck (call (c .before .before .before .before)))
+numbered c =
+    let a = c .before .before .before .before .args in
+    c .refused-seed .ensures ∙ ap (λ (n : ℕ). numberOf (checkSeed (a .channels) n (now (a .map)))) (c .before .size-of .ensures)
+
+size-of-requires : tie.Need-size-of-requires
+size-of-requires c κs = search needs
+
+refused-seed-requires : tie.Need-refused-seed-requires
+refused-seed-requires c κs = search needs
+
+returns : tie.Need-returns
+unfolding seeded
+returns c =
+    let r = c .before in
+    let s = r .before .before .before .before in
+    let f = stopped (seedCheck (call s)) (leaves s) (given (call s)) (r .refused-seed .result) (numbered r) (c .if1 .taken) in
+    (f .says, ap (λ (k : Kept). k .filter .state .values) (f .keeps), ap (λ (k : Kept). k .filter .«true_peak» .memory) (f .keeps))
+
+remember-requires : tie.Need-remember-requires
+remember-requires c κs = search needs
+
+advance-requires : tie.Need-advance-requires
+advance-requires c κs = search needs
+
+returns-2 : tie.Need-returns-2
+unfolding seeded
+returns-2 c =
+    let l = c .before .before in
+    let e = l .before .before in
+    let r = e .before in
+    let s = r .before .before .before .before in
+    let k = call s in
+    let f = k .filter in
+    let ok = passed (seedCheck k) (sym (numbered r) ∙ e .if1 .left) in
+    let z = sym (goes (seedCheck k) (leaves s) (r .refused-seed .result) (numbered r) (e .if1 .left)) in (
+      ap saidBy z,
+      c .advance .ensures
+          ∙ ap (λ (x : State). x .values) (seeded-state (f .switches .loudness) (weighing k) ok)
+          ∙ ap (λ (o : Outcome Kept NoValues). keptBy (given k) o .filter .state .values) z,
+      l .remember .ensures
+          ∙ ap (λ (x : TruePeak). x .memory) (memory-is (f .switches .«true_peak») (f .rate) (hearing k) (f .«true_peak») (seed-frames k ok))
+          ∙ ap (λ (o : Outcome Kept NoValues). keptBy (given k) o .filter .«true_peak» .memory) z,
+    )
+
+pub seed-lent-spec : {M : Type 1} → statement M
+seed-lent-spec = tie.close (tie.spec size-of-requires refused-seed-requires returns remember-requires advance-requires returns-2)
