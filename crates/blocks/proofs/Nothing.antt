@@ -106,6 +106,19 @@ nothing = refl
 pub nothing-added : (x : Float) → Steady x → add binary64 x (ofBits binary64 0) ≡ x
 nothing-added x p = ap (add binary64 x) nothing ∙ add-nothing x (p .0) (p .1)
 
+-- and added to 0
+swapped : (x : Float) → T (unsigned x) → add binary64 (fin false 0 (pos 0)) x ≡ add binary64 x (fin false 0 (pos 0))
+unfolding add sum unsigned
+swapped nan u = refl
+swapped (inf s) u = refl
+swapped (fin true m e) u = absurd u
+swapped (fin false m e) u =
+    ap (λ (n : ℕ). round binary64 false n (down (pos 0) * down e)) (add-comm (0 * up (pos 0) * down e) (m * up e * down (pos 0)))
+    ∙ ap (round binary64 false (m * up e * down (pos 0) + 0 * up (pos 0) * down e)) (mul-comm (down (pos 0)) (down e))
+
+pub to-nothing : (x : Float) → Steady x → add binary64 (ofBits binary64 0) x ≡ x
+to-nothing x p = ap (λ (z : Float). add binary64 z x) nothing ∙ swapped x (p .1) ∙ add-nothing x (p .0) (p .1)
+
 -- ---- no minus comes of two without one
 odd-unsigned : (d q k l : ℕ) → T (unsigned (odd d false q k l))
 unfolding odd unsigned

@@ -1,13 +1,10 @@
 -- A single history is the set that is this one: added to 0 its sum stays as it is, since it has no minus. Assumes nothing.
-use mathlib.Core.Path.{_≡_, refl, sym, ap, _∙_}
+use mathlib.Core.Path.{_≡_, refl, sym, ap}
 use mathlib.Core.Bool.{Bool, true, false, _&&_, true≢false}
 use mathlib.Core.List.{List, [], _∷_}
-use Prim.Native.Nat.{ℕ, _+_, _*_}
-use native.Mathlib.Nat.{add-comm, mul-comm}
+use Prim.Native.Nat.{ℕ, _+_}
 use native.Mathlib.Omega.{arith}
-use lib.Dec.{T}
-use lib.IntN.{pos}
-use lib.Ieee.{Float, nan, inf, fin, binary64, up, down, round, sum, add, ofBits}
+use lib.Ieee.{Float}
 use Rattle.refusals.specs.Outcome.{answers}
 use Rattle.queue.specs.Queue.{suits, heldOf}
 use Rattle.history.specs.declared.set.Entry.{Entry}
@@ -31,28 +28,11 @@ use Rattle.history.specs.Set.{
 use Rattle.history.proofs.Entries.{sound-at}
 use Rattle.history.proofs.Verdicts.{kept}
 use Rattle.blocks.specs.declared.Totals.{Totals}
-use Rattle.blocks.specs.Totals.{none, unsigned, Steady, withBlocks, energiesFrom}
-use Rattle.blocks.proofs.Nothing.{nothing-added, nothing-steady, steady-added, bins-steady}
+use Rattle.blocks.specs.Totals.{none, Steady, withBlocks, energiesFrom}
+use Rattle.blocks.proofs.Nothing.{to-nothing, nothing-steady, steady-added, bins-steady}
 use Rattle.sums.specs.Sums.{totalsOf, allTotals, alone, ofHistory, ofSet}
 use Rattle.sums.proofs.Looking.{same}
 use Rattle.kept.proofs.Keeping.{no-minus, others-sound}
-
--- ---- 0 and a sum
-nothing : ofBits binary64 0 ≡ fin false 0 (pos 0)
-unfolding ofBits
-nothing = refl
-
-swapped : (x : Float) → T (unsigned x) → add binary64 (fin false 0 (pos 0)) x ≡ add binary64 x (fin false 0 (pos 0))
-unfolding add sum unsigned
-swapped nan u = refl
-swapped (inf s) u = refl
-swapped (fin true m e) u = absurd u
-swapped (fin false m e) u =
-    ap (λ (n : ℕ). round binary64 false n (down (pos 0) * down e)) (add-comm (0 * up (pos 0) * down e) (m * up e * down (pos 0)))
-    ∙ ap (round binary64 false (m * up e * down (pos 0) + 0 * up (pos 0) * down e)) (mul-comm (down (pos 0)) (down e))
-
-to-nothing : (x : Float) → Steady x → add binary64 (none .sum) x ≡ x
-to-nothing x s = ap (λ (z : Float). add binary64 z x) nothing ∙ swapped x (s .1) ∙ ap (add binary64 x) (sym nothing) ∙ nothing-added x s
 
 -- ---- the sum of a sound history has no minus
 energies-steady : (totals : Totals) (l : List Float) → Steady (totals .sum) → noneBelow l ≡ true → Steady (energiesFrom totals l .sum)
