@@ -29,30 +29,21 @@ fn sample_at(ints: &[i16], floats: &[f32], i: usize) -> f64
     samples::i16_to_f64(ints[i])
 }
 
-// A frame of one channel.
-fn frame(
-    c: Coefficients,
-    m: Memory,
-    ints: &[i16],
-    floats: &[f32],
-    i: usize,
-    dest: &mut [f64],
-    j: usize,
-) -> Memory
-    requires { ⌜ i < length (sourceOf (now ints) (now floats)) ⌝ }
+// A frame of one channel, by its sample.
+fn frame(c: Coefficients, m: Memory, x: f64, dest: &mut [f64], j: usize) -> Memory
     requires { ⌜ j < length (now dest) ⌝ }
-    ensures { λ r. ⌜ r ≡ next (c .a) m (getD (sourceOf (now (ints .entry)) (now (floats .entry))) i nan) ⌝ }
-    ensures { λ _. ⌜ now (dest .exit) ≡ set (now (dest .entry)) j (out (c .a) (c .b) m (getD (sourceOf (now (ints .entry)) (now (floats .entry))) i nan)) ⌝ }
+    ensures { λ r. ⌜ r ≡ next (c .a) m x ⌝ }
+    ensures { λ _. ⌜ now (dest .exit) ≡ set (now (dest .entry)) j (out (c .a) (c .b) m x) ⌝ }
 {
     let a = c.a;
     let b = c.b;
-    let x = sample_at(ints, floats, i);
     let s0 = recurrence::head_of(a, m, x);
     dest[j] = recurrence::output_of(b, m, s0);
     recurrence::shifted(m, s0)
 }
 
 // One channel's frames, two a turn: its memory after them, and their outputs in dest from place `to` on. One a turn, the compiler puts a move of the newest value into the chain.
+// Both samples are taken first, since a sample has its kind asked: what follows is then one run of operations, and the two outputs are summed side by side.
 fn weigh(
     c: Coefficients,
     m: Memory,
@@ -74,14 +65,17 @@ fn weigh(
     let mut i = first;
     let mut j = to;
     while 1 < left {
-        w = frame(c, w, ints, floats, i, dest, j);
-        w = frame(c, w, ints, floats, i + step, dest, j + 1);
+        let x = sample_at(ints, floats, i);
+        let y = sample_at(ints, floats, i + step);
+        w = frame(c, w, x, dest, j);
+        w = frame(c, w, y, dest, j + 1);
         i += step + step;
         j += 2;
         left -= 2;
     }
     if 0 < left {
-        return frame(c, w, ints, floats, i, dest, j);
+        let x = sample_at(ints, floats, i);
+        return frame(c, w, x, dest, j);
     }
     w
 }

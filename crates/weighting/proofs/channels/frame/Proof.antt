@@ -1,15 +1,10 @@
 -- `weighting::frame` meets its contract: the definitions of one frame. Assumes nothing.
 use borrow.Author.Needs.{needs}
 use mathlib.Core.Path.{_≡_, ap, _∙_}
-use lib.Ieee.{nan}
-use lib.ListN.{set, getD}
-use Rattle.sources.specs.Source.{sourceOf}
+use lib.ListN.{set}
 use Rattle.recurrence.specs.Recurrence.{head, output, shift, next, out}
 use Rattle.weighting.proofs.channels.frame.Statement.{statement}
 use Rattle.weighting.proofs.channels.frame.Tie as tie
-
-sample-at-requires : tie.Need-sample-at-requires
-sample-at-requires c κs = search needs
 
 head-of-requires : tie.Need-head-of-requires
 head-of-requires c κs = search needs
@@ -34,18 +29,15 @@ unfolding next out
 returns c =
     let o = c .before in
     let g = o .before in
-    let y = g .before in
-    let a = y .before .before .before .before .before .args in
-    let x = getD (sourceOf (a .ints .now) (a .floats .now)) (a .i) nan in
-    let s : g .head-of .result ≡ head (a .c .a) (a .m) x = g .head-of .ensures ∙ ap (head (a .c .a) (a .m)) (y .sample-at .ensures) in
-    let u : o .output-of .result ≡ out (a .c .a) (a .c .b) (a .m) x = o .output-of .ensures ∙ ap (output (a .c .b) (a .m)) s in
+    let a = g .before .before .before .before .args in
+    let s : g .head-of .result ≡ head (a .c .a) (a .m) (a .x) = g .head-of .ensures in
+    let u : o .output-of .result ≡ out (a .c .a) (a .c .b) (a .m) (a .x) = o .output-of .ensures ∙ ap (output (a .c .b) (a .m)) s in
     (c .shifted .ensures ∙ ap (shift (a .m)) s, ap (set (a .dest .now) (a .j)) u)
 
 pub frame-spec : {M : Type 1} → statement M
 frame-spec =
     tie.close
     (tie.spec
-    sample-at-requires
     head-of-requires
     output-of-requires
     mul-dest

@@ -2,14 +2,15 @@
 use borrow.Author.Needs.{needs}
 use Prim.Native.Nat.{_+_, _-_, _^_, _≤_, _<_}
 use native.Mathlib.Omega.{arith}
-use mathlib.Core.Path.{_≡_, refl, _∙_}
-use lib.ListN.{length}
+use mathlib.Core.Path.{_≡_, refl, ap, _∙_}
+use lib.ListN.{length, set}
+use lib.Ieee.{Float}
 use lib.Seq.{sets}
 use Rattle.samples.specs.Frames.{column}
 use Rattle.calls.specs.Calls.{mostChannels}
 use Rattle.sources.specs.Source.{sourceOf}
 use Rattle.sources.proofs.ByKind.{source-below}
-use Rattle.recurrence.specs.Recurrence.{after, outs}
+use Rattle.recurrence.specs.Recurrence.{next, out, after, outs}
 use Rattle.weighting.proofs.Single.{Single, turn, here, following, twice, end}
 use Rattle.weighting.proofs.channels.weigh.Statement.{statement}
 use Rattle.weighting.proofs.channels.weigh.Tie as tie
@@ -30,8 +31,8 @@ loop-holds c =
     let p = c .before .before .pre in
     (refl, record { reach = p .0; room = p .1; memory = refl; given = refl })
 
-frame-requires : tie.Need-frame-requires Inv-loop μ-loop
-frame-requires c κs = let q = c .before in here (q .before .loop .inv .1) (omega (arith, q .loop-test .taken))
+sample-at-requires : tie.Need-sample-at-requires Inv-loop μ-loop
+sample-at-requires c κs = here (c .before .loop .inv .1) (omega (arith, c .loop-test .taken)) .0
 
 -- the second frame of a turn is there too
 second : (c : tie.In-loop Inv-loop μ-loop) → let s = c .before .before .before .before in let l = c .before .loop in
@@ -47,31 +48,37 @@ small c =
     let s = c .before .before .before .before in
     source-below (s .args .ints .now) (s .args .floats .now) (2 ^ 63) (omega (arith, s .good)) (omega (arith, s .good))
 
-add-frame : tie.Need-add-frame Inv-loop μ-loop
-add-frame c = let q = c .before .before .before .before in omega (arith, second q .0, small q)
+add-sample-at : tie.Need-add-sample-at Inv-loop μ-loop
+add-sample-at c = let q = c .before in omega (arith, second q .0, small q)
 
-add-frame-2 : tie.Need-add-frame-2 Inv-loop μ-loop
-add-frame-2 c =
-    let q = c .before .before .before .before .before in
+sample-at-requires-2 : tie.Need-sample-at-requires-2 Inv-loop μ-loop
+sample-at-requires-2 c κs = second (c .before) .0
+
+frame-requires : tie.Need-frame-requires Inv-loop μ-loop
+frame-requires c κs = let q = c .before .before .before in here (q .before .loop .inv .1) (omega (arith, q .loop-test .taken)) .1
+
+add-frame : tie.Need-add-frame Inv-loop μ-loop
+add-frame c =
+    let q = c .before .before .before .before .before .before .before in
     omega (arith, second q .1 .0, q .before .before .before .before .good)
 
 frame-requires-2 : tie.Need-frame-requires-2 Inv-loop μ-loop
 frame-requires-2 c κs =
     let t = c .before .before .before in
-    let e = second (t .before .before) in
-    (e .0, omega (arith, e .1 .0, t .frame .kept .1 .1 .1 .1 .1 .0, t .before .before .before .loop .inv .0))
+    let q = t .before .before .before .before in
+    omega (arith, second q .1 .0, t .frame .kept .1 .1 .1 .0, q .before .loop .inv .0)
 
 add-i : tie.Need-add-i Inv-loop μ-loop
 add-i c = search needs
 
 add-i-2 : tie.Need-add-i-2 Inv-loop μ-loop
 add-i-2 c =
-    let q = c .before .before .before .before .before .before .before .before in
+    let q = c .before .before .before .before .before .before .before .before .before .before in
     omega (arith, second q .0, second q .1 .1, small q)
 
 add-j : tie.Need-add-j Inv-loop μ-loop
 add-j c =
-    let q = c .before .before .before .before .before .before .before .before in
+    let q = c .before .before .before .before .before .before .before .before .before .before in
     omega (arith, second q .1 .0, q .before .before .before .before .good)
 
 sub-left : tie.Need-sub-left Inv-loop μ-loop
@@ -84,16 +91,26 @@ loop-again : tie.Need-loop-again Inv-loop μ-loop
 loop-again c =
     let two = c .before .before in
     let one = two .before .before .before .before in
-    let q = one .before .before in
+    let y = one .before .before in
+    let x = y .before in
+    let q = x .before in
+    let a = q .before .before .before .before .args in
     let l = q .before .loop in
     let e = one .frame .ensures in
     let f = two .frame2 .ensures in (
-      two .frame2 .kept .1 .1 .1 .1 .1 .0 ∙ one .frame .kept .1 .1 .1 .1 .1 .0 ∙ l .inv .0,
-      twice (l .inv .1) (one .frame .result) (two .frame2 .result) _ _ (q .loop-test .taken) (e .0) (e .1) (f .0) (f .1),
+      two .frame2 .kept .1 .1 .1 .0 ∙ one .frame .kept .1 .1 .1 .0 ∙ l .inv .0,
+      twice (l .inv .1) (one .frame .result) (two .frame2 .result) _ _ (q .loop-test .taken)
+          (e .0 ∙ ap (next (a .c .a) (l .w)) (x .sample-at .ensures))
+          (e .1 ∙ ap (λ (v : Float). set (l .dest) (l .j) (out (a .c .a) (a .c .b) (l .w) v)) (x .sample-at .ensures))
+          (f .0 ∙ ap (next (a .c .a) (one .frame .result)) (y .sample-at2 .ensures))
+          (f .1 ∙ ap (λ (v : Float). set (one .frame .last .1 .1 .1 .0) (l .j + 1) (out (a .c .a) (a .c .b) (one .frame .result) v)) (y .sample-at2 .ensures)),
     )
 
+sample-at-requires-3 : tie.Need-sample-at-requires-3 Inv-loop μ-loop
+sample-at-requires-3 c κs = here (c .before .before .loop .inv .1) (c .if1 .taken) .0
+
 frame-requires-3 : tie.Need-frame-requires-3 Inv-loop μ-loop
-frame-requires-3 c κs = let q = c .before in here (q .before .before .loop .inv .1) (q .if1 .taken)
+frame-requires-3 c κs = let q = c .before .before in here (q .before .before .loop .inv .1) (q .if1 .taken) .1
 
 same-length : tie.Need-same-length Inv-loop μ-loop
 same-length c = search needs
@@ -101,11 +118,17 @@ same-length c = search needs
 returns : tie.Need-returns Inv-loop μ-loop
 returns c =
     let t = c .before .before in
-    let q = t .before .before in
+    let x = t .before .before in
+    let q = x .before in
+    let a = q .before .before .before .before .before .args in
     let l = q .before .before .loop in
     let e = t .frame3 .ensures in
     let z : l .left - 1 ≡ 0 = omega (arith, q .before .loop-test .left, q .if1 .taken) in
-    end (turn (l .inv .1) (t .frame3 .result) _ (q .if1 .taken) (e .0) (e .1)) z
+    end
+    (turn (l .inv .1) (t .frame3 .result) _ (q .if1 .taken)
+    (e .0 ∙ ap (next (a .c .a) (l .w)) (x .sample-at3 .ensures))
+    (e .1 ∙ ap (λ (v : Float). set (l .dest) (l .j) (out (a .c .a) (a .c .b) (l .w) v)) (x .sample-at3 .ensures)))
+    z
 
 same-length-2 : tie.Need-same-length-2 Inv-loop μ-loop
 same-length-2 c = search needs
@@ -123,9 +146,11 @@ weigh-spec =
     Inv-loop
     μ-loop
     loop-holds
+    sample-at-requires
+    add-sample-at
+    sample-at-requires-2
     frame-requires
     add-frame
-    add-frame-2
     frame-requires-2
     add-i
     add-i-2
@@ -133,6 +158,7 @@ weigh-spec =
     sub-left
     loop-less
     loop-again
+    sample-at-requires-3
     frame-requires-3
     same-length
     returns
