@@ -86,10 +86,7 @@ fn weigh(
         return;
     }
     let c = Coefficients { a: *a, b: *b };
-    let stored = State { values: *state };
-    let m = weighting::process(c, stored, channels, ints, floats, map, dest, start);
-    let after = m.state.values;
-    *state = after;
+    weighting::process_lent(c, state, channels, ints, floats, map, dest, start);
 }
 
 // One call for samples of either kind, integers, or floats where there are no integers, on arrays that are lent each by itself.

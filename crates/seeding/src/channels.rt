@@ -11,7 +11,6 @@ ghost use Rattle.sources.specs.Blocks.{Reach};
 ghost use Rattle.recurrence.specs.Recurrence.{after, flushed};
 ghost use Rattle.states.specs.Channels.{memoryOf, withMemory, overUsed};
 use recurrence::Memory;
-use states::State;
 
 // Sample i of a call, as a float.
 fn sample_at(ints: &[i16], floats: &[f32], i: usize) -> f64
@@ -51,45 +50,43 @@ fn advance(
 
 fn advance_channel(
     a: [f64; 5],
-    s: State,
+    state: &mut [f64; 40],
     byte: u8,
     ints: &[i16],
     floats: &[f32],
     k: usize,
     channels: usize,
     count: usize,
-) -> State
+)
     requires { ⌜ k < mostChannels ⌝ }
     requires { ⌜ Reach k channels count (length (sourceOf (now ints) (now floats))) ⌝ }
-    ensures { λ r. ⌜ r .values ≡ cond (used byte) (withMemory (s .values) k (flushed (after a (memoryOf (s .values) k) (column (sourceOf (now (ints .entry)) (now (floats .entry))) k channels count)))) (s .values) ⌝ }
+    ensures { λ _. ⌜ now (state .exit) ≡ cond (used byte) (withMemory (now (state .entry)) k (flushed (after a (memoryOf (now (state .entry)) k) (column (sourceOf (now (ints .entry)) (now (floats .entry))) k channels count)))) (now (state .entry)) ⌝ }
 {
     if byte == 0 {
-        return s;
+        return;
     }
-    let m = advance(a, states::load(s, k), ints, floats, k, channels, count);
-    states::store(s, k, flushing::flush_all(m))
+    let m = advance(a, states::load(state, k), ints, floats, k, channels, count);
+    states::store(state, k, flushing::flush_all(m));
 }
 
 // Every channel's memory after its frames, flushed at the end of the call.
 pub(crate) fn advance_channels(
     a: [f64; 5],
-    s: State,
+    state: &mut [f64; 40],
     channels: usize,
     count: usize,
     ints: &[i16],
     floats: &[f32],
     map: &[u8],
-) -> State
+)
     requires { ⌜ channels ≤ mostChannels ⌝ }
     requires { ⌜ channels ≡ length (now map) ⌝ }
     requires { ⌜ count * channels ≤ length (sourceOf (now ints) (now floats)) ⌝ }
-    ensures { λ r. ⌜ r .values ≡ overUsed (λ k m. flushed (after a m (column (sourceOf (now (ints .entry)) (now (floats .entry))) k channels count))) (now (map .entry)) 0 (s .values) ⌝ }
+    ensures { λ _. ⌜ now (state .exit) ≡ overUsed (λ k m. flushed (after a m (column (sourceOf (now (ints .entry)) (now (floats .entry))) k channels count))) (now (map .entry)) 0 (now (state .entry)) ⌝ }
 {
-    let mut w = s;
     let mut k = 0;
     while k < channels {
-        w = advance_channel(a, w, map[k], ints, floats, k, channels, count);
+        advance_channel(a, state, map[k], ints, floats, k, channels, count);
         k += 1;
     }
-    w
 }

@@ -38,8 +38,10 @@ pub fn seed(
     }
     let frames = samples / channels;
     let a = c.a;
+    let mut state = s.values;
+    channels::advance_channels(a, &mut state, channels, frames, ints, floats, map);
     Seeded {
         answer: refusals::Answer::Done,
-        state: channels::advance_channels(a, s, channels, frames, ints, floats, map),
+        state: State { values: state },
     }
 }

@@ -9,8 +9,8 @@ pub struct State {
     pub values: [f64; 40],
 }
 
-// The channels that a state has places for.
-const MOST_CHANNELS: usize = 8;
+// The places of a channel. A state has room for as many channels as its places hold.
+const PLACES: usize = 5;
 
 fn nowhere() -> Memory
     ensures { λ r. ⌜ r ≡ record { s0 = nan; s1 = nan; s2 = nan; s3 = nan; s4 = nan } ⌝ }
@@ -26,35 +26,35 @@ fn nowhere() -> Memory
 }
 
 // Channel k's memory. A channel that the state has no places for has NaN for each value.
-pub fn load(s: State, k: usize) -> Memory
-    ensures { λ r. ⌜ r ≡ memoryOf (s .values) k ⌝ }
+pub fn load(state: &[f64; 40], k: usize) -> Memory
+    ensures { λ r. ⌜ r ≡ memoryOf (now (state .entry)) k ⌝ }
 {
-    if MOST_CHANNELS <= k {
+    let places = &state[..];
+    if places.len() / PLACES <= k {
         return nowhere();
     }
-    let at = k * 5;
+    let at = k * PLACES;
     Memory {
-        s0: s.values[at],
-        s1: s.values[at + 1],
-        s2: s.values[at + 2],
-        s3: s.values[at + 3],
-        s4: s.values[at + 4],
+        s0: state[at],
+        s1: state[at + 1],
+        s2: state[at + 2],
+        s3: state[at + 3],
+        s4: state[at + 4],
     }
 }
 
-// The state with channel k's memory, where it has places for the channel.
-pub fn store(s: State, k: usize, m: Memory) -> State
-    ensures { λ r. ⌜ r .values ≡ withMemory (s .values) k m ⌝ }
+// Channel k's memory put in its places, where the state has places for the channel.
+pub fn store(state: &mut [f64; 40], k: usize, m: Memory)
+    ensures { λ _. ⌜ now (state .exit) ≡ withMemory (now (state .entry)) k m ⌝ }
 {
-    let mut w = s;
-    if MOST_CHANNELS <= k {
-        return w;
+    let places = &state[..];
+    if places.len() / PLACES <= k {
+        return;
     }
-    let at = k * 5;
-    w.values[at] = m.s0;
-    w.values[at + 1] = m.s1;
-    w.values[at + 2] = m.s2;
-    w.values[at + 3] = m.s3;
-    w.values[at + 4] = m.s4;
-    w
+    let at = k * PLACES;
+    state[at] = m.s0;
+    state[at + 1] = m.s1;
+    state[at + 2] = m.s2;
+    state[at + 3] = m.s3;
+    state[at + 4] = m.s4;
 }

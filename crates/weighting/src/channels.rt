@@ -16,7 +16,6 @@ ghost use Rattle.weighting.specs.Parts.{Parts};
 ghost use Rattle.weighting.specs.Weighting.{overParts};
 use recurrence::Coefficients;
 use recurrence::Memory;
-use states::State;
 
 // Sample i of a call, as a float.
 fn sample_at(ints: &[i16], floats: &[f32], i: usize) -> f64
@@ -159,7 +158,7 @@ fn weigh_two(
 // Channel k at its map byte. An unused one keeps state and destination.
 fn weigh_channel(
     c: Coefficients,
-    s: State,
+    state: &mut [f64; 40],
     byte: u8,
     ints: &[i16],
     floats: &[f32],
@@ -168,19 +167,19 @@ fn weigh_channel(
     count: usize,
     dest: &mut [f64],
     to: usize,
-) -> State
+)
     requires { ⌜ k < mostChannels ⌝ }
     requires { ⌜ Reach k channels count (length (sourceOf (now ints) (now floats))) ⌝ }
     requires { ⌜ to + count ≤ length (now dest) ⌝ }
-    ensures { λ r. ⌜ r .values ≡ cond (used byte) (withMemory (s .values) k (flushed (after (c .a) (memoryOf (s .values) k) (column (sourceOf (now (ints .entry)) (now (floats .entry))) k channels count)))) (s .values) ⌝ }
-    ensures { λ r. ⌜ now (dest .exit) ≡ cond (used byte) (sets (now (dest .entry)) to (outs (c .a) (c .b) (memoryOf (s .values) k) (column (sourceOf (now (ints .entry)) (now (floats .entry))) k channels count))) (now (dest .entry)) ⌝ }
+    ensures { λ _. ⌜ now (state .exit) ≡ cond (used byte) (withMemory (now (state .entry)) k (flushed (after (c .a) (memoryOf (now (state .entry)) k) (column (sourceOf (now (ints .entry)) (now (floats .entry))) k channels count)))) (now (state .entry)) ⌝ }
+    ensures { λ _. ⌜ now (dest .exit) ≡ cond (used byte) (sets (now (dest .entry)) to (outs (c .a) (c .b) (memoryOf (now (state .entry)) k) (column (sourceOf (now (ints .entry)) (now (floats .entry))) k channels count))) (now (dest .entry)) ⌝ }
 {
     if byte == 0 {
-        return s;
+        return;
     }
     let m = weigh(
         c,
-        states::load(s, k),
+        states::load(state, k),
         ints,
         floats,
         k,
@@ -189,13 +188,13 @@ fn weigh_channel(
         dest,
         to,
     );
-    states::store(s, k, flushing::flush_all(m))
+    states::store(state, k, flushing::flush_all(m));
 }
 
 // Channels k and k + 1, both used.
 fn weigh_pair(
     c: Coefficients,
-    s: State,
+    state: &mut [f64; 40],
     ints: &[i16],
     floats: &[f32],
     k: usize,
@@ -204,18 +203,18 @@ fn weigh_pair(
     dest: &mut [f64],
     to: usize,
     part: usize,
-) -> State
+)
     requires { ⌜ k + 1 < mostChannels ⌝ }
     requires { ⌜ Reach (k + 1) channels count (length (sourceOf (now ints) (now floats))) ⌝ }
     requires { ⌜ (count ≤ part) × (to + part + count ≤ length (now dest)) ⌝ }
-    ensures { λ r. ⌜ r .values ≡ withMemory (withMemory (s .values) k (flushed (after (c .a) (memoryOf (s .values) k) (column (sourceOf (now (ints .entry)) (now (floats .entry))) k channels count)))) (k + 1) (flushed (after (c .a) (memoryOf (s .values) (k + 1)) (column (sourceOf (now (ints .entry)) (now (floats .entry))) (k + 1) channels count))) ⌝ }
-    ensures { λ r. ⌜ now (dest .exit) ≡ sets (sets (now (dest .entry)) to (outs (c .a) (c .b) (memoryOf (s .values) k) (column (sourceOf (now (ints .entry)) (now (floats .entry))) k channels count))) (to + part) (outs (c .a) (c .b) (memoryOf (s .values) (k + 1)) (column (sourceOf (now (ints .entry)) (now (floats .entry))) (k + 1) channels count)) ⌝ }
+    ensures { λ _. ⌜ now (state .exit) ≡ withMemory (withMemory (now (state .entry)) k (flushed (after (c .a) (memoryOf (now (state .entry)) k) (column (sourceOf (now (ints .entry)) (now (floats .entry))) k channels count)))) (k + 1) (flushed (after (c .a) (memoryOf (now (state .entry)) (k + 1)) (column (sourceOf (now (ints .entry)) (now (floats .entry))) (k + 1) channels count))) ⌝ }
+    ensures { λ _. ⌜ now (dest .exit) ≡ sets (sets (now (dest .entry)) to (outs (c .a) (c .b) (memoryOf (now (state .entry)) k) (column (sourceOf (now (ints .entry)) (now (floats .entry))) k channels count))) (to + part) (outs (c .a) (c .b) (memoryOf (now (state .entry)) (k + 1)) (column (sourceOf (now (ints .entry)) (now (floats .entry))) (k + 1) channels count)) ⌝ }
 {
     let p = weigh_two(
         c,
         Pair {
-            one: states::load(s, k),
-            two: states::load(s, k + 1),
+            one: states::load(state, k),
+            two: states::load(state, k + 1),
         },
         ints,
         floats,
@@ -228,11 +227,8 @@ fn weigh_pair(
     );
     let m = p.one;
     let n = p.two;
-    states::store(
-        states::store(s, k, flushing::flush_all(m)),
-        k + 1,
-        flushing::flush_all(n),
-    )
+    states::store(state, k, flushing::flush_all(m));
+    states::store(state, k + 1, flushing::flush_all(n));
 }
 
 // Whether channel k and the one after it are both used.
@@ -249,16 +245,10 @@ fn both_used(map: &[u8], k: usize) -> bool
     map[k + 1] != 0
 }
 
-// The state when the channels before `next` are weighed.
-pub struct Reached {
-    pub state: State,
-    pub next: usize,
-}
-
-// Channel k, and the one after it where both are used. What is left to weigh gives what it gave before.
+// Channel k, and the one after it where both are used. Answers the channel after them: what is left to weigh gives what it gave before.
 fn weigh_next(
     c: Coefficients,
-    s: State,
+    state: &mut [f64; 40],
     channels: usize,
     count: usize,
     ints: &[i16],
@@ -268,39 +258,21 @@ fn weigh_next(
     part: usize,
     to: usize,
     k: usize,
-) -> Reached
+) -> usize
     requires { ⌜ k < channels ⌝ }
     requires { ⌜ count * channels ≤ length (sourceOf (now ints) (now floats)) ⌝ }
     requires { ⌜ Parts channels (length (now map)) part to count (length (now dest)) ⌝ }
-    ensures { λ r. ⌜ (k < r .next) × (r .next ≤ channels) ⌝ }
-    ensures { λ r. ⌜ overUsed (λ j m. flushed (after (c .a) m (column (sourceOf (now (ints .entry)) (now (floats .entry))) j channels count))) (drop (r .next) (now (map .entry))) (r .next) (r .state .values) ≡ overUsed (λ j m. flushed (after (c .a) m (column (sourceOf (now (ints .entry)) (now (floats .entry))) j channels count))) (drop k (now (map .entry))) k (s .values) ⌝ }
-    ensures { λ r. ⌜ ((v : List Float) → ((j : ℕ) → k ≤ j → memoryOf (s .values) j ≡ memoryOf v j)
-        → overParts (λ j. outs (c .a) (c .b) (memoryOf v j) (column (sourceOf (now (ints .entry)) (now (floats .entry))) j channels count)) part to (drop (r .next) (now (map .entry))) (r .next) (now (dest .exit))
+    ensures { λ r. ⌜ (k < r) × (r ≤ channels) ⌝ }
+    ensures { λ r. ⌜ overUsed (λ j m. flushed (after (c .a) m (column (sourceOf (now (ints .entry)) (now (floats .entry))) j channels count))) (drop r (now (map .entry))) r (now (state .exit)) ≡ overUsed (λ j m. flushed (after (c .a) m (column (sourceOf (now (ints .entry)) (now (floats .entry))) j channels count))) (drop k (now (map .entry))) k (now (state .entry)) ⌝ }
+    ensures { λ r. ⌜ ((v : List Float) → ((j : ℕ) → k ≤ j → memoryOf (now (state .entry)) j ≡ memoryOf v j)
+        → overParts (λ j. outs (c .a) (c .b) (memoryOf v j) (column (sourceOf (now (ints .entry)) (now (floats .entry))) j channels count)) part to (drop r (now (map .entry))) r (now (dest .exit))
         ≡ overParts (λ j. outs (c .a) (c .b) (memoryOf v j) (column (sourceOf (now (ints .entry)) (now (floats .entry))) j channels count)) part to (drop k (now (map .entry))) k (now (dest .entry))) ⌝ }
-    ensures { λ r. ⌜ ((j : ℕ) → r .next ≤ j → memoryOf (r .state .values) j ≡ memoryOf (s .values) j) ⌝ }
+    ensures { λ r. ⌜ ((j : ℕ) → r ≤ j → memoryOf (now (state .exit)) j ≡ memoryOf (now (state .entry)) j) ⌝ }
 {
     if both_used(map, k) {
-        return Reached {
-            state: weigh_pair(
-                c,
-                s,
-                ints,
-                floats,
-                k,
-                channels,
-                count,
-                dest,
-                k * part + to,
-                part,
-            ),
-            next: k + 2,
-        };
-    }
-    Reached {
-        state: weigh_channel(
+        weigh_pair(
             c,
-            s,
-            map[k],
+            state,
             ints,
             floats,
             k,
@@ -308,15 +280,29 @@ fn weigh_next(
             count,
             dest,
             k * part + to,
-        ),
-        next: k + 1,
+            part,
+        );
+        return k + 2;
     }
+    weigh_channel(
+        c,
+        state,
+        map[k],
+        ints,
+        floats,
+        k,
+        channels,
+        count,
+        dest,
+        k * part + to,
+    );
+    k + 1
 }
 
 // Every channel's frames, the outputs from place `to` of each part on. Each memory is flushed at the end of the call.
 pub(crate) fn weigh_channels(
     c: Coefficients,
-    s: State,
+    state: &mut [f64; 40],
     channels: usize,
     count: usize,
     ints: &[i16],
@@ -325,24 +311,42 @@ pub(crate) fn weigh_channels(
     dest: &mut [f64],
     part: usize,
     to: usize,
-) -> State
+)
     requires { ⌜ count * channels ≤ length (sourceOf (now ints) (now floats)) ⌝ }
     requires { ⌜ Parts channels (length (now map)) part to count (length (now dest)) ⌝ }
-    ensures { λ r. ⌜ r .values ≡ overUsed (λ k m. flushed (after (c .a) m (column (sourceOf (now (ints .entry)) (now (floats .entry))) k channels count))) (now (map .entry)) 0 (s .values) ⌝ }
-    ensures { λ r. ⌜ now (dest .exit) ≡ overParts (λ k. outs (c .a) (c .b) (memoryOf (s .values) k) (column (sourceOf (now (ints .entry)) (now (floats .entry))) k channels count)) part to (now (map .entry)) 0 (now (dest .entry)) ⌝ }
+    ensures { λ _. ⌜ now (state .exit) ≡ overUsed (λ k m. flushed (after (c .a) m (column (sourceOf (now (ints .entry)) (now (floats .entry))) k channels count))) (now (map .entry)) 0 (now (state .entry)) ⌝ }
+    ensures { λ _. ⌜ now (dest .exit) ≡ overParts (λ k. outs (c .a) (c .b) (memoryOf (now (state .entry)) k) (column (sourceOf (now (ints .entry)) (now (floats .entry))) k channels count)) part to (now (map .entry)) 0 (now (dest .entry)) ⌝ }
 {
-    let mut w = s;
     let mut k = 0;
     while k < channels {
-        let n = weigh_next(c, w, channels, count, ints, floats, map, dest, part, to, k);
-        w = n.state;
-        k = n.next;
+        k = weigh_next(
+            c,
+            state,
+            channels,
+            count,
+            ints,
+            floats,
+            map,
+            dest,
+            part,
+            to,
+            k,
+        );
         // A second call keeps weigh_next a function of its own, whose sums the compiler does two channels at a time.
         if k < channels {
-            let m = weigh_next(c, w, channels, count, ints, floats, map, dest, part, to, k);
-            w = m.state;
-            k = m.next;
+            k = weigh_next(
+                c,
+                state,
+                channels,
+                count,
+                ints,
+                floats,
+                map,
+                dest,
+                part,
+                to,
+                k,
+            );
         }
     }
-    w
 }

@@ -6,18 +6,57 @@ ghost use Rattle.sources.specs.Source.{sourceOf};
 ghost use Rattle.states.specs.Channels.{callOf};
 ghost use Rattle.weighting.specs.Weighting.{weighed, kept};
 use recurrence::Coefficients;
+use refusals::Answer;
 use states::State;
 
 mod channels;
 
+// One call over interleaved samples, of one kind: integers, or floats where there are no integers, on a state that is lent. Each used
+// channel's outputs go to its own equal part of `dest`, from index `start` of the part on. A map byte of 0 is an unused channel, 1 a used one.
+pub fn process_lent(
+    c: Coefficients,
+    state: &mut [f64; 40],
+    channels: usize,
+    ints: &[i16],
+    floats: &[f32],
+    map: &[u8],
+    dest: &mut [f64],
+    start: usize,
+) -> Answer
+    ensures { λ r. ⌜ (let call = callOf c (record { values = now (state .entry) }) channels (sourceOf (now (ints .entry)) (now (floats .entry))) (now (map .entry)) in
+        (said r ≡ saidBy (weighed call (now (dest .entry)) start))
+        × (now (state .exit) ≡ kept call (now (dest .entry)) start .state .values)
+        × (now (dest .exit) ≡ kept call (now (dest .entry)) start .dest)) ⌝ }
+{
+    let samples = sources::size_of(ints, floats);
+    let number = calls::refused_process(true, channels, samples, map, dest.len(), start);
+    if number != 0 {
+        return Answer::Refused(number);
+    }
+    let frames = samples / channels;
+    let part = dest.len() / channels;
+    channels::weigh_channels(
+        c,
+        state,
+        channels,
+        frames,
+        ints,
+        floats,
+        map,
+        dest,
+        part,
+        start,
+    );
+    Answer::Done
+}
+
 // What a call answers, beside the state. A refused call leaves it as given.
 pub struct Weighted {
-    pub answer: refusals::Answer,
+    pub answer: Answer,
     pub state: State,
 }
 
-// One call over interleaved samples, of one kind: integers, or floats where there are no integers. Each used channel's outputs go to
-// its own equal part of `dest`, from index `start` of the part on. A map byte of 0 is an unused channel, 1 a used one.
+// `process_lent` on a copy of the state.
 pub fn process(
     c: Coefficients,
     s: State,
@@ -32,29 +71,10 @@ pub fn process(
     ensures { λ r. ⌜ r .state ≡ kept (callOf c s channels (sourceOf (now (ints .entry)) (now (floats .entry))) (now (map .entry))) (now (dest .entry)) start .state ⌝ }
     ensures { λ r. ⌜ now (dest .exit) ≡ kept (callOf c s channels (sourceOf (now (ints .entry)) (now (floats .entry))) (now (map .entry))) (now (dest .entry)) start .dest ⌝ }
 {
-    let samples = sources::size_of(ints, floats);
-    let number = calls::refused_process(true, channels, samples, map, dest.len(), start);
-    if number != 0 {
-        return Weighted {
-            answer: refusals::Answer::Refused(number),
-            state: s,
-        };
-    }
-    let frames = samples / channels;
-    let part = dest.len() / channels;
+    let mut state = s.values;
+    let answer = process_lent(c, &mut state, channels, ints, floats, map, dest, start);
     Weighted {
-        answer: refusals::Answer::Done,
-        state: channels::weigh_channels(
-            c,
-            s,
-            channels,
-            frames,
-            ints,
-            floats,
-            map,
-            dest,
-            part,
-            start,
-        ),
+        answer: answer,
+        state: State { values: state },
     }
 }

@@ -66,7 +66,7 @@ div-frames c = fine c .some
 
 advance-channels-requires : tie.Need-advance-channels-requires
 advance-channels-requires c κs =
-    let e = c .before in
+    let e = c .before .before .before in
     let r = e .before in
     let n = r .before .size-of in
     let s = r .before .before .before .before in
@@ -81,7 +81,7 @@ advance-channels-requires c κs =
 returns-2 : tie.Need-returns-2
 unfolding moved
 returns-2 c =
-    let e = c .before .before in
+    let e = c .before .before .before .before in
     let r = e .before in
     let n = r .before .size-of in
     let s = r .before .before .before .before in

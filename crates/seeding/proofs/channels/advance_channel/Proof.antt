@@ -27,13 +27,14 @@ store-requires c κs = search needs
 
 returns-2 : tie.Need-returns-2
 returns-2 c =
-    let q = c .before .before .before .before in
+    let v = c .before .before .before in
+    let q = v .before .before .before in
     let a = q .before .before .args in
     rw (ne-eqb (a .byte) 0 (q .if1 .left))
     (c .store .ensures
-    ∙ ap (withMemory (a .s .values) (a .k))
+    ∙ ap (withMemory (a .state .now) (a .k))
     (c .before .flush-all .ensures
-    ∙ ap flushed (c .before .before .advance .ensures ∙ ap (λ (m : Memory). after (a .a) m (column (sourceOf (a .ints .now) (a .floats .now)) (a .k) (a .channels) (a .count))) (c .before .before .before .load .ensures))))
+    ∙ ap flushed (v .advance .ensures ∙ ap (λ (m : Memory). after (a .a) m (column (sourceOf (a .ints .now) (a .floats .now)) (a .k) (a .channels) (a .count))) (v .before .load .ensures))))
 
 pub advance-channel-spec : {M : Type 1} → statement M
 advance-channel-spec =

@@ -1,11 +1,9 @@
 -- `seeding::advance_channels` meets its contract: the channels left, from the state as it is, give what all of them give. Assumes nothing.
 use borrow.Author.Needs.{needs}
-use Prim.Native.Nat.{ℕ, _-_, _≤_}
+use Prim.Native.Nat.{_-_, _≤_}
 use native.Mathlib.Omega.{arith}
-use mathlib.Core.Path.{_≡_, refl, sym, _∙_}
-use mathlib.Core.List.{List}
-use lib.ListN.{length, drop}
-use lib.Ieee.{Float}
+use mathlib.Core.Path.{_≡_, sym, _∙_}
+use lib.ListN.{drop}
 use Rattle.sources.specs.Source.{sourceOf}
 use Rattle.states.specs.Channels.{overUsed}
 use Rattle.recurrence.proofs.Moving.{ends}
@@ -15,21 +13,21 @@ use Rattle.seeding.proofs.channels.advance_channels.Statement.{statemen
 use Rattle.seeding.proofs.channels.advance_channels.Tie as tie
 
 abbrev Inv-loop : tie.InvT-loop
-Inv-loop a channels count ints floats map w₀ k₀ w k =
-    (k ≤ channels) × (overUsed (ends a (sourceOf ints floats) channels count) (drop k map) k (w .values) ≡ overUsed (ends a (sourceOf ints floats) channels count) map 0 (w₀ .values))
+Inv-loop a state₀ channels count ints floats map k₀ state k =
+    (k ≤ channels) × (overUsed (ends a (sourceOf ints floats) channels count) (drop k map) k state ≡ overUsed (ends a (sourceOf ints floats) channels count) map 0 state₀)
 
 abbrev μ-loop : tie.MeasureT-loop
-μ-loop a channels count ints floats map w₀ k₀ w k = channels - k
+μ-loop a state₀ channels count ints floats map k₀ state k = channels - k
 
 loop-holds : tie.Need-loop-holds Inv-loop μ-loop
 loop-holds c = search needs
 
 shared-slice-read-advance-channel : tie.Need-shared-slice-read-advance-channel Inv-loop μ-loop
-shared-slice-read-advance-channel c = let q = c .before in omega (arith, q .loop-test .taken, q .before .before .before .before .pre)
+shared-slice-read-advance-channel c = let q = c .before .before in omega (arith, q .loop-test .taken, q .before .before .before .before .pre)
 
 advance-channel-requires : tie.Need-advance-channel-requires Inv-loop μ-loop
 advance-channel-requires c κs =
-    let q = c .before in
+    let q = c .before .before in
     let p = q .before .before .before .before .pre in
     let h = q .loop-test .taken in
     (omega (arith, h, p), reach-start _ _ _ _ h (p .0) (p .1 .1))
@@ -42,12 +40,12 @@ loop-less c = search needs
 
 loop-again : tie.Need-loop-again Inv-loop μ-loop
 loop-again c =
-    let q = c .before .before in
+    let q = c .before .before .before in
     let l = q .before .loop in
     let s = q .before .before .before .before in
     let a = s .args in (
       search needs,
-      over-again (ends (a .a) (sourceOf (a .ints .now) (a .floats .now)) (a .channels) (a .count)) (a .map .now) (l .k) (l .w .values) _ (omega (arith, q .loop-test .taken, s .pre)) (c .advance-channel .ensures)
+      over-again (ends (a .a) (sourceOf (a .ints .now) (a .floats .now)) (a .channels) (a .count)) (a .map .now) (l .k) (l .state) _ (omega (arith, q .loop-test .taken, s .pre)) (c .advance-channel .ensures)
           ∙ l .inv .1,
     )
 
@@ -56,7 +54,7 @@ returns c =
     let l = c .before .loop in
     let s = c .before .before .before .before in
     let a = s .args in
-    sym (over-end (ends (a .a) (sourceOf (a .ints .now) (a .floats .now)) (a .channels) (a .count)) (a .map .now) (l .k) (l .w .values) (omega (arith, c .loop-test .left, s .pre))) ∙ l .inv .1
+    sym (over-end (ends (a .a) (sourceOf (a .ints .now) (a .floats .now)) (a .channels) (a .count)) (a .map .now) (l .k) (l .state) (omega (arith, c .loop-test .left, s .pre))) ∙ l .inv .1
 
 pub advance-channels-spec : {M : Type 1} → statement M
 advance-channels-spec = tie.close (tie.spec Inv-loop μ-loop loop-holds shared-slice-read-advance-channel advance-channel-requires add-k loop-less loop-again returns)

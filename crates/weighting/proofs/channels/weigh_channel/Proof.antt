@@ -31,14 +31,14 @@ same-length c = search needs
 
 returns-2 : tie.Need-returns-2
 returns-2 c =
-    let w = c .before .before .before .before in
+    let w = c .before .before .before .before .before in
     let l = w .before .before in
-    let q = l .before in
+    let q = l .before .before in
     let a = q .before .before .before .args in
     let e = l .load .ensures in
     let frames = column (sourceOf (a .ints .now) (a .floats .now)) (a .k) (a .channels) (a .count) in
     rw (ne-eqb (a .byte) 0 (q .if1 .left)) (
-      c .store .ensures ∙ ap (withMemory (a .s .values) (a .k)) (c .before .flush-all .ensures ∙ ap flushed (w .weigh .ensures .0 ∙ ap (λ (m : Memory). after (a .c .a) m frames) e)),
+      c .store .ensures ∙ ap (withMemory (a .state .now) (a .k)) (c .before .flush-all .ensures ∙ ap flushed (w .weigh .ensures .0 ∙ ap (λ (m : Memory). after (a .c .a) m frames) e)),
       w .weigh .ensures .1 ∙ ap (λ (m : Memory). sets (a .dest .now) (a .to) (outs (a .c .a) (a .c .b) m frames)) e,
     )
 

@@ -36,25 +36,25 @@ module _ (a b src : List Float) (channels count part to : ℕ) (map : List ℕ) 
       (on .1, (size ∙ i .1 .0, (e ∙ i .1 .1 .0, (g v₀ (i .1 .1 .1 .1) ∙ i .1 .1 .1 .0, λ j h. m j h ∙ i .1 .1 .1 .1 j (omega (arith, on .0))))))
 
 abbrev Inv-loop : tie.InvT-loop
-Inv-loop c channels count ints floats map dest₀ part to w₀ k₀ dest w k = Left (c .a) (c .b) (sourceOf ints floats) channels count part to map (w₀ .values) dest₀ (w .values) k dest
+Inv-loop c state₀ channels count ints floats map dest₀ part to k₀ state dest k = Left (c .a) (c .b) (sourceOf ints floats) channels count part to map state₀ dest₀ state k dest
 
 abbrev μ-loop : tie.MeasureT-loop
-μ-loop c channels count ints floats map dest₀ part to w₀ k₀ dest w k = channels - k
+μ-loop c state₀ channels count ints floats map dest₀ part to k₀ state dest k = channels - k
 
 loop-holds : tie.Need-loop-holds Inv-loop μ-loop
 loop-holds c = (omega arith, (refl, (refl, (refl, λ j h. refl))))
 
 weigh-next-requires : tie.Need-weigh-next-requires Inv-loop μ-loop
 weigh-next-requires c κs =
-    let q = c .before in
+    let q = c .before .before in
     let s = q .before .before .before .before .before in
     (q .loop-test .taken, (s .pre .0, record { few = s .pre .1 .few; bytes = s .pre .1 .bytes; parts = s .pre .1 .parts ∙ sym (q .before .loop .inv .1 .0); fits = s .pre .1 .fits }))
 
 weigh-next-requires-2 : tie.Need-weigh-next-requires-2 Inv-loop μ-loop
 weigh-next-requires-2 c κs =
-    let q = c .before in
-    let w = q .before .before .before .before in
-    let l = w .before .before .before in
+    let q = c .before .before in
+    let w = q .before .before .before in
+    let l = w .before .before .before .before in
     let s = l .before .before .before .before in
     let p = s .pre .1 in (
       q .if1 .taken,
@@ -66,34 +66,34 @@ weigh-next-requires-2 c κs =
 
 loop-less : tie.Need-loop-less Inv-loop μ-loop
 loop-less c =
-    let t = c .before .before .before in
+    let t = c .before .before in
     omega (arith, t .weigh-next2 .ensures .0, t .before .before .before .before .before .before .weigh-next .ensures .0)
 
 loop-again : tie.Need-loop-again Inv-loop μ-loop
 loop-again c =
-    let t = c .before .before .before in
+    let t = c .before .before in
     let w = t .before .before .before .before .before .before in
-    let l = w .before .before .before in
+    let l = w .before .before .before .before in
     let s = l .before .before .before .before in
     let a = s .args in
     let e = t .weigh-next2 .ensures in
     let f = w .weigh-next .ensures in
-    let more = fewer (a .c .a) (a .c .b) (sourceOf (a .ints .now) (a .floats .now)) (a .channels) (a .count) (a .part) (a .to) (a .map .now) (a .s .values) (a .dest .now) in
-    more (w .weigh-next .result .state .values) (t .weigh-next2 .result .state .values) (w .weigh-next .result .next) (t .weigh-next2 .result .next) _ _ (e .0) (t .weigh-next2 .kept .1 .1 .1 .1 .1 .1 .1 .0) (e .1 .0) (e .1 .1 .0) (e .1 .1 .1)
-    (more (l .loop .w .values) (w .weigh-next .result .state .values) (l .loop .k) (w .weigh-next .result .next) (l .loop .dest) _ (f .0) (w .weigh-next .kept .1 .1 .1 .1 .1 .1 .1 .0) (f .1 .0) (f .1 .1 .0) (f .1 .1 .1) (l .loop .inv))
+    let more = fewer (a .c .a) (a .c .b) (sourceOf (a .ints .now) (a .floats .now)) (a .channels) (a .count) (a .part) (a .to) (a .map .now) (a .state .now) (a .dest .now) in
+    more _ _ (w .weigh-next .result) (t .weigh-next2 .result) _ _ (e .0) (t .weigh-next2 .kept .1 .1 .1 .1 .1 .1 .1 .0) (e .1 .0) (e .1 .1 .0) (e .1 .1 .1)
+    (more (l .loop .state) _ (l .loop .k) (w .weigh-next .result) (l .loop .dest) _ (f .0) (w .weigh-next .kept .1 .1 .1 .1 .1 .1 .1 .0) (f .1 .0) (f .1 .1 .0) (f .1 .1 .1) (l .loop .inv))
 
 loop-less-2 : tie.Need-loop-less-2 Inv-loop μ-loop
-loop-less-2 c = let w = c .before .before .before .before in omega (arith, w .weigh-next .ensures .0)
+loop-less-2 c = let w = c .before .before .before in omega (arith, w .weigh-next .ensures .0)
 
 loop-again-2 : tie.Need-loop-again-2 Inv-loop μ-loop
 loop-again-2 c =
-    let w = c .before .before .before .before in
-    let l = w .before .before .before in
+    let w = c .before .before .before in
+    let l = w .before .before .before .before in
     let s = l .before .before .before .before in
     let a = s .args in
     let f = w .weigh-next .ensures in
-    fewer (a .c .a) (a .c .b) (sourceOf (a .ints .now) (a .floats .now)) (a .channels) (a .count) (a .part) (a .to) (a .map .now) (a .s .values) (a .dest .now)
-    (l .loop .w .values) (w .weigh-next .result .state .values) (l .loop .k) (w .weigh-next .result .next) (l .loop .dest) _ (f .0) (w .weigh-next .kept .1 .1 .1 .1 .1 .1 .1 .0) (f .1 .0) (f .1 .1 .0) (f .1 .1 .1) (l .loop .inv)
+    fewer (a .c .a) (a .c .b) (sourceOf (a .ints .now) (a .floats .now)) (a .channels) (a .count) (a .part) (a .to) (a .map .now) (a .state .now) (a .dest .now)
+    (l .loop .state) _ (l .loop .k) (w .weigh-next .result) (l .loop .dest) _ (f .0) (w .weigh-next .kept .1 .1 .1 .1 .1 .1 .1 .0) (f .1 .0) (f .1 .1 .0) (f .1 .1 .1) (l .loop .inv)
 
 same-length : tie.Need-same-length Inv-loop μ-loop
 same-length c = c .before .loop .inv .1 .0
@@ -105,8 +105,8 @@ returns c =
     let a = s .args in
     let i = l .inv .1 .1 in
     let h : length (a .map .now) ≤ l .k = omega (arith, c .loop-test .left, s .pre .1 .bytes) in (
-      sym (over-end (ends (a .c .a) (sourceOf (a .ints .now) (a .floats .now)) (a .channels) (a .count)) (a .map .now) (l .k) (l .w .values) h) ∙ i .0,
-      sym (parts-end (writes (a .c .a) (a .c .b) (a .s .values) (sourceOf (a .ints .now) (a .floats .now)) (a .channels) (a .count)) (a .part) (a .to) (a .map .now) (l .k) (l .dest) h) ∙ i .1 .0,
+      sym (over-end (ends (a .c .a) (sourceOf (a .ints .now) (a .floats .now)) (a .channels) (a .count)) (a .map .now) (l .k) (l .state) h) ∙ i .0,
+      sym (parts-end (writes (a .c .a) (a .c .b) (a .state .now) (sourceOf (a .ints .now) (a .floats .now)) (a .channels) (a .count)) (a .part) (a .to) (a .map .now) (l .k) (l .dest) h) ∙ i .1 .0,
     )
 
 pub weigh-channels-spec : {M : Type 1} → statement M

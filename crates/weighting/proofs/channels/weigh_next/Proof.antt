@@ -36,16 +36,17 @@ both-used-requires : tie.Need-both-used-requires
 both-used-requires c κs = search needs
 
 mul-weigh-pair : tie.Need-mul-weigh-pair
-mul-weigh-pair c = let s = c .before .before .before .before .before .before in omega (arith, inside s (s .args .k) (s .pre .0), s .good)
+mul-weigh-pair c = let s = c .before .before .before .before .before .before .before in omega (arith, inside s (s .args .k) (s .pre .0), s .good)
 
 add-weigh-pair : tie.Need-add-weigh-pair
-add-weigh-pair c = let s = c .before .before .before .before .before .before in omega (arith, inside s (s .args .k) (s .pre .0), s .good)
+add-weigh-pair c = let s = c .before .before .before .before .before .before .before in omega (arith, inside s (s .args .k) (s .pre .0), s .good)
 
 weigh-pair-requires : tie.Need-weigh-pair-requires
 weigh-pair-requires c κs =
-    let s = c .before .before .before .before .before .before in
+    let q = c .before .before in
+    let s = q .before .before .before .before .before in
     let p = s .pre .1 in
-    let h : s .args .k + 1 < s .args .channels = omega (arith, pairs (c .before) .0, p .1 .bytes) in (
+    let h : s .args .k + 1 < s .args .channels = omega (arith, pairs q .0, p .1 .bytes) in (
       omega (arith, h, p .1 .few),
       (
         reach-start _ _ _ _ h (p .1 .few) (p .0),
@@ -53,8 +54,8 @@ weigh-pair-requires c κs =
       ),
     )
 
-add-t18 : tie.Need-add-t18
-add-t18 c = search needs
+add-result : tie.Need-add-result
+add-result c = search needs
 
 same-length : tie.Need-same-length
 same-length c = search needs
@@ -62,7 +63,7 @@ same-length c = search needs
 returns : tie.Need-returns
 returns c =
     let w = c .before .before in
-    let q = w .before .before in
+    let q = w .before .before .before in
     let s = q .before .before .before .before .before in
     let a = s .args in
     let u = pairs q in
@@ -70,7 +71,7 @@ returns c =
     let f = ends (a .c .a) src (a .channels) (a .count) in (
       (omega arith, omega (arith, u .0, s .pre .1 .1 .bytes)),
       (
-        over-two (a .map .now) (a .k) (u .0) (u .1 .0) (u .1 .1) f (a .s .values) _ (w .weigh-pair .ensures .0),
+        over-two (a .map .now) (a .k) (u .0) (u .1 .0) (u .1 .1) f (a .state .now) _ (w .weigh-pair .ensures .0),
         (
           λ v same.
               parts-two (a .map .now) (a .k) (u .0) (u .1 .0) (u .1 .1) (writes (a .c .a) (a .c .b) v src (a .channels) (a .count)) (a .part) (a .to) (a .dest .now) _
@@ -79,7 +80,7 @@ returns c =
               (a .k * a .part + a .to + a .part) (outs (a .c .a) (a .c .b) (same (a .k + 1) (omega arith) i) (column src (a .k + 1) (a .channels) (a .count))))),
           λ j h.
               ap (λ (v : List Float). memoryOf v j) (w .weigh-pair .ensures .0)
-              ∙ above-two (a .k) j (a .s .values) (f (a .k) (memoryOf (a .s .values) (a .k))) (f (a .k + 1) (memoryOf (a .s .values) (a .k + 1))) h,
+              ∙ above-two (a .k) j (a .state .now) (f (a .k) (memoryOf (a .state .now) (a .k))) (f (a .k + 1) (memoryOf (a .state .now) (a .k + 1))) h,
         ),
       ),
     )
@@ -88,19 +89,19 @@ shared-slice-read-weigh-channel : tie.Need-shared-slice-read-weigh-channel
 shared-slice-read-weigh-channel c = search needs
 
 mul-weigh-channel : tie.Need-mul-weigh-channel
-mul-weigh-channel c = let s = c .before .before .before .before .before .before .before in omega (arith, inside s (s .args .k) (s .pre .0), s .good)
+mul-weigh-channel c = let s = c .before .before .before .before .before .before .before .before in omega (arith, inside s (s .args .k) (s .pre .0), s .good)
 
 add-weigh-channel : tie.Need-add-weigh-channel
-add-weigh-channel c = let s = c .before .before .before .before .before .before .before in omega (arith, inside s (s .args .k) (s .pre .0), s .good)
+add-weigh-channel c = let s = c .before .before .before .before .before .before .before .before in omega (arith, inside s (s .args .k) (s .pre .0), s .good)
 
 weigh-channel-requires : tie.Need-weigh-channel-requires
 weigh-channel-requires c κs =
-    let s = c .before .before .before .before .before .before .before in
+    let s = c .before .before .before .before .before .before .before .before in
     let p = s .pre in
     (omega (arith, p .0, p .1 .1 .few), (reach-start _ _ _ _ (p .0) (p .1 .1 .few) (p .1 .0), inside s (s .args .k) (p .0)))
 
-add-t26 : tie.Need-add-t26
-add-t26 c = search needs
+add-result-2 : tie.Need-add-result-2
+add-result-2 c = search needs
 
 same-length-2 : tie.Need-same-length-2
 same-length-2 c = search needs
@@ -108,7 +109,7 @@ same-length-2 c = search needs
 returns-2 : tie.Need-returns-2
 returns-2 c =
     let w = c .before .before in
-    let s = w .before .before .before .before .before .before .before .before in
+    let s = w .before .before .before .before .before .before .before .before .before in
     let a = s .args in
     let h : a .k < length (a .map .now) = omega (arith, s .pre .0, s .pre .1 .1 .bytes) in
     let byte = getD (a .map .now) (a .k) 0 in
@@ -117,7 +118,7 @@ returns-2 c =
     let f = ends (a .c .a) src (a .channels) (a .count) in (
       (omega arith, omega (arith, s .pre .0)),
       (
-        over-again f (a .map .now) (a .k) (a .s .values) _ h (w .weigh-channel .ensures .0),
+        over-again f (a .map .now) (a .k) (a .state .now) _ h (w .weigh-channel .ensures .0),
         (
           λ v same.
               parts-again (writes (a .c .a) (a .c .b) v src (a .channels) (a .count)) (a .part) (a .to) (a .map .now) (a .k) (a .dest .now) _ h
@@ -125,7 +126,7 @@ returns-2 c =
               ∙ ap (λ (m : Memory). cond (used byte) (sets (a .dest .now) (a .k * a .part + a .to) (outs (a .c .a) (a .c .b) m frames)) (a .dest .now)) (same (a .k) (omega arith))),
           λ j g.
               ap (λ (v : List Float). memoryOf v j) (w .weigh-channel .ensures .0)
-              ∙ changed-above f (used byte) (a .k) j (a .s .values) (omega arith),
+              ∙ changed-above f (used byte) (a .k) j (a .state .now) (omega arith),
         ),
       ),
     )
@@ -138,13 +139,13 @@ weigh-next-spec =
     mul-weigh-pair
     add-weigh-pair
     weigh-pair-requires
-    add-t18
+    add-result
     same-length
     returns
     shared-slice-read-weigh-channel
     mul-weigh-channel
     add-weigh-channel
     weigh-channel-requires
-    add-t26
+    add-result-2
     same-length-2
     returns-2)
