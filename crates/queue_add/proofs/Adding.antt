@@ -1,8 +1,10 @@
 -- What `enqueued` comes to, case by case. It picks its case by tests, and each law settles those tests. Assumes nothing.
-use mathlib.Core.Path.{_≡_}
+use mathlib.Core.Path.{_≡_, sym, ap, _∙_}
 use mathlib.Core.Bool.{true, false}
 use mathlib.Core.List.{List}
-use Prim.Native.Nat.{_+_, _%_, _≤_, _<_}
+use Prim.Native.Nat.{ℕ, _+_, _-_, _%_, _≤_, _<_}
+use native.Mathlib.Nat.{mod-eq-of-lt, mod-eq-sub-mod}
+use native.Mathlib.Omega.{arith}
 use borrow.Author.Tests.{lt-ltb, le-ltb}
 use lib.ListN.{length, set}
 use lib.Ieee.{Float}
@@ -34,3 +36,10 @@ advance-more queue h = rw (lt-ltb (queue .held) (queue .maximum) h)
 pub advance-full : (queue : Queue) → queue .maximum ≤ queue .held
     → advanced queue ≡ record { maximum = queue .maximum; head = (queue .head + 1) % queue .maximum; held = queue .held }
 advance-full queue h = rw (le-ltb (queue .held) (queue .maximum) h)
+
+-- the next place of a full queue is that of its oldest
+pub full-place : (queue : Queue) → queue .head < queue .maximum → queue .held ≡ queue .maximum → queue .head ≡ nextPlace queue
+full-place queue h f =
+    let on : queue .maximum ≤ queue .head + queue .held = omega (arith, f) in
+    let back : queue .head + queue .held - queue .maximum ≡ queue .head = omega (arith, f) in
+    sym (mod-eq-sub-mod on ∙ ap (λ (n : ℕ). n % queue .maximum) back ∙ mod-eq-of-lt h)

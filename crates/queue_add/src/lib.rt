@@ -26,7 +26,15 @@ fn on_ring(place: usize, maximum: usize) -> usize
     }
 }
 
-// The energy is the newest in the queue, and a full queue drops its oldest. Below boundary 0 the energy is dropped.
+// The place after the head: compared before it is counted up, so that neither waits for the other.
+fn after(head: usize, maximum: usize) -> usize
+    requires { ⌜ head < maximum ⌝ }
+    ensures { λ r. ⌜ r ≡ (head + 1) % maximum ⌝ }
+{
+    if head < maximum - 1 { head + 1 } else { 0 }
+}
+
+// The energy is the newest in the queue, and takes the place of a full queue's oldest. Below boundary 0 the energy is dropped.
 pub fn add(queue: Queue, store: &mut [f64], energy: f64) -> Queued
     ensures { λ r. ⌜ (said (r .answer) ≡ saidBy (enqueued (over queue (now (store .entry))) energy))
         × (over (r .queue) (now (store .exit)) ≡ keptBy (over queue (now (store .entry))) (enqueued (over queue (now (store .entry))) energy)) ⌝ }
@@ -41,9 +49,9 @@ pub fn add(queue: Queue, store: &mut [f64], energy: f64) -> Queued
         let maximum = queue.maximum;
         let head = queue.head;
         let held = queue.held;
-        let place = on_ring(head + held, maximum);
-        store[place] = energy;
         if held < maximum {
+            let place = on_ring(head + held, maximum);
+            store[place] = energy;
             return Queued {
                 answer: Answer::Done,
                 queue: Queue {
@@ -53,11 +61,12 @@ pub fn add(queue: Queue, store: &mut [f64], energy: f64) -> Queued
                 },
             };
         }
+        store[head] = energy;
         Queued {
             answer: Answer::Done,
             queue: Queue {
                 maximum,
-                head: on_ring(head + 1, maximum),
+                head: after(head, maximum),
                 held,
             },
         }

@@ -3,9 +3,11 @@ use layout::Kind;
 use queue::Queue;
 use refusals::Answer;
 ghost use mathlib.Core.Path.{_≡_};
+ghost use mathlib.Core.Bool.{true};
 ghost use Prim.Native.Nat.{_+_, _-_, _*_, _≤_};
 ghost use lib.ListN.{length, drop};
 ghost use lib.Seq.{sets};
+ghost use lib.Ieee.{binary64, ofBits};
 ghost use Rattle.refusals.specs.Outcome.{saidBy, keptBy};
 ghost use Rattle.fields.specs.Field.{fieldAt};
 ghost use Rattle.layout.specs.Layout.{lowFirst, numbersIn, lengthIn};
@@ -14,7 +16,9 @@ ghost use Rattle.queue_reader.specs.QueueRecord.{
   leastLength,
   numbersFit,
   patternFits,
+  finiteFits,
   allFit,
+  allFinite,
   energiesOf,
   bodyRead,
   readQueue,
@@ -38,6 +42,9 @@ const LONGEST: usize = 36000;
 // The one pattern of NaN.
 const NAN_PATTERN: u64 = 0x7FF8_0000_0000_0000;
 
+// The pattern of infinity. Below it are the patterns of the finite floats that are not negative, and no NaN's.
+const INFINITY_PATTERN: u64 = 0x7FF0_0000_0000_0000;
+
 // What a reader answers.
 pub enum Received {
     Held(Queue),
@@ -56,11 +63,32 @@ fn numbers_fit(maximum: usize, held: usize) -> bool
     held <= maximum
 }
 
+// Whether a pattern is that of a finite energy from boundary 0 on, as almost every one is.
+fn finite_fits(pattern: u64) -> bool
+    ensures { λ r. ⌜ r ≡ finiteFits pattern ⌝ }
+{
+    if pattern < INFINITY_PATTERN {
+        return f64::from_bits(pattern) >= histogram_bins::lowest_boundary();
+    }
+    false
+}
+
 // Whether a pattern may stand in a record: that of an energy from boundary 0 on, or NaN's.
 fn pattern_fits(pattern: u64) -> bool
     ensures { λ r. ⌜ r ≡ patternFits pattern ⌝ }
 {
-    (floats::float_of(pattern) >= histogram_bins::lowest_boundary()) | (pattern == NAN_PATTERN)
+    finite_fits(pattern) | (pattern == INFINITY_PATTERN) | (pattern == NAN_PATTERN)
+}
+
+// The energy of a pattern that fits: every pattern but NaN's own is read as it is.
+fn energy_of(pattern: u64) -> f64
+    requires { ⌜ patternFits pattern ≡ true ⌝ }
+    ensures { λ r. ⌜ r ≡ ofBits binary64 pattern ⌝ }
+{
+    if pattern == NAN_PATTERN {
+        return 0.0 / 0.0;
+    }
+    f64::from_bits(pattern)
 }
 
 fn pattern_at(bytes: &[u8], at: usize) -> u64
@@ -85,13 +113,39 @@ fn all_fit(bytes: &[u8], at: usize, count: usize) -> bool
     fit
 }
 
+fn all_finite(bytes: &[u8], at: usize, count: usize) -> bool
+    requires { ⌜ at + energyWidth * count ≤ length (now bytes) ⌝ }
+    ensures { λ r. ⌜ r ≡ allFinite (numbersIn lowFirst energyWidth count (drop at (now (bytes .entry)))) ⌝ }
+{
+    let mut finite = true;
+    let mut i = 0;
+    while i < count {
+        finite = finite & finite_fits(pattern_at(bytes, at + ENERGY * i));
+        i += 1;
+    }
+    finite
+}
+
+// Infinity and NaN are rare, and the test that lets them in takes longer.
+fn energies_fit(bytes: &[u8], at: usize, count: usize) -> bool
+    requires { ⌜ at + energyWidth * count ≤ length (now bytes) ⌝ }
+    ensures { λ r. ⌜ r ≡ allFit (numbersIn lowFirst energyWidth count (drop at (now (bytes .entry)))) ⌝ }
+{
+    if all_finite(bytes, at, count) {
+        return true;
+    }
+    all_fit(bytes, at, count)
+}
+
 fn read_energies(bytes: &[u8], at: usize, count: usize, store: &mut [f64])
-    requires { ⌜ (at + energyWidth * count ≤ length (now bytes)) × (count ≤ length (now store)) ⌝ }
+    requires { ⌜ (at + energyWidth * count ≤ length (now bytes))
+        × (count ≤ length (now store))
+        × (allFit (numbersIn lowFirst energyWidth count (drop at (now bytes))) ≡ true) ⌝ }
     ensures { λ _. ⌜ now (store .exit) ≡ sets (now (store .entry)) 0 (energiesOf (numbersIn lowFirst energyWidth count (drop at (now (bytes .entry))))) ⌝ }
 {
     let mut i = 0;
     while i < count {
-        store[i] = floats::float_of(pattern_at(bytes, at + ENERGY * i));
+        store[i] = energy_of(pattern_at(bytes, at + ENERGY * i));
         i += 1;
     }
 }
@@ -110,7 +164,7 @@ fn read_body(bytes: &[u8], store: &mut [f64]) -> Received
     if bytes.len() != ENERGIES_AT + ENERGY * held {
         return Received::Refused(refusals::LENGTH);
     }
-    if !all_fit(bytes, ENERGIES_AT, held) {
+    if !energies_fit(bytes, ENERGIES_AT, held) {
         return Received::Refused(refusals::CONTENT);
     }
     if store.len() != maximum {

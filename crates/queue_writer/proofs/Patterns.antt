@@ -12,7 +12,8 @@ use lib.Ieee.Bits.{ofBits-toBits, toBits-ofBits}
 use Rattle.floats.proofs.Nan.{only-nan}
 use Rattle.histogram_bins.specs.Energy.{dropped}
 use Rattle.history.specs.Set.{noneBelow}
-use Rattle.queue_reader.specs.QueueRecord.{nanPattern, patternFits, allFit, energiesOf, patternsOf}
+use Rattle.queue_reader.specs.QueueRecord.{nanPattern, patternFits, every, allFit, energiesOf, patternsOf}
+use Rattle.queue_reader.proofs.Patterns.{both}
 
 -- every energy is an f64
 abbrev pub Doubles : List Float → Type 0
@@ -41,17 +42,13 @@ not-both false b h = (refl, h)
 not-both true b h = absurd (true≢false (sym h))
 
 pub patterns-in : (energies : List Float) → Doubles energies → noneBelow energies ≡ true → allFit (patternsOf energies) ≡ true
-unfolding noneBelow allFit
+unfolding noneBelow every
 patterns-in [] d h = refl
 patterns-in (energy ∷ rest) d h =
     let p = not-both (dropped energy) (noneBelow rest) h in
     rw (pattern-in energy (d .0) (p .0), patterns-in rest (d .1) (p .1))
 
 -- a pattern that was let in is written again
-both : (a b : Bool) → a && b ≡ true → (a ≡ true) × (b ≡ true)
-both true b h = (refl, h)
-both false b h = absurd (true≢false (sym h))
-
 pattern-again : (pattern : ℕ) → pattern < 2 ^ 64 → patternFits pattern ≡ true → toBits binary64 (ofBits binary64 pattern) ≡ pattern
 unfolding patternFits
 pattern-again pattern small h = go (isNan (ofBits binary64 pattern)) refl (both (not (dropped (ofBits binary64 pattern))) (not (isNan (ofBits binary64 pattern)) || eqb pattern nanPattern) h .1)
@@ -61,7 +58,7 @@ pattern-again pattern small h = go (isNan (ofBits binary64 pattern)) refl (both 
     go true e t = ap (toBits binary64) (only-nan (ofBits binary64 pattern) e) ∙ nan-written ∙ sym (eqb-true pattern nanPattern t)
 
 pub patterns-again : (patterns : List ℕ) → ((i : ℕ) → getD patterns i 0 < 2 ^ 64) → allFit patterns ≡ true → patternsOf (energiesOf patterns) ≡ patterns
-unfolding allFit
+unfolding every
 patterns-again [] s h = refl
 patterns-again (pattern ∷ rest) s h =
     let p = both (patternFits pattern) (allFit rest) h in
@@ -69,7 +66,7 @@ patterns-again (pattern ∷ rest) s h =
 
 -- what was let in is not below boundary 0
 pub energies-in : (patterns : List ℕ) → allFit patterns ≡ true → noneBelow (energiesOf patterns) ≡ true
-unfolding noneBelow allFit patternFits
+unfolding noneBelow every patternFits
 energies-in [] h = refl
 energies-in (pattern ∷ rest) h =
     let p = both (patternFits pattern) (allFit rest) h in

@@ -1,4 +1,4 @@
--- `queue_add::add` meets its contract, case by case: `on_ring` gives the next place, and the next head of a full queue.
+-- `queue_add::add` meets its contract, case by case: `on_ring` gives the next place, which in a full queue is the head, and `after` the next head.
 -- Assumes nothing.
 use Prim.Native.Nat.{ℕ, _<_, _+_}
 use native.Mathlib.Nat.{mod-lt}
@@ -13,8 +13,8 @@ use Rattle.refusals.specs.Outcome.{Outcome, went, NoValues, done}
 use Rattle.histogram_bins.specs.Energy.{dropped}
 use Rattle.queue.specs.Queue.{Stored, over}
 use Rattle.queue.proofs.Ring.{Suited, suited}
-use Rattle.queue_add.specs.Adding.{advanced, enqueued}
-use Rattle.queue_add.proofs.Adding.{enqueue-store, enqueue-dropped, enqueue-went, advance-more, advance-full}
+use Rattle.queue_add.specs.Adding.{nextPlace, advanced, enqueued}
+use Rattle.queue_add.proofs.Adding.{enqueue-store, enqueue-dropped, enqueue-went, advance-more, advance-full, full-place}
 use Rattle.queue_add.proofs.add.Statement.{statement}
 use Rattle.queue_add.proofs.add.Tie as tie
 
@@ -28,22 +28,21 @@ suited-here c =
 taken : (c : tie.Else2) → dropped (c .before .before .before .before .before .args .energy) ≡ false
 taken c = ap (lt (c .before .before .before .before .before .args .energy)) (sym (c .before .lowest-boundary .ensures)) ∙ c .if2 .left
 
--- the place that is written is the next place, and it is in the store
-placed : (c : tie.After-on-ring) → c .on-ring .result < c .before .before .before .before .before .before .args .queue .maximum
+-- the place that is written is in the store
+placed : (c : tie.After-on-ring) → c .on-ring .result < c .before .before .before .before .before .before .before .args .queue .maximum
 placed c =
-    let q = c .before .before .before .before .before .before .args .queue in
-    subst (λ (n : ℕ). n < q .maximum) (sym (c .on-ring .ensures)) (mod-lt (q .head + q .held) (suited-here (c .before .before .before) .least))
+    let q = c .before .before .before .before .before .before .before .args .queue in
+    subst (λ (n : ℕ). n < q .maximum) (sym (c .on-ring .ensures)) (mod-lt (q .head + q .held) (suited-here (c .before .before .before .before) .least))
 
--- what a queue that takes the energy becomes
-went-on : (c : tie.After-on-ring) →
-    let a = c .before .before .before .before .before .before .args in
-    enqueued (over (a .queue) (now (a .store))) (a .energy)
-    ≡ went (over (advanced (a .queue)) (set (now (a .store)) (c .on-ring .result) (a .energy))) done
-went-on c =
-    let a = c .before .before .before .before .before .before .args in
-    let f = c .before .before .before in
-    enqueue-went (a .queue) (now (a .store)) (a .energy) (sym (f .before .suits .ensures) ∙ f .if1 .taken) (taken (c .before))
-    ∙ ap {B = Outcome Stored NoValues} (λ (place : ℕ). went (over (advanced (a .queue)) (set (now (a .store)) place (a .energy))) done) (sym (c .on-ring .ensures))
+-- what a queue that takes the energy becomes, written at its next place
+went-on : (c : tie.Else2) (place : ℕ) →
+    let a = c .before .before .before .before .before .args in
+    place ≡ nextPlace (a .queue) → enqueued (over (a .queue) (now (a .store))) (a .energy) ≡ went (over (advanced (a .queue)) (set (now (a .store)) place (a .energy))) done
+went-on c place p =
+    let a = c .before .before .before .before .before .args in
+    let f = c .before .before in
+    enqueue-went (a .queue) (now (a .store)) (a .energy) (sym (f .before .suits .ensures) ∙ f .if1 .taken) (taken c)
+    ∙ ap {B = Outcome Stored NoValues} (λ (n : ℕ). went (over (advanced (a .queue)) (set (now (a .store)) n (a .energy))) done) (sym p)
 
 suits-requires : tie.Need-suits-requires
 suits-requires c κs = search needs
@@ -60,43 +59,48 @@ returns c =
     (refl, refl)
 
 add-on-ring : tie.Need-add-on-ring
-add-on-ring c = let f = suited-here (c .before .before) in omega arith
+add-on-ring c = let f = suited-here (c .before .before .before) in omega arith
 
 on-ring-requires : tie.Need-on-ring-requires
-on-ring-requires c κs = let f = suited-here (c .before .before) in omega arith
+on-ring-requires c κs = let f = suited-here (c .before .before .before) in omega arith
 
 mul-store : tie.Need-mul-store
-mul-store c = let f = suited-here (c .before .before .before) in omega (arith, placed c)
+mul-store c = let f = suited-here (c .before .before .before .before) in omega (arith, placed c)
 
 slice-write-store : tie.Need-slice-write-store
-slice-write-store c = let f = suited-here (c .before .before .before) in omega (arith, placed c)
+slice-write-store c = let f = suited-here (c .before .before .before .before) in omega (arith, placed c)
 
-add-t17 : tie.Need-add-t17
-add-t17 c = let f = suited-here (c .before .before .before .before) in omega arith
+add-t14 : tie.Need-add-t14
+add-t14 c = let f = suited-here (c .before .before .before .before) in omega arith
 
 same-length : tie.Need-same-length
 same-length c = search needs
 
 returns-2 : tie.Need-returns-2
 returns-2 c =
-    let o = c .before in
-    let a = o .before .before .before .before .before .before .args in
-    rw (went-on o, advance-more (a .queue) (c .if3 .taken)) (refl, refl)
+    let e = c .before .before in
+    let a = e .before .before .before .before .before .args in
+    rw (went-on e (c .on-ring .result) (c .on-ring .ensures), advance-more (a .queue) (c .before .if3 .taken)) (refl, refl)
 
-add-on-ring-2 : tie.Need-add-on-ring-2
-add-on-ring-2 c = let f = suited-here (c .before .before .before .before) in omega arith
+mul-store-2 : tie.Need-mul-store-2
+mul-store-2 c = let f = suited-here (c .before .before .before) in omega arith
 
-on-ring-requires-2 : tie.Need-on-ring-requires-2
-on-ring-requires-2 c κs = let f = suited-here (c .before .before .before .before) in omega arith
+slice-write-store-2 : tie.Need-slice-write-store-2
+slice-write-store-2 c = let f = suited-here (c .before .before .before) in omega arith
+
+after-requires : tie.Need-after-requires
+after-requires c κs = let f = suited-here (c .before .before .before) in omega arith
 
 same-length-2 : tie.Need-same-length-2
 same-length-2 c = search needs
 
 returns-3 : tie.Need-returns-3
 returns-3 c =
-    let o = c .before .before in
-    let a = o .before .before .before .before .before .before .args in
-    rw (went-on o, advance-full (a .queue) (c .before .if3 .left), ← c .on-ring2 .ensures) (refl, refl)
+    let d = c .before in
+    let e = d .before in
+    let q = e .before .before .before .before .before .args .queue in
+    let f = suited-here (e .before .before) in
+    rw (went-on e (q .head) (full-place q (omega arith) (omega (arith, d .if3 .left))), advance-full q (d .if3 .left), ← c .after .ensures) (refl, refl)
 
 returns-4 : tie.Need-returns-4
 returns-4 c =
@@ -114,11 +118,12 @@ add-spec =
     on-ring-requires
     mul-store
     slice-write-store
-    add-t17
+    add-t14
     same-length
     returns-2
-    add-on-ring-2
-    on-ring-requires-2
+    mul-store-2
+    slice-write-store-2
+    after-requires
     same-length-2
     returns-3
     returns-4)

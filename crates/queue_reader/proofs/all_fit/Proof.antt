@@ -1,15 +1,15 @@
 -- `queue_reader::all_fit` meets its contract. The invariant: what was found, with what the patterns left give, is what all give. Assumes nothing.
 use mathlib.Core.Path.{_≡_, sym, ap, _∙_}
-use mathlib.Core.Bool.{Bool, _&&_}
-use Prim.Native.Nat.{ℕ, _+_, _-_, _*_, _≤_}
+use mathlib.Core.Bool.{_&&_}
+use Prim.Native.Nat.{_+_, _-_, _*_, _≤_}
 use native.Mathlib.Omega.{arith}
 use borrow.Author.Needs.{needs}
 use denote.Ref.{now}
 use lib.ListN.{drop}
 use Rattle.fields.proofs.Written.{field-from}
 use Rattle.layout.specs.Layout.{lowFirst, numbersIn}
-use Rattle.queue_reader.specs.QueueRecord.{allFit}
-use Rattle.queue_reader.proofs.Patterns.{fit-turn, fit-end}
+use Rattle.queue_reader.specs.QueueRecord.{patternFits, allFit}
+use Rattle.queue_reader.proofs.Patterns.{all-left, test-turn, test-end}
 use Rattle.queue_reader.proofs.all_fit.Statement.{statement}
 use Rattle.queue_reader.proofs.all_fit.Tie as tie
 
@@ -22,11 +22,8 @@ abbrev μ-loop : tie.MeasureT-loop
 
 loop-holds : tie.Need-loop-holds Inv-loop μ-loop
 loop-holds c =
-    let a = c .before .args in (
-      omega arith,
-      ap (λ (n : ℕ). allFit (numbersIn lowFirst 8 n (drop (a .at + 0) (now (a .bytes))))) {x = a .count - 0} {y = a .count} (omega arith)
-          ∙ ap (λ (n : ℕ). allFit (numbersIn lowFirst 8 (a .count) (drop n (now (a .bytes))))) {x = a .at + 0} {y = a .at} (omega arith),
-    )
+    let a = c .before .args in
+    (omega arith, ap allFit (all-left lowFirst 8 (now (a .bytes)) (a .at) (a .count)))
 
 mul-pattern-at : tie.Need-mul-pattern-at Inv-loop μ-loop
 mul-pattern-at c = search needs
@@ -54,9 +51,8 @@ loop-again c =
     let i = l .loop .i in
     let at = a .at + 8 * i in (
       omega arith,
-      ap (λ (b : Bool). (l .loop .fit && b) && allFit (numbersIn lowFirst 8 (a .count - (i + 1)) (drop (a .at + 8 * (i + 1)) (now (a .bytes))))) (c .pattern-fits .ensures)
-          ∙ fit-turn lowFirst 8 (now (a .bytes)) at (a .at + 8 * (i + 1)) (a .count - i) (a .count - (i + 1)) (d .pattern-at .result) (omega arith) (omega arith)
-          (d .pattern-at .ensures ∙ field-from (now (a .bytes)) at at 0 8 (omega arith)) (l .loop .fit)
+      test-turn lowFirst 8 (now (a .bytes)) at (a .at + 8 * (i + 1)) (a .count - i) (a .count - (i + 1)) (d .pattern-at .result) (omega arith) (omega arith)
+          (d .pattern-at .ensures ∙ field-from (now (a .bytes)) at at 0 8 (omega arith)) patternFits (l .loop .fit) (c .pattern-fits .result) (c .pattern-fits .ensures)
           ∙ l .loop .inv .1,
     )
 
@@ -64,7 +60,7 @@ returns : tie.Need-returns Inv-loop μ-loop
 returns c =
     let l = c .before in
     let a = l .before .before .args in
-    sym (fit-end lowFirst 8 (a .count - l .loop .i) (drop (a .at + 8 * l .loop .i) (now (a .bytes))) (l .loop .fit) (omega arith)) ∙ l .loop .inv .1
+    sym (test-end lowFirst 8 (a .count - l .loop .i) (drop (a .at + 8 * l .loop .i) (now (a .bytes))) patternFits (l .loop .fit) (omega arith)) ∙ l .loop .inv .1
 
 pub all-fit-spec : {M : Type 1} → statement M
 all-fit-spec =

@@ -42,11 +42,11 @@ fitting c = tested (c .before) ∙ not-false (c .before .numbers-fit .result) (c
 long : (c : tie.Else2) → let bytes = now (c .before .before .before .before .before .before .before .args .bytes) in lengthIn bytes ≡ 10 + 8 * heldIn bytes
 long c = omega (arith, c .before .before .before .before .before .before .before .pre .1, c .if2 .left, held-is (c .before .before .before))
 
-looked : (c : tie.After-all-fit) → allFit (patternsIn (now (c .before .before .before .before .before .before .before .before .args .bytes))) ≡ c .all-fit .result
+looked : (c : tie.After-energies-fit) → allFit (patternsIn (now (c .before .before .before .before .before .before .before .before .args .bytes))) ≡ c .energies-fit .result
 looked c =
     let h = c .before .before .before .before in
     let bytes = now (h .before .before .before .before .args .bytes) in
-    ap (λ (n : ℕ). allFit (numbersIn lowFirst 8 n (drop 14 bytes))) (sym (held-is h)) ∙ sym (c .all-fit .ensures)
+    ap (λ (n : ℕ). allFit (numbersIn lowFirst 8 n (drop 14 bytes))) (sym (held-is h)) ∙ sym (c .energies-fit .ensures)
 
 number-at-requires : tie.Need-number-at-requires
 number-at-requires c κs = search needs
@@ -77,15 +77,15 @@ returns-2 c =
     (body-length (now (a .bytes)) (now (a .store)) (fitting e) (λ l. c .if2 .taken (omega (arith, start .pre .0, start .pre .1, held-is (e .before .before)))))
     (refl, refl)
 
-all-fit-requires : tie.Need-all-fit-requires
-all-fit-requires c κs = omega (arith, c .if2 .left)
+energies-fit-requires : tie.Need-energies-fit-requires
+energies-fit-requires c κs = omega (arith, c .if2 .left)
 
 returns-3 : tie.Need-returns-3
 returns-3 c =
     let f = c .before in
     let a = f .before .before .before .before .before .before .before .before .args in
     rw
-    (body-energies (now (a .bytes)) (now (a .store)) (fitting (f .before .before)) (long (f .before)) (looked f ∙ not-true (f .all-fit .result) (c .if3 .taken)))
+    (body-energies (now (a .bytes)) (now (a .store)) (fitting (f .before .before)) (long (f .before)) (looked f ∙ not-true (f .energies-fit .result) (c .if3 .taken)))
     (refl, refl)
 
 returns-4 : tie.Need-returns-4
@@ -94,7 +94,7 @@ returns-4 c =
     let e = f .before .before in
     let a = e .before .before .before .before .before .before .args in
     rw
-    (body-store (now (a .bytes)) (now (a .store)) (fitting e) (long (f .before)) (looked f ∙ not-false (f .all-fit .result) (c .before .if3 .left))
+    (body-store (now (a .bytes)) (now (a .store)) (fitting e) (long (f .before)) (looked f ∙ not-false (f .energies-fit .result) (c .before .if3 .left))
     (λ s. c .if4 .taken (s ∙ sym (maximum-is (e .before .before .before)))))
     (refl, refl)
 
@@ -103,7 +103,7 @@ read-energies-requires c κs =
     let d = c .before in
     let f = d .before .before in
     let e = f .before .before in
-    (omega (arith, f .before .if2 .left), omega (arith, d .if4 .left, small e .1))
+    (omega (arith, f .before .if2 .left), omega (arith, d .if4 .left, small e .1), sym (f .energies-fit .ensures) ∙ not-false (f .energies-fit .result) (d .before .if3 .left))
 
 same-length : tie.Need-same-length
 same-length c = search needs
@@ -119,7 +119,7 @@ returns-5 c =
     let m = maximum-is (e .before .before .before) in
     let h = held-is (e .before .before) in
     let s : length store ≡ maximumIn bytes = d .if4 .left ∙ m in
-    let went : bodyRead bytes store ≡ _ = body-went bytes store (fitting e) (long (f .before)) (looked f ∙ not-false (f .all-fit .result) (d .before .if3 .left)) s in
+    let went : bodyRead bytes store ≡ _ = body-went bytes store (fitting e) (long (f .before)) (looked f ∙ not-false (f .energies-fit .result) (d .before .if3 .left)) s in
     let queue : _≡_ {A = Queue} (record { maximum = e .before .before .before .number-at .result; head = 0; held = e .before .before .number-at2 .result }) (queueIn bytes) =
     ap (λ (n : ℕ). record { maximum = n; head = 0; held = e .before .before .number-at2 .result }) m
     ∙ ap (λ (n : ℕ). record { maximum = maximumIn bytes; head = 0; held = n }) h in (
@@ -140,7 +140,7 @@ read-body-spec =
     mul-if2
     add-if2
     returns-2
-    all-fit-requires
+    energies-fit-requires
     returns-3
     returns-4
     read-energies-requires

@@ -1,5 +1,7 @@
--- `queue_reader::read_energies` meets its contract. The invariant: what is left to store gives what all of it gives. Assumes nothing.
+-- `queue_reader::read_energies` meets its contract. The invariant: what is left to store gives what all of it gives, and fits. Assumes nothing.
 use mathlib.Core.Path.{_≡_, refl, sym, ap, _∙_}
+use mathlib.Core.Bool.{true}
+use mathlib.Core.List.{List}
 use Prim.Native.Nat.{ℕ, _+_, _-_, _*_, _≤_}
 use native.Mathlib.Omega.{arith}
 use borrow.Author.Needs.{needs}
@@ -8,13 +10,13 @@ use lib.ListN.{length, length-set, drop}
 use lib.Seq.{sets}
 use Rattle.fields.proofs.Written.{field-from}
 use Rattle.layout.specs.Layout.{lowFirst, numbersIn}
-use Rattle.queue_reader.specs.QueueRecord.{energiesOf}
-use Rattle.queue_reader.proofs.Patterns.{store-turn, store-end}
+use Rattle.queue_reader.specs.QueueRecord.{energiesOf, patternFits, allFit}
+use Rattle.queue_reader.proofs.Patterns.{all-left, each, store-turn, store-end}
 use Rattle.queue_reader.proofs.read_energies.Statement.{statement}
 use Rattle.queue_reader.proofs.read_energies.Tie as tie
 
 abbrev Inv-loop : tie.InvT-loop
-Inv-loop bytes at count store₀ i₀ store i = (i ≤ count) × (length store ≡ length store₀) × (sets store i (energiesOf (numbersIn lowFirst 8 (count - i) (drop (at + 8 * i) bytes))) ≡ sets store₀ 0 (energiesOf (numbersIn lowFirst 8 count (drop at bytes))))
+Inv-loop bytes at count store₀ i₀ store i = (i ≤ count) × (length store ≡ length store₀) × (sets store i (energiesOf (numbersIn lowFirst 8 (count - i) (drop (at + 8 * i) bytes))) ≡ sets store₀ 0 (energiesOf (numbersIn lowFirst 8 count (drop at bytes)))) × (allFit (numbersIn lowFirst 8 (count - i) (drop (at + 8 * i) bytes)) ≡ true)
 
 abbrev μ-loop : tie.MeasureT-loop
 μ-loop bytes at count store₀ i₀ store i = count - i
@@ -24,8 +26,8 @@ loop-holds c =
     let a = c .before .before .args in (
       omega arith,
       refl,
-      ap (λ (n : ℕ). sets (now (a .store)) 0 (energiesOf (numbersIn lowFirst 8 n (drop (a .at + 0) (now (a .bytes)))))) {x = a .count - 0} {y = a .count} (omega arith)
-          ∙ ap (λ (n : ℕ). sets (now (a .store)) 0 (energiesOf (numbersIn lowFirst 8 (a .count) (drop n (now (a .bytes)))))) {x = a .at + 0} {y = a .at} (omega arith),
+      ap (λ (patterns : List ℕ). sets (now (a .store)) 0 (energiesOf patterns)) (all-left lowFirst 8 (now (a .bytes)) (a .at) (a .count)),
+      ap allFit (all-left lowFirst 8 (now (a .bytes)) (a .at) (a .count)) ∙ c .before .before .pre .2,
     )
 
 mul-pattern-at : tie.Need-mul-pattern-at Inv-loop μ-loop
@@ -37,8 +39,22 @@ add-pattern-at c = search needs
 pattern-at-requires : tie.Need-pattern-at-requires Inv-loop μ-loop
 pattern-at-requires c κs = omega arith
 
-float-of-requires : tie.Need-float-of-requires Inv-loop μ-loop
-float-of-requires c κs = search needs
+-- the pattern that is read fits, and those after it
+left-fit : (c : tie.After-pattern-at Inv-loop μ-loop) →
+    let l = c .before .before in
+    let a = l .before .before .before .args in
+    let i = l .loop .i in
+    (patternFits (c .pattern-at .result) ≡ true) × (allFit (numbersIn lowFirst 8 (a .count - (i + 1)) (drop (a .at + 8 * (i + 1)) (now (a .bytes)))) ≡ true)
+left-fit c =
+    let l = c .before .before in
+    let a = l .before .before .before .args in
+    let i = l .loop .i in
+    let at = a .at + 8 * i in
+    each lowFirst 8 (now (a .bytes)) at (a .at + 8 * (i + 1)) (a .count - i) (a .count - (i + 1)) (c .pattern-at .result) (omega arith) (omega arith)
+    (c .pattern-at .ensures ∙ field-from (now (a .bytes)) at at 0 8 (omega arith)) patternFits (l .loop .inv .3)
+
+energy-of-requires : tie.Need-energy-of-requires Inv-loop μ-loop
+energy-of-requires c κs = left-fit c .0
 
 mul-store : tie.Need-mul-store Inv-loop μ-loop
 mul-store c = search needs
@@ -54,15 +70,17 @@ loop-less c = search needs
 
 loop-again : tie.Need-loop-again Inv-loop μ-loop
 loop-again c =
-    let l = c .before .before .before in
+    let p = c .before in
+    let l = p .before .before in
     let a = l .before .before .before .args in
     let i = l .loop .i in
     let at = a .at + 8 * i in (
       omega arith,
       simp length-set (l .loop .inv .1),
-      store-turn lowFirst 8 (now (a .bytes)) at (a .at + 8 * (i + 1)) (a .count - i) (a .count - (i + 1)) (c .before .pattern-at .result) (omega arith) (omega arith)
-          (c .before .pattern-at .ensures ∙ field-from (now (a .bytes)) at at 0 8 (omega arith)) (l .loop .store) i (c .float-of .result) (c .float-of .ensures)
+      store-turn lowFirst 8 (now (a .bytes)) at (a .at + 8 * (i + 1)) (a .count - i) (a .count - (i + 1)) (p .pattern-at .result) (omega arith) (omega arith)
+          (p .pattern-at .ensures ∙ field-from (now (a .bytes)) at at 0 8 (omega arith)) (l .loop .store) i (c .energy-of .result) (c .energy-of .ensures)
           ∙ l .loop .inv .2,
+      left-fit p .1,
     )
 
 same-length : tie.Need-same-length Inv-loop μ-loop
@@ -84,7 +102,7 @@ read-energies-spec =
     mul-pattern-at
     add-pattern-at
     pattern-at-requires
-    float-of-requires
+    energy-of-requires
     mul-store
     slice-write-store
     add-i

@@ -1,0 +1,67 @@
+-- `queue_reader::all_finite` meets its contract. The invariant: what was found, with what the patterns left give, is what all give. Assumes nothing.
+use mathlib.Core.Path.{_≡_, sym, ap, _∙_}
+use mathlib.Core.Bool.{_&&_}
+use Prim.Native.Nat.{_+_, _-_, _*_, _≤_}
+use native.Mathlib.Omega.{arith}
+use borrow.Author.Needs.{needs}
+use denote.Ref.{now}
+use lib.ListN.{drop}
+use Rattle.fields.proofs.Written.{field-from}
+use Rattle.layout.specs.Layout.{lowFirst, numbersIn}
+use Rattle.queue_reader.specs.QueueRecord.{finiteFits, allFinite}
+use Rattle.queue_reader.proofs.Patterns.{all-left, test-turn, test-end}
+use Rattle.queue_reader.proofs.all_finite.Statement.{statement}
+use Rattle.queue_reader.proofs.all_finite.Tie as tie
+
+abbrev Inv-loop : tie.InvT-loop
+Inv-loop bytes at count finite₀ i₀ finite i =
+    (i ≤ count) × (finite && allFinite (numbersIn lowFirst 8 (count - i) (drop (at + 8 * i) bytes)) ≡ allFinite (numbersIn lowFirst 8 count (drop at bytes)))
+
+abbrev μ-loop : tie.MeasureT-loop
+μ-loop bytes at count finite₀ i₀ finite i = count - i
+
+loop-holds : tie.Need-loop-holds Inv-loop μ-loop
+loop-holds c =
+    let a = c .before .args in
+    (omega arith, ap allFinite (all-left lowFirst 8 (now (a .bytes)) (a .at) (a .count)))
+
+mul-pattern-at : tie.Need-mul-pattern-at Inv-loop μ-loop
+mul-pattern-at c = search needs
+
+add-pattern-at : tie.Need-add-pattern-at Inv-loop μ-loop
+add-pattern-at c = search needs
+
+pattern-at-requires : tie.Need-pattern-at-requires Inv-loop μ-loop
+pattern-at-requires c κs = omega arith
+
+finite-fits-requires : tie.Need-finite-fits-requires Inv-loop μ-loop
+finite-fits-requires c κs = search needs
+
+add-i : tie.Need-add-i Inv-loop μ-loop
+add-i c = search needs
+
+loop-less : tie.Need-loop-less Inv-loop μ-loop
+loop-less c = search needs
+
+loop-again : tie.Need-loop-again Inv-loop μ-loop
+loop-again c =
+    let d = c .before in
+    let l = d .before .before in
+    let a = l .before .before .args in
+    let i = l .loop .i in
+    let at = a .at + 8 * i in (
+      omega arith,
+      test-turn lowFirst 8 (now (a .bytes)) at (a .at + 8 * (i + 1)) (a .count - i) (a .count - (i + 1)) (d .pattern-at .result) (omega arith) (omega arith)
+          (d .pattern-at .ensures ∙ field-from (now (a .bytes)) at at 0 8 (omega arith)) finiteFits (l .loop .finite) (c .finite-fits .result) (c .finite-fits .ensures)
+          ∙ l .loop .inv .1,
+    )
+
+returns : tie.Need-returns Inv-loop μ-loop
+returns c =
+    let l = c .before in
+    let a = l .before .before .args in
+    sym (test-end lowFirst 8 (a .count - l .loop .i) (drop (a .at + 8 * l .loop .i) (now (a .bytes))) finiteFits (l .loop .finite) (omega arith)) ∙ l .loop .inv .1
+
+pub all-finite-spec : {M : Type 1} → statement M
+all-finite-spec =
+    tie.close (tie.spec Inv-loop μ-loop loop-holds mul-pattern-at add-pattern-at pattern-at-requires finite-fits-requires add-i loop-less loop-again returns)
