@@ -1,4 +1,5 @@
 pub mod Signs
+pub mod Zeros
 pub mod Loud
 pub mod Pairs
 pub mod Quarters

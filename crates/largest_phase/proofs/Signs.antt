@@ -1,6 +1,6 @@
 -- The magnitude by bits: a float's pattern without the sign's bit is its magnitude's pattern. Assumes nothing.
 use mathlib.Core.Path.{_≡_, refl, sym, ap, subst, _∙_}
-use mathlib.Core.Bool.{Bool, true, false, not, cond}
+use mathlib.Core.Bool.{Bool, true, false, not, cond, true≢false}
 use Prim.Native.Nat.{ℕ, suc, zero, _+_, _%_, _<_}
 use native.Mathlib.Nat.{mod-eq-of-lt, add-mod-left}
 use native.Mathlib.Omega.{arith}
@@ -85,10 +85,16 @@ beats-nothing nan = refl
 beats-nothing (inf s) = refl
 beats-nothing (fin s m e) = refl
 
-pub raised-by : (peak v x : Float) (b : Bool) → lt peak v ≡ b → v ≡ magnitude x → cond b v peak ≡ louder peak (magnitude x)
-raised-by peak v x b h e = ap (λ (t : Bool). cond t v peak) (sym h) ∙ ap (louder peak) e
-
-pub raised-by-none : (peak x : Float) → eq x x ≡ false → peak ≡ louder peak (magnitude x)
-raised-by-none peak x h =
+pub nan-beats-none : (peak x : Float) → eq x x ≡ false → false ≡ lt peak (magnitude x)
+nan-beats-none peak x h =
     let n : x ≡ nan = only-nan x (turned (isNan x) false (sym (equal x) ∙ h)) in
-    sym (ap (λ (y : Float). louder peak (magnitude y)) n ∙ ap (λ (b : Bool). cond b nan peak) (beats-nothing peak))
+    sym (ap (λ (y : Float). lt peak (magnitude y)) n ∙ beats-nothing peak)
+
+pub winner : (peak x : Float) → lt peak (magnitude x) ≡ true → T (not (isNan x))
+unfolding isNan
+winner peak nan h = absurd (true≢false (sym h ∙ beats-nothing peak))
+winner peak (inf s) h = tt
+winner peak (fin s m e) h = tt
+
+pub raised-by : (peak v x : Float) (b : Bool) → lt peak (magnitude x) ≡ b → v ≡ magnitude x → cond b v peak ≡ louder peak (magnitude x)
+raised-by peak v x b h e = ap (λ (t : Bool). cond t v peak) (sym h) ∙ ap (λ (w : Float). cond (lt peak (magnitude x)) w peak) e

@@ -1,13 +1,28 @@
 -- The sums of several frames carried on tap by tap: what the inner functions work with. No public contract rests on it.
-use mathlib.Core.List.{List}
-use Prim.Native.Nat.{ℕ, _+_}
-use lib.ListN.{getD}
-use lib.Ieee.{Float, nan}
+use mathlib.Core.List.{List, [], _∷_}
+use Prim.Native.Nat.{ℕ, zero, suc, _+_}
+use lib.ListN.{getD, take}
+use lib.Ieee.{Float, nan, ofBits, binary32}
+use Rattle.interp.specs.declared.Interp.{Interp}
 use Rattle.interp.specs.declared.Four.{Four}
 use Rattle.interp.specs.declared.Two.{Two}
-use Rattle.interp.specs.Phase.{plus}
+use Rattle.interp.specs.Phase.{plus, summedBy}
 use Rattle.largest_phase.specs.declared.Fours.{Fours}
 use Rattle.largest_phase.specs.declared.Twos.{Twos}
+
+-- -0
+abbrev pub minusNought : Float
+minusNought = ofBits binary32 0x8000_0000
+
+-- the phases that a table of taps gives, with sums that begin at -0 in place of 0: they differ in the sign of a zero at most, so they raise a peak alike
+unfoldable pub sumsFrom : List Float → Interp → List Float → ℕ → ℕ → List Float
+unfolding summedBy
+sumsFrom taps i history f zero = []
+sumsFrom taps i history f (suc n) = summedBy taps (i .factor) f minusNought (take (i .taps) history) ∷ sumsFrom taps i history (suc f) n
+
+unfoldable pub sumsBy : List Float → Interp → List Float → List Float
+unfolding sumsFrom
+sumsBy taps i history = sumsFrom taps i history 0 (i .factor)
 
 -- where the windows of four frames begin in a line
 pub record Windows : Type 0 where

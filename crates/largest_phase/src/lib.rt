@@ -2,12 +2,14 @@
 ghost use mathlib.Core.Path.{_≡_};
 ghost use Prim.Native.Nat.{ℕ, _+_, _*_, _<_, _≤_, min};
 ghost use lib.ListN.{length, getD, set};
-ghost use lib.Ieee.{nan};
+ghost use mathlib.Core.Bool.{not};
+ghost use lib.Dec.{T};
+ghost use lib.Ieee.{nan, isNan, lt};
 ghost use Rattle.interp.specs.Interp.{fourfold, twofold};
 ghost use Rattle.interp.specs.Phase.{four, two, phasesBy};
 ghost use Rattle.largest_phase.specs.Largest.{magnitude, louder, loudest};
 ghost use Rattle.largest_phase.specs.Line.{block, quarter, back, scanned, loudestOf, Louds, Raised, Pairs};
-ghost use Rattle.largest_phase.specs.Taps.{windows, onFour, fourAt, tapFour, onPair, tapPair};
+ghost use Rattle.largest_phase.specs.Taps.{sumsBy, windows, onFour, fourAt, tapFour, onPair, tapPair};
 use interp::Four;
 use interp::Interp;
 use interp::Two;
@@ -36,16 +38,30 @@ fn louder(peak: f32, v: f32) -> f32
     if peak < v { v } else { peak }
 }
 
-// The absolute value, the pattern without the sign's bit, replaces the peak if it is greater. A NaN has no pattern of its own, and never wins.
+// The absolute value: the pattern without the sign's bit. A NaN has no pattern of its own.
+fn magnitude(x: f32) -> f32
+    requires { ⌜ T (not (isNan x)) ⌝ }
+    ensures { λ r. ⌜ r ≡ magnitude x ⌝ }
+{
+    f32::from_bits(f32::to_bits(x) % 0x8000_0000)
+}
+
+// A NaN never wins. The test is a function of its own, in which the compiler sees that a comparison which holds has no NaN in it: no other test is left.
+fn beats(peak: f32, x: f32) -> bool
+    ensures { λ r. ⌜ r ≡ lt peak (magnitude x) ⌝ }
+{
+    if x == x {
+        return peak < magnitude(x);
+    }
+    false
+}
+
+// The absolute value replaces the peak if it is greater.
 fn raised(peak: f32, x: f32) -> f32
     ensures { λ r. ⌜ r ≡ louder peak (magnitude x) ⌝ }
 {
-    if x == x {
-        let v = f32::from_bits(f32::to_bits(x) % 0x8000_0000);
-        if peak < v {
-            return v;
-        }
-        return peak;
+    if beats(peak, x) {
+        return magnitude(x);
     }
     peak
 }
@@ -126,7 +142,7 @@ fn tap_four(
     }
 }
 
-// The phases of four frames by factor 4, tap by tap.
+// The phases of four frames by factor 4, tap by tap, but for the sign of a zero: adding to -0 leaves a product as it is, so the compiler drops that addition.
 fn each_four(
     taps: &[f32; Interp::COEFFICIENTS],
     line: &[f32; LINE],
@@ -136,16 +152,16 @@ fn each_four(
     d: usize,
 ) -> Fours
     requires { ⌜ (a < block) × ((b < block) × ((c < block) × (d < block))) ⌝ }
-    ensures { λ r. ⌜ four (r .a) ≡ phasesBy (now (taps .entry)) fourfold (back (now (line .entry)) a 24) ⌝ }
-    ensures { λ r. ⌜ four (r .b) ≡ phasesBy (now (taps .entry)) fourfold (back (now (line .entry)) b 24) ⌝ }
-    ensures { λ r. ⌜ four (r .c) ≡ phasesBy (now (taps .entry)) fourfold (back (now (line .entry)) c 24) ⌝ }
-    ensures { λ r. ⌜ four (r .d) ≡ phasesBy (now (taps .entry)) fourfold (back (now (line .entry)) d 24) ⌝ }
+    ensures { λ r. ⌜ four (r .a) ≡ sumsBy (now (taps .entry)) fourfold (back (now (line .entry)) a 24) ⌝ }
+    ensures { λ r. ⌜ four (r .b) ≡ sumsBy (now (taps .entry)) fourfold (back (now (line .entry)) b 24) ⌝ }
+    ensures { λ r. ⌜ four (r .c) ≡ sumsBy (now (taps .entry)) fourfold (back (now (line .entry)) c 24) ⌝ }
+    ensures { λ r. ⌜ four (r .d) ≡ sumsBy (now (taps .entry)) fourfold (back (now (line .entry)) d 24) ⌝ }
 {
     let z = Four {
-        p0: 0.0,
-        p1: 0.0,
-        p2: 0.0,
-        p3: 0.0,
+        p0: -0.0,
+        p1: -0.0,
+        p2: -0.0,
+        p3: -0.0,
     };
     let none = Fours {
         a: z,
@@ -248,7 +264,7 @@ fn tap_pair(
     }
 }
 
-// The phases of four frames by factor 2, two taps at a time.
+// The same by factor 2, two taps at a time.
 fn each_two(
     taps: &[f32; Interp::COEFFICIENTS],
     line: &[f32; LINE],
@@ -258,12 +274,12 @@ fn each_two(
     d: usize,
 ) -> Twos
     requires { ⌜ (a < block) × ((b < block) × ((c < block) × (d < block))) ⌝ }
-    ensures { λ r. ⌜ two (r .a) ≡ phasesBy (now (taps .entry)) twofold (back (now (line .entry)) a 24) ⌝ }
-    ensures { λ r. ⌜ two (r .b) ≡ phasesBy (now (taps .entry)) twofold (back (now (line .entry)) b 24) ⌝ }
-    ensures { λ r. ⌜ two (r .c) ≡ phasesBy (now (taps .entry)) twofold (back (now (line .entry)) c 24) ⌝ }
-    ensures { λ r. ⌜ two (r .d) ≡ phasesBy (now (taps .entry)) twofold (back (now (line .entry)) d 24) ⌝ }
+    ensures { λ r. ⌜ two (r .a) ≡ sumsBy (now (taps .entry)) twofold (back (now (line .entry)) a 24) ⌝ }
+    ensures { λ r. ⌜ two (r .b) ≡ sumsBy (now (taps .entry)) twofold (back (now (line .entry)) b 24) ⌝ }
+    ensures { λ r. ⌜ two (r .c) ≡ sumsBy (now (taps .entry)) twofold (back (now (line .entry)) c 24) ⌝ }
+    ensures { λ r. ⌜ two (r .d) ≡ sumsBy (now (taps .entry)) twofold (back (now (line .entry)) d 24) ⌝ }
 {
-    let z = Two { p0: 0.0, p1: 0.0 };
+    let z = Two { p0: -0.0, p1: -0.0 };
     let none = Twos {
         a: z,
         b: z,

@@ -1,11 +1,11 @@
 -- `largest_phase::each_four` meets its contract: twelve taps in order are the four phases of each frame. Assumes nothing.
 use mathlib.Core.Path.{ap, _∙_}
 use native.Mathlib.Omega.{arith}
-use lib.Ieee.{ofBits}
-use Rattle.interp.specs.Phase.{four, phasesBy}
+use lib.Ieee.{ofBits, neg}
+use Rattle.interp.specs.Phase.{four}
 use Rattle.largest_phase.specs.declared.Fours.{Fours}
 use Rattle.largest_phase.specs.Line.{back}
-use Rattle.largest_phase.specs.Taps.{windows, tapFour}
+use Rattle.largest_phase.specs.Taps.{sumsBy, windows, tapFour}
 use Rattle.largest_phase.proofs.each_four.Statement.{statement}
 use Rattle.largest_phase.proofs.each_four.Tie as tie
 
@@ -46,7 +46,7 @@ tap-four-requires-12 : tie.Need-tap-four-requires-12
 tap-four-requires-12 c κs = ((omega arith, omega arith), c .before .before .before .before .before .before .before .before .before .before .before .pre)
 
 returns : tie.Need-returns
-unfolding phasesBy back ofBits
+unfolding sumsBy back ofBits neg
 returns c =
     let a = c .before .before .before .before .before .before .before .before .before .before .before .before .args in
     let more = tapFour (a .taps .now) (a .line .now) (windows (a .a) (a .b) (a .c) (a .d)) in

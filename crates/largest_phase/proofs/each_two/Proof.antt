@@ -1,11 +1,11 @@
 -- `largest_phase::each_two` meets its contract: twenty-four taps in order are the two phases of each frame. Assumes nothing.
 use mathlib.Core.Path.{ap, _∙_}
 use native.Mathlib.Omega.{arith}
-use lib.Ieee.{ofBits}
-use Rattle.interp.specs.Phase.{two, phasesBy}
+use lib.Ieee.{ofBits, neg}
+use Rattle.interp.specs.Phase.{two}
 use Rattle.largest_phase.specs.declared.Twos.{Twos}
 use Rattle.largest_phase.specs.Line.{back}
-use Rattle.largest_phase.specs.Taps.{windows, tapPair}
+use Rattle.largest_phase.specs.Taps.{sumsBy, windows, tapPair}
 use Rattle.largest_phase.proofs.each_two.Statement.{statement}
 use Rattle.largest_phase.proofs.each_two.Tie as tie
 
@@ -46,7 +46,7 @@ tap-pair-requires-12 : tie.Need-tap-pair-requires-12
 tap-pair-requires-12 c κs = ((omega arith, (omega arith, omega arith)), c .before .before .before .before .before .before .before .before .before .before .before .pre)
 
 returns : tie.Need-returns
-unfolding phasesBy back ofBits
+unfolding sumsBy back ofBits neg
 returns c =
     let a = c .before .before .before .before .before .before .before .before .before .before .before .before .args in
     let more = tapPair (a .taps .now) (a .line .now) (windows (a .a) (a .b) (a .c) (a .d)) in

@@ -9,6 +9,7 @@ use lib.Ieee.{Float}
 use Rattle.interp.specs.Interp.{twofold}
 use Rattle.interp.specs.Phase.{two, phasesBy}
 use Rattle.largest_phase.specs.Largest.{loudest}
+use Rattle.largest_phase.proofs.Zeros.{raised-alike}
 use Rattle.largest_phase.proofs.Quarters.{Quarters, quarters-start, quarters-turn, quarters-end}
 use Rattle.largest_phase.proofs.frames_twofold.Statement.{statement}
 use Rattle.largest_phase.proofs.frames_twofold.Tie as tie
@@ -61,6 +62,7 @@ loop-again c =
     let a = s .args in
     let r = e .result in
     let by = phasesBy (a .taps .now) twofold in
+    let alike = raised-alike (a .taps .now) twofold (a .line .now) (a .peak) in
     let second = l .at + a .run in
     let third = second + a .run in
     let fourth = third + a .run in
@@ -72,10 +74,10 @@ loop-again c =
       omega (arith, t),
       subst (λ (louds : List Float). Quarters by (a .line .now) (a .peak) (a .run) louds (l .at + 1)) (sym stored)
           (quarters-turn by (a .line .now) (a .peak) (a .run) (l .loud) (l .at) second third fourth (loudest (a .peak) (two (r .a))) (loudest (a .peak) (two (r .b))) (loudest (a .peak) (two (r .c))) (loudest (a .peak) (two (r .d))) t (s .pre .0) refl refl refl
-          (ap (loudest (a .peak)) (e .ensures .0))
-          (ap (loudest (a .peak)) (e .ensures .1 .0))
-          (ap (loudest (a .peak)) (e .ensures .1 .1 .0))
-          (ap (loudest (a .peak)) (e .ensures .1 .1 .1))
+          (alike (l .at) (two (r .a)) (e .ensures .0))
+          (alike second (two (r .b)) (e .ensures .1 .0))
+          (alike third (two (r .c)) (e .ensures .1 .1 .0))
+          (alike fourth (two (r .d)) (e .ensures .1 .1 .1))
           (l .inv .1)),
     )
 
