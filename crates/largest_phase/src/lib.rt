@@ -1,8 +1,8 @@
 // The largest absolute phase over the frames of a line: what the true peak is made of.
 ghost use mathlib.Core.Path.{_≡_};
+ghost use mathlib.Core.Bool.{not};
 ghost use Prim.Native.Nat.{ℕ, _+_, _*_, _<_, _≤_, min};
 ghost use lib.ListN.{length, getD, set};
-ghost use mathlib.Core.Bool.{not};
 ghost use lib.Dec.{T};
 ghost use lib.Ieee.{nan, isNan, lt};
 ghost use Rattle.interp.specs.Interp.{fourfold, twofold};
