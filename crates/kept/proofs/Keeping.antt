@@ -8,7 +8,7 @@ use native.Mathlib.Omega.{arith}
 use borrow.Author.Tests.{not-true, lt-ltb, le-ltb, ltb-false}
 use lib.Dec.{T, ltb}
 use lib.ListN.{length, getD}
-use lib.Ieee.{Float}
+use lib.Ieee.{Float, binary64, add}
 use Rattle.tables.specs.Tables.{boundaryAt}
 use Rattle.tables.proofs.Rules.{boundary-positive}
 use Rattle.histogram_bins.specs.Energy.{dropped}
@@ -23,22 +23,26 @@ use Rattle.blocks.specs.Totals.{mostBlocks, onTopOf, none, unsigned, Steady, wi
 use Rattle.blocks.specs.Start.{counts}
 use Rattle.blocks.proofs.Nothing.{nothing-added, steady-added, not-below-unsigned}
 use Rattle.sums.proofs.Looking.{part, part-next, part-end, same}
-use Rattle.kept.specs.Kept.{keptFrom, energyKept, blocksKept, addedFrom, stands, ofQueue}
+use Rattle.kept.specs.Kept.{keptFrom, energyKept, blocksKept, carried, countedFrom, summedFrom, addedFrom, stands, ofQueue}
 
 -- ---- a turn
-module _ (threshold : Float) (totals : Totals) (energies : List Float) (i until : ℕ) where
-  pub added-turn : (d : Float) → i < until → until ≤ length energies
-      → (energy : Float) → energy ≡ energyKept threshold (getD energies i d) → (blocks : ℕ) → blocks ≡ blocksKept threshold (getD energies i d)
-      → addedFrom threshold (withBlocks totals blocks energy) (part (i + 1) until energies) ≡ addedFrom threshold totals (part i until energies)
-  unfolding addedFrom
-  added-turn d h g energy e blocks b =
-      ap (λ (x : Float). addedFrom threshold (withBlocks totals blocks x) (part (i + 1) until energies)) e
-      ∙ ap (λ (n : ℕ). addedFrom threshold (withBlocks totals n (energyKept threshold (getD energies i d))) (part (i + 1) until energies)) b
-      ∙ sym (ap (addedFrom threshold totals) (part-next energies i until d h g))
+module _ {A : Type 0} (step : A → Float → A) (a : A) (energies : List Float) (i until : ℕ) where
+  pub carried-turn : (d : Float) → i < until → until ≤ length energies → (next : A) → next ≡ step a (getD energies i d)
+      → carried step next (part (i + 1) until energies) ≡ carried step a (part i until energies)
+  unfolding carried
+  carried-turn d h g next e =
+      ap (λ (b : A). carried step b (part (i + 1) until energies)) e ∙ sym (ap (carried step a) (part-next energies i until d h g))
 
-  pub added-end : until ≤ i → addedFrom threshold totals (part i until energies) ≡ totals
-  unfolding addedFrom
-  added-end h = ap (addedFrom threshold totals) (part-end energies i until h)
+  pub carried-end : until ≤ i → carried step a (part i until energies) ≡ a
+  unfolding carried
+  carried-end h = ap (carried step a) (part-end energies i until h)
+
+-- what is counted and what is summed, both at once
+pub together : (threshold : Float) (count : ℕ) (sum : Float) (l : List Float)
+    → addedFrom threshold (record { count = count; sum = sum }) l ≡ record { count = countedFrom threshold count l; sum = summedFrom threshold sum l }
+unfolding addedFrom carried
+together threshold count sum [] = refl
+together threshold count sum (energy ∷ rest) = together threshold (count + blocksKept threshold energy) (add binary64 sum (energyKept threshold energy)) rest
 
 -- a block at most
 pub one-more : (threshold energy : Float) (blocks : ℕ) → blocks ≡ blocksKept threshold energy → blocks ≤ 1

@@ -4,7 +4,7 @@ use mathlib.Core.Bool.{Bool, not, _&&_, cond}
 use mathlib.Core.List.{List, [], _∷_}
 use lib.Dec.{ltb}
 use lib.ListN.{length}
-use lib.Ieee.{Float}
+use lib.Ieee.{Float, binary64, add}
 use Rattle.queue.specs.declared.Queue.{Queue}
 use Rattle.queue.specs.Queue.{suits, heldOf}
 use Rattle.history.specs.Set.{queueAt}
@@ -24,6 +24,19 @@ energyKept threshold energy = cond (counts threshold energy) energy (none .sum)
 abbrev pub blocksKept : Float → Float → ℕ
 blocksKept threshold energy = cond (counts threshold energy) 1 0
 
+-- energies one after the other, each of which carries a value on
+unfoldable pub carried : {A : Type 0} → (A → Float → A) → A → List Float → A
+carried step a [] = a
+carried step a (energy ∷ rest) = carried step (step a energy) rest
+
+-- the number of those kept, on top of a count, and their sum on top of another
+abbrev pub countedFrom : Float → ℕ → List Float → ℕ
+countedFrom threshold = carried (λ count energy. count + blocksKept threshold energy)
+
+abbrev pub summedFrom : Float → Float → List Float → Float
+summedFrom threshold = carried (λ sum energy. add binary64 sum (energyKept threshold energy))
+
+-- both at once
 unfoldable pub addedFrom : Float → Totals → List Float → Totals
 addedFrom threshold totals [] = totals
 addedFrom threshold totals (energy ∷ rest) = addedFrom threshold (withBlocks totals (blocksKept threshold energy) (energyKept threshold energy)) rest

@@ -5,7 +5,7 @@ ghost use mathlib.Core.Path.{_≡_};
 ghost use Prim.Native.Nat.{_+_, _-_, _≤_};
 ghost use lib.ListN.{length, take, drop};
 ghost use Rattle.queue.specs.Queue.{longest};
-ghost use Rattle.kept.specs.Kept.{energyKept, blocksKept, addedFrom, stands, ofQueue};
+ghost use Rattle.kept.specs.Kept.{energyKept, blocksKept, countedFrom, summedFrom, addedFrom, stands, ofQueue};
 
 // What an energy adds to the sum of those kept: itself, or 0 below the threshold.
 fn kept_energy(energy: f64, threshold: f64) -> f64
@@ -27,21 +27,44 @@ fn kept_blocks(energy: f64, threshold: f64) -> u64
     1
 }
 
-// What the energies from a place up to another add to running totals. No turn branches on what they are.
+// How many of the energies from a place up to another are kept, on top of a count. They are counted in a loop of their own: where one comparison served the count
+// and the sum, a compiler for x86-64 branched on it.
+fn blocks_from(count: u64, energies: &[f64], from: usize, until: usize, threshold: f64) -> u64
+    requires { ⌜ (from ≤ until) × (until ≤ length (now energies)) × (count + (until - from) ≤ longest) ⌝ }
+    ensures { λ r. ⌜ (r ≡ countedFrom threshold count (take (until - from) (drop from (now (energies .entry))))) × (r ≤ count + (until - from)) ⌝ }
+{
+    let mut count = count;
+    let mut i = from;
+    while i < until {
+        count = count + kept_blocks(energies[i], threshold);
+        i += 1;
+    }
+    count
+}
+
+// And their sum on top of another. No turn branches on what they are.
+fn energies_from(sum: f64, energies: &[f64], from: usize, until: usize, threshold: f64) -> f64
+    requires { ⌜ (from ≤ until) × (until ≤ length (now energies)) ⌝ }
+    ensures { λ r. ⌜ r ≡ summedFrom threshold sum (take (until - from) (drop from (now (energies .entry)))) ⌝ }
+{
+    let mut sum = sum;
+    let mut i = from;
+    while i < until {
+        sum = sum + kept_energy(energies[i], threshold);
+        i += 1;
+    }
+    sum
+}
+
+// What the energies from a place up to another add to running totals.
 fn kept_from(totals: Totals, energies: &[f64], from: usize, until: usize, threshold: f64) -> Totals
     requires { ⌜ (from ≤ until) × (until ≤ length (now energies)) × (totals .count + (until - from) ≤ longest) ⌝ }
     ensures { λ r. ⌜ (r ≡ addedFrom threshold totals (take (until - from) (drop from (now (energies .entry))))) × (r .count ≤ totals .count + (until - from)) ⌝ }
 {
-    let mut count = totals.count;
-    let mut sum = totals.sum;
-    let mut i = from;
-    while i < until {
-        let energy = energies[i];
-        sum = sum + kept_energy(energy, threshold);
-        count = count + kept_blocks(energy, threshold);
-        i += 1;
+    Totals {
+        count: blocks_from(totals.count, energies, from, until, threshold),
+        sum: energies_from(totals.sum, energies, from, until, threshold),
     }
-    Totals { count, sum }
 }
 
 // Whether the queue suits its store, which starts at a place and ends within so many.
