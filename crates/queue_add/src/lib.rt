@@ -26,12 +26,16 @@ fn on_ring(place: usize, maximum: usize) -> usize
     }
 }
 
-// The place after the head: compared before it is counted up, so that neither waits for the other.
+// The place after the head, on the ring. Within the store there is no division, and nothing to wait for from one call to the next.
 fn after(head: usize, maximum: usize) -> usize
     requires { ⌜ head < maximum ⌝ }
     ensures { λ r. ⌜ r ≡ (head + 1) % maximum ⌝ }
 {
-    if head < maximum - 1 { head + 1 } else { 0 }
+    let next = head + 1;
+    if next < maximum {
+        return next;
+    }
+    next % maximum
 }
 
 // The energy is the newest in the queue, and takes the place of a full queue's oldest. Below boundary 0 the energy is dropped.
