@@ -21,7 +21,8 @@ use Rattle.histogram_bins.specs.Energy.{dropped}
 use Rattle.tables.specs.Tables.{boundaryAt}
 use Rattle.tables.proofs.Rules.{boundary-positive}
 use Rattle.layout.specs.Layout.{Order, numberIn, numbersIn}
-use Rattle.queue_reader.specs.QueueRecord.{nanPattern, infinityPattern, patternFits, finiteFits, every, allFit, allFinite, energiesOf}
+use Rattle.queue_reader.specs.QueueRecord.{nanPattern, patternFits, every, allFit, energiesOf}
+use Rattle.queue_reader.specs.Finite.{infinityPattern, finiteFits, allFinite}
 
 -- ---- which patterns fit
 own : (pattern : ℕ) → T (eqb pattern nanPattern) → isNan (ofBits binary64 pattern) ≡ true

@@ -1,1 +1,2 @@
 pub mod QueueRecord
+pub mod Finite

@@ -3,7 +3,7 @@
 use Prim.Native.Nat.{ℕ, _+_, _*_}
 use mathlib.Core.Bool.{Bool, true, not, _&&_, _||_, cond}
 use mathlib.Core.List.{List, [], _∷_, _++_, map}
-use lib.Dec.{eqb, leb, ltb}
+use lib.Dec.{eqb, leb}
 use lib.ListN.{length, drop}
 use lib.Ieee.{Float, binary64, ofBits, toBits, isNan}
 use Rattle.refusals.specs.Refusal.{STORE, LENGTH, CONTENT}
@@ -51,10 +51,6 @@ patternsIn bytes = numbersIn (orderOf QueueKind) energyWidth (heldIn bytes) (dro
 abbrev pub nanPattern : ℕ
 nanPattern = 0x7FF8_0000_0000_0000
 
--- infinity's: every pattern below it is that of a finite float, none of them negative
-abbrev pub infinityPattern : ℕ
-infinityPattern = 0x7FF0_0000_0000_0000
-
 abbrev pub energiesOf : List ℕ → List Float
 energiesOf patterns = map (ofBits binary64) patterns
 
@@ -71,19 +67,12 @@ numbersFit maximum held = leb 1 maximum && (leb maximum longest && leb held maxi
 unfoldable pub patternFits : ℕ → Bool
 patternFits pattern = not (dropped (ofBits binary64 pattern)) && (not (isNan (ofBits binary64 pattern)) || eqb pattern nanPattern)
 
--- the same, of a finite float
-unfoldable pub finiteFits : ℕ → Bool
-finiteFits pattern = ltb pattern infinityPattern && patternFits pattern
-
 unfoldable pub every : (ℕ → Bool) → List ℕ → Bool
 every test [] = true
 every test (pattern ∷ rest) = test pattern && every test rest
 
 abbrev pub allFit : List ℕ → Bool
 allFit patterns = every patternFits patterns
-
-abbrev pub allFinite : List ℕ → Bool
-allFinite patterns = every finiteFits patterns
 
 -- ---- reading
 -- "A read queue starts at place 0 with head 0; other places stay."

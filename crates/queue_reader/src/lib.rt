@@ -16,14 +16,13 @@ ghost use Rattle.queue_reader.specs.QueueRecord.{
   leastLength,
   numbersFit,
   patternFits,
-  finiteFits,
   allFit,
-  allFinite,
   energiesOf,
   bodyRead,
   readQueue,
   said,
 };
+ghost use Rattle.queue_reader.specs.Finite.{finiteFits, allFinite};
 
 // Where the fields of the body start: the maximum, the number of energies held, and the energies.
 const MAXIMUM_AT: usize = 6;

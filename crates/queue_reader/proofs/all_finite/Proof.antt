@@ -8,7 +8,7 @@ use denote.Ref.{now}
 use lib.ListN.{drop}
 use Rattle.fields.proofs.Written.{field-from}
 use Rattle.layout.specs.Layout.{lowFirst, numbersIn}
-use Rattle.queue_reader.specs.QueueRecord.{finiteFits, allFinite}
+use Rattle.queue_reader.specs.Finite.{finiteFits, allFinite}
 use Rattle.queue_reader.proofs.Patterns.{all-left, test-turn, test-end}
 use Rattle.queue_reader.proofs.all_finite.Statement.{statement}
 use Rattle.queue_reader.proofs.all_finite.Tie as tie
