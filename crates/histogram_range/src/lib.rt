@@ -7,7 +7,9 @@ use spans::Range;
 ghost use mathlib.Core.Path.{_≡_};
 ghost use mathlib.Core.List.{List, []};
 ghost use Prim.Native.Nat.{ℕ, _+_, _-_, _*_, _≤_, _<_};
+ghost use lib.IntN.{pos};
 ghost use lib.ListN.{length, getD, take};
+ghost use lib.Ieee.{binary64, ofInt};
 ghost use Rattle.refusals.specs.Outcome.{says, saidBy};
 ghost use Rattle.histogram_bins.specs.Bin.{bins};
 ghost use Rattle.tables.specs.Rows.{energiesARow, energyRows};
@@ -73,6 +75,14 @@ fn add_histories(added: &mut [u64], entries: [Entry; MOST], count: usize, counte
     }
 }
 
+// The blocks of a bin as a float: by way of a signed number, since x86-64 converts no unsigned one of 64 bits.
+fn float(blocks: u64) -> f64
+    requires { ⌜ blocks ≤ mostInBin ⌝ }
+    ensures { λ r. ⌜ r ≡ ofInt binary64 (pos blocks) ⌝ }
+{
+    (blocks as i64) as f64
+}
+
 // A row of bins on top of running totals.
 fn sum_row(totals: Totals, counters: &[u64], row: usize) -> Totals
     requires { ⌜ (length (now counters) ≡ bins) × (row < energyRows) × AtMost mostInBin (now counters) × (totals .count ≤ energiesARow * row * mostInBin) ⌝ }
@@ -86,7 +96,7 @@ fn sum_row(totals: Totals, counters: &[u64], row: usize) -> Totals
     let mut i = 0;
     while i < tables::ENERGIES_A_ROW {
         let blocks = counters[first + i];
-        sum = sum + (blocks as f64) * energies[i];
+        sum = sum + float(blocks) * energies[i];
         count = count + blocks;
         i += 1;
     }

@@ -2,17 +2,16 @@
 -- gives. Assumes nothing.
 use Prim.Native.Nat.{ℕ, _+_, _-_, _*_, _≤_}
 use native.Mathlib.Omega.{arith}
-use mathlib.Core.Path.{_≡_, refl, sym, _∙_}
+use mathlib.Core.Path.{_≡_, refl, sym, ap, _∙_}
 use borrow.Author.Needs.{needs}
 use denote.Ref.{now}
-use lib.Ieee.{nan}
+use lib.Ieee.{Float, nan, binary64, add, mul}
 use lib.ListN.{length, getD}
 use Rattle.tables.specs.Rows.{energiesARow}
 use Rattle.tables.proofs.Rows.{energy-entry}
 use Rattle.blocks.specs.Totals.{placesFrom, rowsFrom}
 use Rattle.blocks.proofs.Running.{places-turn, row-end}
 use Rattle.histogram_range.specs.Counted.{mostInBin}
-use Rattle.histogram_range.proofs.Counting.{in-float}
 use Rattle.histogram_range.proofs.sum_row.Statement.{statement}
 use Rattle.histogram_range.proofs.sum_row.Tie as tie
 
@@ -44,20 +43,17 @@ shared-slice-read-blocks : tie.Need-shared-slice-read-blocks Inv-loop μ-loop
 shared-slice-read-blocks c = search needs
 
 -- the blocks read are at most what a bin of 16 histograms has
-read : (c : tie.After-row-known Inv-loop μ-loop) →
-    let l = c .before .before .before in
+read : (c : tie.In-loop Inv-loop μ-loop) →
+    let l = c .before in
     let s = l .before .before .before in
     getD (now (s .args .counters)) (energiesARow * s .args .row + l .loop .i) 0 ≤ mostInBin
 read c =
-    let l = c .before .before .before in
+    let l = c .before in
     let s = l .before .before .before in
     s .pre .2 (energiesARow * s .args .row + l .loop .i)
 
-int-to-float-sum : tie.Need-int-to-float-sum Inv-loop μ-loop
-int-to-float-sum c =
-    let l = c .before .before .before in
-    let a = l .before .before .before .args in
-    in-float (getD (now (a .counters)) (energiesARow * a .row + l .loop .i) 0) (read c)
+float-requires : tie.Need-float-requires Inv-loop μ-loop
+float-requires c κs = read (c .before)
 
 mul-sum : tie.Need-mul-sum Inv-loop μ-loop
 mul-sum c = omega arith
@@ -66,7 +62,7 @@ array-read-sum : tie.Need-array-read-sum Inv-loop μ-loop
 array-read-sum c = search needs
 
 add-count : tie.Need-add-count Inv-loop μ-loop
-add-count c = omega (arith, read c)
+add-count c = omega (arith, read (c .before .before))
 
 add-i : tie.Need-add-i Inv-loop μ-loop
 add-i c = search needs
@@ -81,10 +77,12 @@ loop-again c =
     let counters = now (a .counters) in
     let i = l .loop .i in
     let bin = energiesARow * a .row + i in
+    let blocks = getD counters bin 0 in
     let energy = getD (l .before .energy-row .result) i nan in (
       omega arith,
-      omega (arith, read c),
-      places-turn counters (record { count = l .loop .count; sum = l .loop .sum }) (a .row) i energy (omega arith)
+      omega (arith, read (c .before .before)),
+      ap (λ (x : Float). placesFrom (record { count = l .loop .count + blocks; sum = add binary64 (l .loop .sum) (mul binary64 x energy) }) (a .row) (i + 1) counters) (c .float .ensures)
+          ∙ places-turn counters (record { count = l .loop .count; sum = l .loop .sum }) (a .row) i energy (omega arith)
           (energy-entry (l .before .energy-row .result) (a .row) i bin (l .before .energy-row .ensures) (omega arith) (omega arith) refl)
           ∙ l .loop .inv .2,
     )
@@ -109,7 +107,7 @@ sum-row-spec =
     add-blocks
     mul-blocks
     shared-slice-read-blocks
-    int-to-float-sum
+    float-requires
     mul-sum
     array-read-sum
     add-count
