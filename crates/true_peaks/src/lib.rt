@@ -1,4 +1,4 @@
-// The true peak of a call over samples of whatever kind: integers become f32 block by block, and floats are heard where they stand.
+// The true peak of a call over samples of whatever kind, block by block: integers become f32, and floats are heard where they stand.
 ghost use mathlib.Core.Path.{_≡_};
 ghost use Prim.Native.Nat.{_+_, _*_, _<_, _≤_};
 ghost use lib.ListN.{length, take, drop};
@@ -41,33 +41,55 @@ fn state_of(memory: [f32; 184], peaks: [f32; 8]) -> TruePeak
     }
 }
 
-// So many samples from place `from` on, by way of a block.
-fn hear(
+// So many integers from place `from` on, by way of a block.
+fn hear_ints(
     rate: u32,
     t: TruePeak,
     channels: usize,
     ints: &[i16],
     from: usize,
     size: usize,
-    block: &mut [f32],
 ) -> TruePeak
     requires { ⌜ checkFrames channels size ≡ passes ⌝ }
     requires { ⌜ from + size ≤ length (now ints) ⌝ }
-    requires { ⌜ size ≤ length (now block) ⌝ }
+    requires { ⌜ size ≤ places ⌝ }
     ensures { λ r. ⌜ r ≡ measured (kindOf rate) (record { channels = channels; samples = take size (drop from (samplesOf16 (now (ints .entry)))) }) t ⌝ }
 {
-    fills::fill_f32_i16(block, &ints[from..]);
+    let mut block: [f32; BLOCK] = [0.0; BLOCK];
+    fills::fill_f32_i16(&mut block, &ints[from..]);
     let m = true_peak::process(rate, t, channels, &block[..size]);
     m.state
 }
 
-// All samples, block by block.
-fn hear_all(rate: u32, t: TruePeak, channels: usize, ints: &[i16]) -> TruePeak
-    requires { ⌜ checkFrames channels (length (now ints)) ≡ passes ⌝ }
-    ensures { λ r. ⌜ r ≡ measured (kindOf rate) (record { channels = channels; samples = samplesOf16 (now (ints .entry)) }) t ⌝ }
+// So many samples from place `from` on, of one kind: integers, or floats where there are no integers.
+fn hear(
+    rate: u32,
+    t: TruePeak,
+    channels: usize,
+    ints: &[i16],
+    floats: &[f32],
+    from: usize,
+    size: usize,
+) -> TruePeak
+    requires { ⌜ checkFrames channels size ≡ passes ⌝ }
+    requires { ⌜ from + size ≤ length (sourceOf (now ints) (now floats)) ⌝ }
+    requires { ⌜ size ≤ places ⌝ }
+    ensures { λ r. ⌜ r ≡ measured (kindOf rate) (record { channels = channels; samples = take size (drop from (sourceOf (now (ints .entry)) (now (floats .entry)))) }) t ⌝ }
 {
-    let mut block: [f32; BLOCK] = [0.0; BLOCK];
-    let frames = ints.len() / channels;
+    if ints.len() == 0 {
+        let end = from + size;
+        let m = true_peak::process(rate, t, channels, &floats[from..end]);
+        return m.state;
+    }
+    hear_ints(rate, t, channels, ints, from, size)
+}
+
+// The state after all samples, block by block, floats too: each channel goes over a block by itself, and a block stays near the processor.
+fn measure(rate: u32, t: TruePeak, channels: usize, ints: &[i16], floats: &[f32]) -> TruePeak
+    requires { ⌜ checkFrames channels (length (sourceOf (now ints) (now floats))) ≡ passes ⌝ }
+    ensures { λ r. ⌜ r ≡ measured (kindOf rate) (record { channels = channels; samples = sourceOf (now (ints .entry)) (now (floats .entry)) }) t ⌝ }
+{
+    let frames = sources::size_of(ints, floats) / channels;
     let most = most(channels);
     let memory = t.memory;
     let peaks = t.peaks;
@@ -80,25 +102,13 @@ fn hear_all(rate: u32, t: TruePeak, channels: usize, ints: &[i16]) -> TruePeak
             w,
             channels,
             ints,
+            floats,
             done * channels,
             count * channels,
-            &mut block,
         );
         done += count;
     }
     w
-}
-
-// The state after all samples, of one kind: integers, or floats where there are no integers.
-fn measure(rate: u32, t: TruePeak, channels: usize, ints: &[i16], floats: &[f32]) -> TruePeak
-    requires { ⌜ checkFrames channels (length (sourceOf (now ints) (now floats))) ≡ passes ⌝ }
-    ensures { λ r. ⌜ r ≡ measured (kindOf rate) (record { channels = channels; samples = sourceOf (now (ints .entry)) (now (floats .entry)) }) t ⌝ }
-{
-    if ints.len() == 0 {
-        let m = true_peak::process(rate, t, channels, floats);
-        return m.state;
-    }
-    hear_all(rate, t, channels, ints)
 }
 
 // The true peaks after a call over interleaved samples. Calls may be cut between any two frames.

@@ -1,72 +1,87 @@
--- `true_peaks::hear` meets its contract: the block's first places hold the samples, whole frames that the true peak does not refuse. Assumes nothing.
+-- `true_peaks::hear` meets its contract: where there are no integers the floats are the samples as they stand, and else the integers are. Assumes nothing.
 use borrow.Author.Needs.{needs}
+use Prim.Native.Nat.{ℕ, _+_, _-_, _≤_}
 use native.Mathlib.Omega.{arith}
 use mathlib.Core.Path.{_≡_, sym, ap, subst, _∙_}
 use mathlib.Core.List.{List}
-use Prim.Native.Nat.{ℕ}
-use lib.ListN.{length, take}
+use lib.ListN.{length, length-map, length-drop, take, drop}
 use lib.Seq.{length-take-le}
 use lib.Ieee.{Float}
+use Rattle.samples.specs.Sample.{sampleOf16}
 use Rattle.calls.specs.Check.{passes}
 use Rattle.calls.specs.Calls.{checkFrames}
+use Rattle.sources.specs.Source.{sourceOf}
+use Rattle.sources.proofs.ByKind.{source-floats, source-ints}
 use Rattle.interp.specs.Interp.{kindOf}
 use Rattle.true_peak_state.specs.TruePeak.{measured}
-use Rattle.true_peaks.proofs.Turns.{block-holds, went-on}
+use Rattle.true_peaks.proofs.Turns.{as-they-stand, went-on}
 use Rattle.true_peaks.proofs.hear.Statement.{statement}
 use Rattle.true_peaks.proofs.hear.Tie as tie
 
--- the block has room for the samples
-long : (c : tie.After-fill-f32-i16) → let s = c .before .before .before .before in length (take (s .args .size) (c .fill-f32-i16 .last .0)) ≡ s .args .size
-long c =
-    let s = c .before .before .before .before in
-    length-take-le (s .args .size) (c .fill-f32-i16 .last .0) (omega (arith, c .fill-f32-i16 .kept .0, s .pre .1 .1))
+-- the floats are the samples
+stand : (c : tie.Then1) → let a = c .before .before .args in sourceOf (a .ints .now) (a .floats .now) ≡ a .floats .now
+stand c = let a = c .before .before .args in source-floats (a .ints .now) (a .floats .now) (c .if1 .taken) ∙ as-they-stand (a .floats .now)
 
-mul-fill-f32-i16 : tie.Need-mul-fill-f32-i16
-mul-fill-f32-i16 c = search needs
+within : (c : tie.Then1) → let a = c .before .before .args in a .from + a .size ≤ length (a .floats .now)
+within c =
+    let s = c .before .before in
+    subst (λ (l : List Float). s .args .from + s .args .size ≤ length l) (stand c) (s .pre .1 .0)
 
-sub-fill-f32-i16 : tie.Need-sub-fill-f32-i16
-sub-fill-f32-i16 c = search needs
+add-end : tie.Need-add-end
+add-end c = omega (arith, within c, c .before .before .good)
 
-part-fill-f32-i16-start : tie.Need-part-fill-f32-i16-start
-part-fill-f32-i16-start c = search needs
+mul-process : tie.Need-mul-process
+mul-process c = omega (arith, within c, c .before .before .good)
 
-part-fill-f32-i16-end : tie.Need-part-fill-f32-i16-end
-part-fill-f32-i16-end c = search needs
+sub-process : tie.Need-sub-process
+sub-process c = search needs
 
-fill-f32-i16-requires : tie.Need-fill-f32-i16-requires
-fill-f32-i16-requires c κs = search needs
+part-process-start : tie.Need-part-process-start
+part-process-start c = search needs
 
-slice-reshare-prefix-process : tie.Need-slice-reshare-prefix-process
-slice-reshare-prefix-process c = search needs
-
-slice-aggregate-process : tie.Need-slice-aggregate-process
-slice-aggregate-process c = sym (long (c .before .before .before))
+part-process-end : tie.Need-part-process-end
+part-process-end c = omega (arith, within c)
 
 process-requires : tie.Need-process-requires
 process-requires c κs = search needs
 
-same-length : tie.Need-same-length
-same-length c = search needs
-
 returns : tie.Need-returns
 returns c =
-    let f = c .before .before .before .before .before in
-    let s = f .before .before .before .before in
+    let q = c .before .before .before in
+    let s = q .before .before in
     let a = s .args in
-    went-on (a .rate) (a .channels) (take (a .size) (f .fill-f32-i16 .last .0)) (a .t) _ (subst (λ (n : ℕ). checkFrames (a .channels) n ≡ passes) (sym (long f)) (s .pre .0)) (c .before .process .ensures .1)
-    ∙ ap (λ (l : List Float). measured (kindOf (a .rate)) (record { channels = a .channels; samples = l }) (a .t)) (block-holds (a .ints .now) (a .from) (a .size) (a .block .now) (f .fill-f32-i16 .last .0) (f .fill-f32-i16 .ensures) (s .pre .1 .0) (s .pre .1 .1))
+    let e : a .from + a .size - a .from ≡ a .size = omega arith in
+    let part = take (a .from + a .size - a .from) (drop (a .from) (a .floats .now)) in
+    let long : length part ≡ a .size =
+    length-take-le (a .from + a .size - a .from) (drop (a .from) (a .floats .now)) (omega (arith, within q, length-drop (a .from) (a .floats .now))) ∙ e in
+    went-on (a .rate) (a .channels) part (a .t) _ (subst (λ (n : ℕ). checkFrames (a .channels) n ≡ passes) (sym long) (s .pre .0)) (c .before .process .ensures .1)
+    ∙ ap (λ (n : ℕ). measured (kindOf (a .rate)) (record { channels = a .channels; samples = take n (drop (a .from) (a .floats .now)) }) (a .t)) e
+    ∙ ap (λ (l : List Float). measured (kindOf (a .rate)) (record { channels = a .channels; samples = take (a .size) (drop (a .from) l) }) (a .t)) (sym (stand q))
+
+hear-ints-requires : tie.Need-hear-ints-requires
+hear-ints-requires c κs =
+    let s = c .before .before in
+    let a = s .args in
+    let e = ap length (source-ints (a .ints .now) (a .floats .now) (c .if1 .left)) ∙ length-map (a .ints .now) sampleOf16 in
+    (s .pre .0, (subst (λ (n : ℕ). a .from + a .size ≤ n) e (s .pre .1 .0), s .pre .1 .1))
+
+returns-2 : tie.Need-returns-2
+returns-2 c =
+    let q = c .before in
+    let a = q .before .before .args in
+    c .hear-ints .ensures
+    ∙ ap (λ (l : List Float). measured (kindOf (a .rate)) (record { channels = a .channels; samples = take (a .size) (drop (a .from) l) }) (a .t)) (sym (source-ints (a .ints .now) (a .floats .now) (q .if1 .left)))
 
 pub hear-spec : {M : Type 1} → statement M
 hear-spec =
     tie.close
     (tie.spec
-    mul-fill-f32-i16
-    sub-fill-f32-i16
-    part-fill-f32-i16-start
-    part-fill-f32-i16-end
-    fill-f32-i16-requires
-    slice-reshare-prefix-process
-    slice-aggregate-process
+    add-end
+    mul-process
+    sub-process
+    part-process-start
+    part-process-end
     process-requires
-    same-length
-    returns)
+    returns
+    hear-ints-requires
+    returns-2)

@@ -1,44 +1,161 @@
--- `true_peaks::measure` meets its contract: where there are no integers the floats are the samples as they stand, and else the integers are. Assumes nothing.
+-- `true_peaks::measure` meets its contract: the samples left, from the state as it is, give what all of them give. Assumes nothing.
 use borrow.Author.Needs.{needs}
-use Prim.Native.Nat.{ℕ}
-use mathlib.Core.Path.{_≡_, sym, ap, subst, _∙_}
+use Prim.Native.Nat.{ℕ, _-_, _*_, _/_, _^_, _≤_, _<_}
+use native.Mathlib.Nat.{zero-mul, div-le-self, mul-le-mul-right}
+use native.Mathlib.Omega.{arith}
+use mathlib.Core.Path.{_≡_, ap, _∙_}
 use mathlib.Core.List.{List}
-use lib.ListN.{length, length-map}
 use lib.Ieee.{Float}
-use Rattle.samples.specs.Sample.{sampleOf16}
-use Rattle.calls.specs.Check.{passes}
-use Rattle.calls.specs.Calls.{checkFrames}
-use Rattle.sources.proofs.ByKind.{source-floats, source-ints}
+use lib.ListN.{length, drop}
+use Rattle.sources.specs.Source.{sourceOf}
+use Rattle.sources.proofs.ByKind.{source-below}
+use Rattle.calls.proofs.Checking.{Framed, framed}
+use Rattle.sources.proofs.Cutting.{Step, step-of}
 use Rattle.interp.specs.Interp.{kindOf}
+use Rattle.true_peak_state.specs.declared.TruePeak.{TruePeak}
 use Rattle.true_peak_state.specs.TruePeak.{measured}
-use Rattle.true_peaks.proofs.Turns.{as-they-stand, went-on}
+use Rattle.true_peak_state.proofs.Independence.{Sized}
+use Rattle.true_peaks.specs.Blocks.{places}
+use Rattle.true_peaks.proofs.Turns.{whole, turn, turn-sized, last}
 use Rattle.true_peaks.proofs.measure.Statement.{statement}
 use Rattle.true_peaks.proofs.measure.Tie as tie
 
-process-requires : tie.Need-process-requires
-process-requires c κs = search needs
+abbrev Inv-loop : tie.InvT-loop
+Inv-loop rate channels ints floats frames most w₀ done₀ w done =
+    (done ≤ frames)
+    × (Sized w
+    × (measured (kindOf rate) (record { channels = channels; samples = drop (done * channels) (sourceOf ints floats) }) w
+    ≡ measured (kindOf rate) (record { channels = channels; samples = sourceOf ints floats }) w₀))
 
-returns : tie.Need-returns
-returns c =
-    let q = c .before .before in
+abbrev μ-loop : tie.MeasureT-loop
+μ-loop rate channels ints floats frames most w₀ done₀ w done = frames - done
+
+-- the call's floats
+abbrev src : tie.Start Inv-loop μ-loop → List Float
+src s = sourceOf (s .args .ints .now) (s .args .floats .now)
+
+ok : (s : tie.Start Inv-loop μ-loop) → Framed (s .args .channels) (length (src s))
+ok s = framed (s .args .channels) (length (src s)) (s .pre)
+
+size-of-requires : tie.Need-size-of-requires Inv-loop μ-loop
+size-of-requires c κs = search needs
+
+div-frames : tie.Need-div-frames Inv-loop μ-loop
+div-frames c = ok (c .before .before) .some
+
+most-requires : tie.Need-most-requires Inv-loop μ-loop
+most-requires c κs = let s = c .before .before in (ok s .some, ok s .few)
+
+state-of-requires : tie.Need-state-of-requires Inv-loop μ-loop
+state-of-requires c κs = search needs
+
+held : (c : tie.After-state-of Inv-loop μ-loop) → Sized (c .state-of .result)
+held c =
+    let e = c .state-of .ensures in
+    record {
+      memory-size = ap (λ (t : TruePeak). length (t .memory)) (e .0) ∙ e .1 .0;
+      peaks-size = ap (λ (t : TruePeak). length (t .peaks)) (e .0) ∙ e .1 .1;
+    }
+
+loop-holds : tie.Need-loop-holds Inv-loop μ-loop
+loop-holds c =
+    let s = c .before .before .before .before .before .before in
+    let a = s .args in
+    let z : 0 * a .channels ≡ 0 = zero-mul (a .channels) in
+    (omega arith, (held c, ap (λ (n : ℕ). measured (kindOf (a .rate)) (record { channels = a .channels; samples = drop n (src s) }) (c .state-of .result)) z))
+
+sub-shorter : tie.Need-sub-shorter Inv-loop μ-loop
+sub-shorter c = search needs
+
+shorter-requires : tie.Need-shorter-requires Inv-loop μ-loop
+shorter-requires c κs = search needs
+
+-- whole frames
+whole-frames : (c : tie.After-state-of Inv-loop μ-loop) →
+    let q = c .before .before .before .before in
     let s = q .before .before in
-    let a = s .args in
-    let e = source-floats (a .ints .now) (a .floats .now) (q .if1 .taken) ∙ as-they-stand (a .floats .now) in
-    went-on (a .rate) (a .channels) (a .floats .now) (a .t) _ (subst (λ (l : List Float). checkFrames (a .channels) (length l) ≡ passes) e (s .pre)) (c .before .process .ensures .1)
-    ∙ ap (λ (l : List Float). measured (kindOf (a .rate)) (record { channels = a .channels; samples = l }) (a .t)) (sym e)
+    q .size-of .result / s .args .channels * s .args .channels ≡ length (src s)
+whole-frames c =
+    let q = c .before .before .before .before in
+    let s = q .before .before in
+    ap (λ (n : ℕ). n / s .args .channels * s .args .channels) (q .size-of .ensures) ∙ ok s .whole
 
-hear-all-requires : tie.Need-hear-all-requires
-hear-all-requires c κs =
-    let s = c .before .before in
-    let a = s .args in
-    let e = ap length (source-ints (a .ints .now) (a .floats .now) (c .if1 .left)) ∙ length-map (a .ints .now) sampleOf16 in
-    subst (λ (n : ℕ). checkFrames (a .channels) n ≡ passes) e (s .pre)
+-- the frames of the block
+sizes : (c : tie.After-shorter Inv-loop μ-loop) →
+    let q = c .before .before .before .before .before .before .before in
+    let s = q .before .before in
+    Step places (s .args .channels) (q .size-of .result / s .args .channels) (length (src s)) (c .before .before .loop .done) (c .shorter .result)
+sizes c =
+    let m = c .before .before .before .before .before .before .most .ensures in
+    step-of (m .0) (m .1) (whole-frames (c .before .before .before)) (c .before .loop-test .taken) (c .shorter .ensures)
 
-returns-2 : tie.Need-returns-2
-returns-2 c =
-    let q = c .before in
-    let a = q .before .before .args in
-    c .hear-all .ensures ∙ ap (λ (l : List Float). measured (kindOf (a .rate)) (record { channels = a .channels; samples = l }) (a .t)) (sym (source-ints (a .ints .now) (a .floats .now) (q .if1 .left)))
+-- the samples are few enough
+small : (s : tie.Start Inv-loop μ-loop) → length (src s) < 2 ^ 63
+small s = source-below (s .args .ints .now) (s .args .floats .now) (2 ^ 63) (omega (arith, s .good)) (omega (arith, s .good))
+
+mul-hear : tie.Need-mul-hear Inv-loop μ-loop
+mul-hear c = omega (arith, sizes c .samples-end, small (c .before .before .before .before .before .before .before .before .before))
+
+mul-hear-2 : tie.Need-mul-hear-2 Inv-loop μ-loop
+mul-hear-2 c = omega (arith, sizes c .block-fits)
+
+hear-requires : tie.Need-hear-requires Inv-loop μ-loop
+hear-requires c κs =
+    let s = c .before .before .before .before .before .before .before .before .before in
+    (whole (s .args .channels) (c .shorter .result) (ok s .some) (ok s .few), (sizes c .samples-end, sizes c .block-fits))
+
+add-done : tie.Need-add-done Inv-loop μ-loop
+add-done c =
+    let h = c .before in
+    let q = h .before .before .before .before .before .before .before in
+    let s = q .before .before in
+    omega (arith, sizes h .block-ends, div-le-self (q .size-of .result) (s .args .channels), q .size-of .ensures, small s)
+
+loop-less : tie.Need-loop-less Inv-loop μ-loop
+loop-less c = let h = c .before in omega (arith, sizes h .forward, h .before .loop-test .taken)
+
+loop-again : tie.Need-loop-again Inv-loop μ-loop
+loop-again c =
+    let h = c .before in
+    let l = h .before .before .loop in
+    let s = h .before .before .before .before .before .before .before .before .before in
+    let a = s .args in
+    let n = sizes h .samples-end in
+    let i = l .inv .1 in (
+      sizes h .block-ends,
+      (
+        turn-sized (kindOf (a .rate)) (a .channels) (ok s .some) (ok s .few) (src s) (l .done) (h .shorter .result) n (l .w) _ (i .0) (c .hear .ensures),
+        turn (kindOf (a .rate)) (a .channels) (ok s .some) (ok s .few) (src s) (l .done) (h .shorter .result) n (l .w) _ (h .before .before .before .state-of .result) (i .0) (c .hear .ensures) (i .1),
+      ),
+    )
+
+returns : tie.Need-returns Inv-loop μ-loop
+returns c =
+    let l = c .before .loop in
+    let v = c .before .before in
+    let s = v .before .before .before .before .before .before in
+    let a = s .args in
+    let n : length (src s) ≤ l .done * a .channels = omega (arith, whole-frames v, mul-le-mul-right (a .channels) (c .loop-test .left)) in
+    last (kindOf (a .rate)) (a .channels) (ok s .few) (src s) (l .done) n (l .w) (v .state-of .result) (l .inv .1 .0) (l .inv .1 .1)
+    ∙ ap (measured (kindOf (a .rate)) (record { channels = a .channels; samples = src s })) (v .state-of .ensures .0)
 
 pub measure-spec : {M : Type 1} → statement M
-measure-spec = tie.close (tie.spec process-requires returns hear-all-requires returns-2)
+measure-spec =
+    tie.close
+    (tie.spec
+    Inv-loop
+    μ-loop
+    size-of-requires
+    div-frames
+    most-requires
+    state-of-requires
+    loop-holds
+    sub-shorter
+    shorter-requires
+    mul-hear
+    mul-hear-2
+    hear-requires
+    add-done
+    loop-less
+    loop-again
+    returns)

@@ -1,0 +1,72 @@
+-- `true_peaks::hear_ints` meets its contract: the block's first places hold the samples, whole frames that the true peak does not refuse. Assumes nothing.
+use borrow.Author.Needs.{needs}
+use native.Mathlib.Omega.{arith}
+use mathlib.Core.Path.{_≡_, sym, ap, subst, _∙_}
+use mathlib.Core.List.{List}
+use Prim.Native.Nat.{ℕ}
+use lib.ListN.{length, take}
+use lib.Seq.{length-take-le}
+use lib.Ieee.{Float}
+use Rattle.calls.specs.Check.{passes}
+use Rattle.calls.specs.Calls.{checkFrames}
+use Rattle.interp.specs.Interp.{kindOf}
+use Rattle.true_peak_state.specs.TruePeak.{measured}
+use Rattle.true_peaks.proofs.Turns.{block-holds, went-on}
+use Rattle.true_peaks.proofs.hear_ints.Statement.{statement}
+use Rattle.true_peaks.proofs.hear_ints.Tie as tie
+
+-- the block has room for the samples
+long : (c : tie.After-fill-f32-i16) → let s = c .before .before .before in length (take (s .args .size) (c .fill-f32-i16 .last .0)) ≡ s .args .size
+long c =
+    let s = c .before .before .before in
+    length-take-le (s .args .size) (c .fill-f32-i16 .last .0) (omega (arith, c .fill-f32-i16 .kept .0, s .pre .1 .1))
+
+slice-aggregate-fill-f32-i16 : tie.Need-slice-aggregate-fill-f32-i16
+slice-aggregate-fill-f32-i16 c = search needs
+
+mul-fill-f32-i16 : tie.Need-mul-fill-f32-i16
+mul-fill-f32-i16 c = search needs
+
+sub-fill-f32-i16 : tie.Need-sub-fill-f32-i16
+sub-fill-f32-i16 c = search needs
+
+part-fill-f32-i16-start : tie.Need-part-fill-f32-i16-start
+part-fill-f32-i16-start c = search needs
+
+part-fill-f32-i16-end : tie.Need-part-fill-f32-i16-end
+part-fill-f32-i16-end c = search needs
+
+fill-f32-i16-requires : tie.Need-fill-f32-i16-requires
+fill-f32-i16-requires c κs = search needs
+
+array-share-prefix-block : tie.Need-array-share-prefix-block
+array-share-prefix-block c = let f = c .before in omega (arith, f .fill-f32-i16 .kept .0, f .before .before .before .pre .1 .1)
+
+slice-aggregate-process : tie.Need-slice-aggregate-process
+slice-aggregate-process c = sym (long (c .before .before))
+
+process-requires : tie.Need-process-requires
+process-requires c κs = search needs
+
+returns : tie.Need-returns
+returns c =
+    let f = c .before .before .before .before in
+    let s = f .before .before .before in
+    let a = s .args in
+    went-on (a .rate) (a .channels) (take (a .size) (f .fill-f32-i16 .last .0)) (a .t) _ (subst (λ (n : ℕ). checkFrames (a .channels) n ≡ passes) (sym (long f)) (s .pre .0)) (c .before .process .ensures .1)
+    ∙ ap (λ (l : List Float). measured (kindOf (a .rate)) (record { channels = a .channels; samples = l }) (a .t)) (block-holds (a .ints .now) (a .from) (a .size) _ (f .fill-f32-i16 .last .0) (f .fill-f32-i16 .ensures) (s .pre .1 .0) (s .pre .1 .1))
+
+pub hear-ints-spec : {M : Type 1} → statement M
+hear-ints-spec =
+    tie.close
+    (tie.spec
+    slice-aggregate-fill-f32-i16
+    mul-fill-f32-i16
+    sub-fill-f32-i16
+    part-fill-f32-i16-start
+    part-fill-f32-i16-end
+    fill-f32-i16-requires
+    array-share-prefix-block
+    slice-aggregate-process
+    process-requires
+    returns)
