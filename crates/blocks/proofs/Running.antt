@@ -55,6 +55,13 @@ bins-split count sum bin (x ∷ l) =
     bins-split (count + x) next (suc bin) l
     ∙ ap {B = Totals} (λ (n : ℕ). record { count = n; sum = sumFrom next (suc bin) l }) {x = count + x + blocksIn l} {y = count + (x + blocksIn l)} (omega arith)
 
+-- count and sum apart are what the bins give
+pub joined : (block : List ℕ) (sum : Float) (start : ℕ) (r : Totals) → r .count ≡ blocksAbove start block → r .sum ≡ sumAbove sum start block → r ≡ binsFrom (onTopOf sum) start (drop start block)
+joined block sum start r ec es =
+    ap {B = Totals} (λ (n : ℕ). record { count = n; sum = r .sum }) {x = r .count} {y = 0 + blocksAbove start block} (omega (arith, ec))
+    ∙ ap {B = Totals} (λ (x : Float). record { count = 0 + blocksAbove start block; sum = x }) es
+    ∙ sym (bins-split 0 sum start (drop start block))
+
 module _ (counters : List ℕ) where
   pub blocks-turn : (bin : ℕ) → bin < length counters → blocksAbove bin counters ≡ getD counters bin 0 + blocksAbove (bin + 1) counters
   unfolding blocksIn

@@ -69,6 +69,10 @@ blocksAbove bin counters = blocksIn (drop bin counters)
 abbrev pub sumAbove : Float → ℕ → List ℕ → Float
 sumAbove sum bin counters = sumFrom sum bin (drop bin counters)
 
+-- the rows whose blocks are added before a gate's start is guessed
+abbrev pub lowerRows : ℕ
+lowerRows = 17
+
 -- ---- queues
 -- energies one after the other, each a block
 unfoldable pub energiesFrom : Totals → List Float → Totals

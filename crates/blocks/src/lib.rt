@@ -9,7 +9,7 @@ ghost use Rattle.histogram_bins.specs.Bin.{bins};
 ghost use Rattle.tables.specs.Tables.{energyAt};
 ghost use Rattle.tables.specs.Rows.{energiesARow, energyRows, energyRow};
 ghost use Rattle.histogram.specs.Histogram.{largestCount};
-ghost use Rattle.blocks.specs.Totals.{mostBlocks, onTopOf, binsFrom, blocksAbove, sumAbove, fromBin};
+ghost use Rattle.blocks.specs.Totals.{mostBlocks, onTopOf, none, binsFrom, blocksAbove, sumAbove, lowerRows, fromBin};
 ghost use Rattle.blocks.specs.Start.{Past, startBin};
 
 // A running count of blocks and the sum of their energies.
@@ -163,4 +163,381 @@ pub fn start_bin(threshold: f64) -> usize
         }
     }
     first + place
+}
+
+// ---- both sums of a gate
+// A gate asks for all blocks of a histogram, and then for those from the bin on that their sum gives. So that the second sum need not wait for the first, this
+// bin is guessed, and the two sums are taken side by side. Nothing is promised of the guess: who asks compares the bins.
+
+// The lower rows are added while the upper ones are weighed for the guess, two at a time. The last of them is both added and weighed, so that all are weighed
+// by then.
+const LOWER_ROWS: usize = 17;
+
+// Four rough sums, of every fourth bin each.
+struct Lanes {
+    a: f32,
+    b: f32,
+    c: f32,
+    d: f32,
+}
+
+// The energies of two rows over those of the two below.
+const TWO_ROWS: f32 = 2.5118864;
+
+// A counter as a float, from its lower 24 bits: above them the guess is wrong, and no more than that.
+fn rough(count: u32) -> f32 {
+    (count % 16777216) as f32
+}
+
+// The blocks of four bins, each times its weight.
+fn four(lanes: Lanes, block: &[u32], bin: usize, weights: Lanes) -> Lanes
+    requires { ⌜ (length (now block) ≡ bins) × (bin + 3 < bins) ⌝ }
+{
+    Lanes {
+        a: lanes.a + rough(block[bin]) * weights.a,
+        b: lanes.b + rough(block[bin + 1]) * weights.b,
+        c: lanes.c + rough(block[bin + 2]) * weights.c,
+        d: lanes.d + rough(block[bin + 3]) * weights.d,
+    }
+}
+
+// The energies of the blocks of a row and the next, on top of those of the rows above, all in energies of the row's first bin. A bin's weight is ten to the
+// hundredth of its place, a tenth of a LU a bin. The weights stand in the code and not in an array, which would be built anew in every turn.
+fn weigh(lanes: Lanes, block: &[u32], row: usize) -> Lanes
+    requires { ⌜ (length (now block) ≡ bins) × (row + 1 < energyRows) ⌝ }
+{
+    let first = tables::ENERGIES_A_ROW * row;
+    let lanes = Lanes {
+        a: lanes.a * TWO_ROWS,
+        b: lanes.b * TWO_ROWS,
+        c: lanes.c * TWO_ROWS,
+        d: lanes.d * TWO_ROWS,
+    };
+    let lanes = four(
+        lanes,
+        block,
+        first,
+        Lanes {
+            a: 1.0000000,
+            b: 1.0232930,
+            c: 1.0471285,
+            d: 1.0715193,
+        },
+    );
+    let lanes = four(
+        lanes,
+        block,
+        first + 4,
+        Lanes {
+            a: 1.0964782,
+            b: 1.1220185,
+            c: 1.1481536,
+            d: 1.1748976,
+        },
+    );
+    let lanes = four(
+        lanes,
+        block,
+        first + 8,
+        Lanes {
+            a: 1.2022644,
+            b: 1.2302688,
+            c: 1.2589254,
+            d: 1.2882496,
+        },
+    );
+    let lanes = four(
+        lanes,
+        block,
+        first + 12,
+        Lanes {
+            a: 1.3182567,
+            b: 1.3489629,
+            c: 1.3803843,
+            d: 1.4125375,
+        },
+    );
+    let lanes = four(
+        lanes,
+        block,
+        first + 16,
+        Lanes {
+            a: 1.4454398,
+            b: 1.4791084,
+            c: 1.5135612,
+            d: 1.5488166,
+        },
+    );
+    let lanes = four(
+        lanes,
+        block,
+        first + 20,
+        Lanes {
+            a: 1.5848932,
+            b: 1.6218101,
+            c: 1.6595869,
+            d: 1.6982437,
+        },
+    );
+    let lanes = four(
+        lanes,
+        block,
+        first + 24,
+        Lanes {
+            a: 1.7378008,
+            b: 1.7782794,
+            c: 1.8197009,
+            d: 1.8620871,
+        },
+    );
+    let lanes = four(
+        lanes,
+        block,
+        first + 28,
+        Lanes {
+            a: 1.9054607,
+            b: 1.9498446,
+            c: 1.9952623,
+            d: 2.0417379,
+        },
+    );
+    let lanes = four(
+        lanes,
+        block,
+        first + 32,
+        Lanes {
+            a: 2.0892961,
+            b: 2.1379621,
+            c: 2.1877616,
+            d: 2.2387211,
+        },
+    );
+    let lanes = four(
+        lanes,
+        block,
+        first + 36,
+        Lanes {
+            a: 2.2908677,
+            b: 2.3442288,
+            c: 2.3988329,
+            d: 2.4547089,
+        },
+    );
+    lanes
+}
+
+// How many blocks there are, the sum of those in the lower rows, and what the guess is made from: the sum below the last of these, and the weight from it on.
+struct Lower {
+    count: u64,
+    sum: f64,
+    below: f64,
+    weight: f32,
+}
+
+// The lower rows are added from the bottom up, and the others weighed from the top down. The four sums of the weight are added one after the other: added in
+// pairs, a compiler takes them through the loop in pairs too.
+fn lower_rows(block: &[u32]) -> Lower
+    requires { ⌜ length (now block) ≡ bins ⌝ }
+    ensures { λ r. ⌜ (r .count ≡ blocksAbove 0 (now (block .entry))) × (sumAbove (r .sum) (energiesARow * lowerRows) (now (block .entry)) ≡ sumAbove (none .sum) 0 (now (block .entry))) ⌝ }
+{
+    let mut lanes = Lanes {
+        a: 0.0,
+        b: 0.0,
+        c: 0.0,
+        d: 0.0,
+    };
+    let mut count: u64 = 0;
+    let mut sum = 0.0;
+    let mut below = 0.0;
+    let mut up = 0;
+    let mut down = LOWER_ROWS;
+    let mut top = tables::ENERGY_ROWS;
+    while up < LOWER_ROWS {
+        down -= 1;
+        top -= 2;
+        below = sum;
+        sum = row_sum(sum, block, up, tables::energy_row(up), 0);
+        lanes = weigh(lanes, block, top);
+        count = row_count(count, block, top + 1, 0);
+        count = row_count(count, block, top, 0);
+        count = row_count(count, block, down, 0);
+        up += 1;
+    }
+    // the last of the lower rows was counted with these and with the others
+    let twice = row_count(0, block, LOWER_ROWS - 1, 0);
+    Lower {
+        count: count - twice,
+        sum,
+        below,
+        weight: lanes.a + lanes.b + lanes.c + lanes.d,
+    }
+}
+
+// Where the gate is likely to start.
+fn likely(lower: Lower) -> usize {
+    let energies = tables::energy_row(LOWER_ROWS - 1);
+    let sum = lower.below + std::num::f32_to_f64_with_nan(lower.weight) * energies[0];
+    start_bin((sum / std::num::nearest_u64_to_f64(lower.count)) * 0.1)
+}
+
+// The rows above the lower ones on top of a sum, up to another.
+fn rows_until(sum: f64, block: &[u32], until: usize) -> f64
+    requires { ⌜ (length (now block) ≡ bins) × (lowerRows ≤ until) × (until ≤ energyRows) ⌝ }
+    ensures { λ r. ⌜ sumAbove r (energiesARow * until) (now (block .entry)) ≡ sumAbove sum (energiesARow * lowerRows) (now (block .entry)) ⌝ }
+{
+    let mut sum = sum;
+    let mut row = LOWER_ROWS;
+    while row < until {
+        sum = row_sum(sum, block, row, tables::energy_row(row), 0);
+        row += 1;
+    }
+    sum
+}
+
+// Two sums over the same rows, and how many blocks these have.
+struct Both {
+    count: u64,
+    sum: f64,
+    above: f64,
+}
+
+// A row's energies on top of either sum.
+fn row_both(before: Both, block: &[u32], row: usize, energies: [f64; 20]) -> Both
+    requires { ⌜ (length (now block) ≡ bins) × (row < energyRows) × (energies ≡ energyRow row) ⌝ }
+    ensures { λ r. ⌜ (r .count ≡ before .count)
+        × (sumAbove (r .sum) (energiesARow * (row + 1)) (now (block .entry)) ≡ sumAbove (before .sum) (energiesARow * row) (now (block .entry)))
+        × (sumAbove (r .above) (energiesARow * (row + 1)) (now (block .entry)) ≡ sumAbove (before .above) (energiesARow * row) (now (block .entry))) ⌝ }
+{
+    let first = tables::ENERGIES_A_ROW * row;
+    let mut sum = before.sum;
+    let mut above = before.above;
+    let mut i = 0;
+    while i < tables::ENERGIES_A_ROW {
+        let energy = (block[first + i] as f64) * energies[i];
+        sum = sum + energy;
+        above = above + energy;
+        i += 1;
+    }
+    Both {
+        count: before.count,
+        sum,
+        above,
+    }
+}
+
+// The rows from one upward on top of either sum. They are counted as in `rows_from`.
+fn rows_both(sum: f64, above: f64, block: &[u32], row: usize) -> Both
+    requires { ⌜ (length (now block) ≡ bins) × (row ≤ energyRows) ⌝ }
+    ensures { λ r. ⌜ (r .count ≡ blocksAbove (energiesARow * row) (now (block .entry))) × (r .sum ≡ sumAbove sum (energiesARow * row) (now (block .entry)))
+        × (r .above ≡ sumAbove above (energiesARow * row) (now (block .entry))) × (r .count + energiesARow * row * largestCount ≤ mostBlocks) ⌝ }
+{
+    let mut both = Both {
+        count: 0,
+        sum,
+        above,
+    };
+    let mut up = row;
+    let mut down = tables::ENERGY_ROWS;
+    while up < tables::ENERGY_ROWS {
+        down -= 1;
+        both = row_both(both, block, up, tables::energy_row(up));
+        both.count = row_count(both.count, block, down, 0);
+        up += 1;
+    }
+    both
+}
+
+// All blocks of a histogram, and beside them those from a bin upward.
+pub struct Sides {
+    pub all: Totals,
+    pub bin: usize,
+    pub above: Totals,
+}
+
+// The two sums one after the other, where the bin is in the lower rows or past the last.
+fn apart(lower: Lower, block: &[u32], bin: usize) -> Sides
+    requires { ⌜ (length (now block) ≡ bins) × (lower .count ≡ blocksAbove 0 (now block))
+        × (sumAbove (lower .sum) (energiesARow * lowerRows) (now block) ≡ sumAbove (none .sum) 0 (now block)) ⌝ }
+    ensures { λ r. ⌜ (r .all ≡ binsFrom none 0 (now (block .entry))) × (r .above ≡ binsFrom none (r .bin) (drop (r .bin) (now (block .entry)))) ⌝ }
+{
+    let upper = rows_from(0, lower.sum, block, LOWER_ROWS);
+    Sides {
+        all: Totals {
+            count: lower.count,
+            sum: upper.sum,
+        },
+        bin,
+        above: bins_from(0.0, block, bin),
+    }
+}
+
+// Both side by side, where it is above the lower rows.
+fn beside(lower: Lower, block: &[u32], bin: usize) -> Sides
+    requires { ⌜ (length (now block) ≡ bins) × (lower .count ≡ blocksAbove 0 (now block))
+        × (sumAbove (lower .sum) (energiesARow * lowerRows) (now block) ≡ sumAbove (none .sum) 0 (now block))
+        × (energiesARow * lowerRows ≤ bin) × (bin < bins) ⌝ }
+    ensures { λ r. ⌜ (r .all ≡ binsFrom none 0 (now (block .entry))) × (r .above ≡ binsFrom none (r .bin) (drop (r .bin) (now (block .entry)))) ⌝ }
+{
+    let row = bin / tables::ENERGIES_A_ROW;
+    let place = bin % tables::ENERGIES_A_ROW;
+    let energies = tables::energy_row(row);
+    let below = rows_until(lower.sum, block, row);
+    let sum = row_sum(below, block, row, energies, 0);
+    let above = row_sum(0.0, block, row, energies, place);
+    let count = row_count(0, block, row, place);
+    let both = rows_both(sum, above, block, row + 1);
+    Sides {
+        all: Totals {
+            count: lower.count,
+            sum: both.sum,
+        },
+        bin,
+        above: Totals {
+            count: count + both.count,
+            sum: both.above,
+        },
+    }
+}
+
+// The bin is guessed when the lower rows are added: before the sums come to it, if it is above them.
+fn block_sides(block: &[u32]) -> Sides
+    requires { ⌜ length (now block) ≡ bins ⌝ }
+    ensures { λ r. ⌜ (r .all ≡ binsFrom none 0 (now (block .entry))) × (r .above ≡ binsFrom none (r .bin) (drop (r .bin) (now (block .entry)))) ⌝ }
+{
+    let lower = lower_rows(block);
+    let bin = likely(lower);
+    if bin < tables::ENERGIES_A_ROW * LOWER_ROWS {
+        return apart(lower, block, bin);
+    }
+    if bin >= histogram_bins::BINS {
+        return apart(lower, block, bin);
+    }
+    beside(lower, block, bin)
+}
+
+// The blocks of the histogram whose counters start at a place, and beside them those from a bin upward, which is likely to be where its gate starts.
+// Where there are not 1,000 counters from that place on, there is no block.
+pub fn side_by_side(counters: &[u32], start: usize) -> Sides
+    ensures { λ r. ⌜ (r .all ≡ fromBin (none .sum) (now (counters .entry)) start 0) × (r .above ≡ fromBin (none .sum) (now (counters .entry)) start (r .bin)) ⌝ }
+{
+    let given = counters.len();
+    if given < histogram_bins::BINS {
+        return no_sides();
+    }
+    if given - histogram_bins::BINS < start {
+        return no_sides();
+    }
+    let end = start + histogram_bins::BINS;
+    block_sides(&counters[start..end])
+}
+
+// No block on either side.
+fn no_sides() -> Sides
+    ensures { λ r. ⌜ (r .all ≡ none) × (r .above ≡ none) ⌝ }
+{
+    Sides {
+        all: Totals { count: 0, sum: 0.0 },
+        bin: 0,
+        above: Totals { count: 0, sum: 0.0 },
+    }
 }

@@ -12,7 +12,7 @@ ghost use Rattle.refusals.specs.Outcome.{saidBy};
 ghost use Rattle.history.specs.Set.{histories, isOutside, isSound, shows, historiesOf, refusalOf, sound};
 ghost use Rattle.blocks.specs.Totals.{mostBlocks, onTopOf, Steady, none};
 ghost use Rattle.blocks.specs.Start.{startBin};
-ghost use Rattle.sums.specs.Sums.{alone};
+ghost use Rattle.sums.specs.Sums.{alone, aboveOf};
 ghost use Rattle.gate.specs.Gate.{gatedOf, allGated, someLeft, gateOf, said};
 
 // The answer: the blocks at or above the gate and the sum of their energies.
@@ -91,16 +91,48 @@ pub fn gate(entries: [Entry; MOST], count: usize, counters: &[u32], energies: &[
     }
 }
 
+// What a single history has at or above the gate. A histogram's was looked at ahead where its bin was guessed right.
+fn gated_ahead(
+    likely: usize,
+    above: Totals,
+    entry: Entry,
+    counters: &[u32],
+    energies: &[f64],
+    threshold: f64,
+) -> Totals
+    requires { ⌜ (isOutside (length (now counters)) (length (now energies)) entry ≡ false) × (isSound (now energies) entry ≡ true)
+        × (above ≡ aboveOf entry (now counters) likely) ⌝ }
+    ensures { λ r. ⌜ r ≡ gatedOf threshold none (shows (now (counters .entry)) (now (energies .entry)) entry) ⌝ }
+{
+    let bin = blocks::start_bin(threshold);
+    let shape = entry.shape;
+    match shape {
+        Shape::Histogram(_) => {
+            if bin == likely {
+                return above;
+            }
+            history_gated(0.0, entry, counters, energies, threshold, bin)
+        }
+        Shape::Queue(_, _) => history_gated(0.0, entry, counters, energies, threshold, bin),
+    }
+}
+
 // The gate question over a single history, without a set of sixteen places.
 pub fn gate_of_history(entry: Entry, counters: &[u32], energies: &[f64]) -> Gated
     ensures { λ r. ⌜ said r ≡ saidBy (gateOf (alone entry (now (counters .entry)) (now (energies .entry)))) ⌝ }
 {
-    let sums = sums::of_history(entry, counters, energies);
+    let ahead = sums::of_history_ahead(entry, counters, energies);
+    let sums = ahead.sums;
+    let above = ahead.above;
     match threshold::of_sums(sums) {
-        Threshold::Energy(energy) => {
-            let bin = blocks::start_bin(energy);
-            some_left(history_gated(0.0, entry, counters, energies, energy, bin))
-        }
+        Threshold::Energy(energy) => some_left(gated_ahead(
+            ahead.bin,
+            above,
+            entry,
+            counters,
+            energies,
+            energy,
+        )),
         Threshold::Loudness(_) => Gated::Refused(refusals::NONE),
         Threshold::Refused(refusal) => Gated::Refused(refusal),
     }

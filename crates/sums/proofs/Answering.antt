@@ -4,12 +4,12 @@ use mathlib.Core.Bool.{Bool, true, false, _&&_}
 use mathlib.Core.List.{List, [], _∷_}
 use Prim.Native.Nat.{ℕ}
 use native.Mathlib.Omega.{arith}
-use lib.ListN.{length, replicate}
+use lib.ListN.{length}
 use lib.Ieee.{Float}
 use Rattle.refusals.specs.Refusal.{SET}
 use Rattle.refusals.specs.Outcome.{refused, answers}
 use Rattle.history.specs.declared.set.Entry.{Entry}
-use Rattle.history.specs.Set.{mostHistories, Histories, histories, historiesOf, chosen, shows, isOutside, outsideSet, isSound, allSound, refusalOf, Verdict, unlessRefused}
+use Rattle.history.specs.Set.{Histories, historiesOf, chosen, shows, isOutside, outsideSet, isSound, allSound, refusalOf, Verdict, unlessRefused}
 use Rattle.history.proofs.Entries.{inside-at}
 use Rattle.history.proofs.Verdicts.{none-outside, set-refused, one-unsound, all-well}
 use Rattle.blocks.specs.declared.Totals.{Totals}
@@ -34,23 +34,20 @@ module _ (h : Histories) where
   unfolding ofSet
   set-seen e fine totals s t = seen h e totals (allTotals none (historiesOf h)) fine s t
 
--- ---- a single history: of sixteen entries one counts
+-- ---- a single history
 module _ (entry : Entry) (counters : List ℕ) (energies : List Float) where
-  abbrev pub sixteen : Histories
-  sixteen = histories (replicate mostHistories entry) 1 counters energies
-
   and-true : (a : Bool) → a && true ≡ a
   and-true true = refl
   and-true false = refl
 
-  pub history-inside : outsideSet sixteen ≡ false → isOutside (length counters) (length energies) entry ≡ false
+  pub history-inside : outsideSet (alone entry counters energies) ≡ false → isOutside (length counters) (length energies) entry ≡ false
   history-inside e = inside-at (length counters) (length energies) (entry ∷ []) 1 0 (omega arith) (omega arith) (none-outside (alone entry counters energies) e .1)
 
-  pub history-outside : outsideSet sixteen ≡ true → ofHistory entry counters energies ≡ refused SET
+  pub history-outside : outsideSet (alone entry counters energies) ≡ true → ofHistory entry counters energies ≡ refused SET
   unfolding ofHistory
   history-outside e = ap (λ (v : Verdict). unlessRefused v (answers (totalsOf (shows counters energies entry)))) (set-refused (alone entry counters energies) e)
 
-  pub history-seen : outsideSet sixteen ≡ false → (fine : Bool) (totals : Totals) → fine ≡ isSound energies entry
+  pub history-seen : outsideSet (alone entry counters energies) ≡ false → (fine : Bool) (totals : Totals) → fine ≡ isSound energies entry
       → (fine ≡ true → totals ≡ totalsOf (shows counters energies entry)) → ofHistory entry counters energies ≡ answered fine totals
   unfolding ofHistory allSound
   history-seen e fine totals s t =

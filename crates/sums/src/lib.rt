@@ -12,7 +12,7 @@ ghost use Rattle.refusals.specs.Outcome.{saidBy};
 ghost use Rattle.queue.specs.Queue.{suits, heldOf};
 ghost use Rattle.history.specs.Set.{histories, queueAt, isOutside, outsideSet, noneBelow, isSound, allSound, shows, allShow};
 ghost use Rattle.blocks.specs.Totals.{mostBlocks, onTopOf, none, energiesFrom};
-ghost use Rattle.sums.specs.Sums.{totalsOf, allTotals, answered, ofHistory, ofSet, said};
+ghost use Rattle.sums.specs.Sums.{totalsOf, allTotals, alone, answered, ofHistory, ofSet, aboveOf, said};
 
 // The answer: the blocks and the sum of their energies.
 pub enum Sums {
@@ -154,14 +154,64 @@ fn answer(seen: Seen) -> Sums
     Sums::Refused(refusals::STORE)
 }
 
+// Whether SET refuses a single history.
+fn outside(entry: Entry, counters: &[u32], energies: &[f64]) -> bool
+    ensures { λ r. ⌜ r ≡ outsideSet (alone entry (now (counters .entry)) (now (energies .entry))) ⌝ }
+{
+    history::set::outside_set([entry; MOST], 1, counters, energies)
+}
+
 // The blocks of a single history and the sum of their energies.
 pub fn of_history(entry: Entry, counters: &[u32], energies: &[f64]) -> Sums
     ensures { λ r. ⌜ said r ≡ saidBy (ofHistory entry (now (counters .entry)) (now (energies .entry))) ⌝ }
 {
-    if history::set::outside_set([entry; MOST], 1, counters, energies) {
+    if outside(entry, counters, energies) {
         return Sums::Refused(refusals::SET);
     }
     answer(look_at_history(entry, counters, energies))
+}
+
+// The same, and of a histogram also the blocks from a bin upward, which is likely to be where its gate starts.
+pub struct Ahead {
+    pub sums: Sums,
+    pub bin: usize,
+    pub above: Totals,
+}
+
+// What a histogram's blocks come to, or SET.
+fn of_histogram(entry: Entry, all: Totals, counters: &[u32], energies: &[f64]) -> Sums
+    requires { ⌜ (isSound (now energies) entry ≡ true)
+        × (isOutside (length (now counters)) (length (now energies)) entry ≡ false → all ≡ totalsOf (shows (now counters) (now energies) entry)) ⌝ }
+    ensures { λ r. ⌜ said r ≡ saidBy (ofHistory entry (now (counters .entry)) (now (energies .entry))) ⌝ }
+{
+    if outside(entry, counters, energies) {
+        return Sums::Refused(refusals::SET);
+    }
+    Sums::Blocks(all)
+}
+
+// The blocks of a single history, the sum of their energies, and what is looked at ahead: the two sums that a gate asks for are then taken side by side.
+pub fn of_history_ahead(entry: Entry, counters: &[u32], energies: &[f64]) -> Ahead
+    ensures { λ r. ⌜ (said (r .sums) ≡ saidBy (ofHistory entry (now (counters .entry)) (now (energies .entry)))) × (r .above ≡ aboveOf entry (now (counters .entry)) (r .bin)) ⌝ }
+{
+    let shape = entry.shape;
+    match shape {
+        Shape::Histogram(start) => {
+            let sides = blocks::side_by_side(counters, start);
+            let all = sides.all;
+            let above = sides.above;
+            Ahead {
+                sums: of_histogram(entry, all, counters, energies),
+                bin: sides.bin,
+                above,
+            }
+        }
+        Shape::Queue(_, _) => Ahead {
+            sums: of_history(entry, counters, energies),
+            bin: 0,
+            above: Totals { count: 0, sum: 0.0 },
+        },
+    }
 }
 
 // Those of a set of histories.

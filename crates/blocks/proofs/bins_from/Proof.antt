@@ -2,24 +2,13 @@
 use Prim.Native.Nat.{ℕ, _+_, _*_, _/_, _%_}
 use native.Mathlib.Omega.{arith}
 use mathlib.Core.Path.{_≡_, sym, ap, _∙_}
-use mathlib.Core.List.{List}
 use borrow.Author.Needs.{needs}
 use denote.Ref.{now}
-use lib.Ieee.{Float}
-use lib.ListN.{drop}
 use Rattle.tables.specs.Rows.{energiesARow}
-use Rattle.blocks.specs.declared.Totals.{Totals}
-use Rattle.blocks.specs.Totals.{onTopOf, binsFrom, blocksAbove, sumAbove}
-use Rattle.blocks.proofs.Running.{bins-end, bins-split}
+use Rattle.blocks.specs.Totals.{onTopOf, blocksAbove, sumAbove}
+use Rattle.blocks.proofs.Running.{bins-end, joined}
 use Rattle.blocks.proofs.bins_from.Statement.{statement}
 use Rattle.blocks.proofs.bins_from.Tie as tie
-
--- count and sum apart are what the bins give
-joined : (block : List ℕ) (sum : Float) (start : ℕ) (r : Totals) → r .count ≡ blocksAbove start block → r .sum ≡ sumAbove sum start block → r ≡ binsFrom (onTopOf sum) start (drop start block)
-joined block sum start r ec es =
-    ap {B = Totals} (λ (n : ℕ). record { count = n; sum = r .sum }) {x = r .count} {y = 0 + blocksAbove start block} (omega (arith, ec))
-    ∙ ap {B = Totals} (λ (x : Float). record { count = 0 + blocksAbove start block; sum = x }) es
-    ∙ sym (bins-split 0 sum start (drop start block))
 
 returns : tie.Need-returns
 returns c = let a = c .before .before .args in (sym (bins-end (now (a .block)) (onTopOf (a .sum)) (a .start) (omega arith)), omega arith)

@@ -1,27 +1,28 @@
--- `sums::of_history` meets its contract: sixteen times the same entry, of which one counts, is a set of one. Assumes nothing.
+-- `sums::of_history` meets its contract: SET, or what was seen of the store. Assumes nothing.
 use mathlib.Core.Path.{_≡_, sym, ap, _∙_}
 use mathlib.Core.Bool.{false}
 use borrow.Author.Needs.{needs}
 use denote.Ref.{now}
 use Rattle.refusals.specs.Outcome.{saidBy}
 use Rattle.history.specs.Set.{outsideSet}
-use Rattle.sums.proofs.Answering.{sixteen, history-inside, history-outside, history-seen}
+use Rattle.sums.specs.Sums.{alone}
+use Rattle.sums.proofs.Answering.{history-inside, history-outside, history-seen}
 use Rattle.sums.proofs.of_history.Statement.{statement}
 use Rattle.sums.proofs.of_history.Tie as tie
 
 -- SET does not refuse it
 inside : (c : tie.Else1) →
     let a = c .before .before .before .before .args in
-    outsideSet (sixteen (a .entry) (now (a .counters)) (now (a .energies))) ≡ false
-inside c = sym (c .before .outside-set .ensures) ∙ c .if1 .left
+    outsideSet (alone (a .entry) (now (a .counters)) (now (a .energies))) ≡ false
+inside c = sym (c .before .outside .ensures) ∙ c .if1 .left
 
-outside-set-requires : tie.Need-outside-set-requires
-outside-set-requires c κs = search needs
+outside-requires : tie.Need-outside-requires
+outside-requires c κs = search needs
 
 returns : tie.Need-returns
 returns c =
     let a = c .before .before .before .before .args in
-    sym (ap saidBy (history-outside (a .entry) (now (a .counters)) (now (a .energies)) (sym (c .before .outside-set .ensures) ∙ c .if1 .taken)))
+    sym (ap saidBy (history-outside (a .entry) (now (a .counters)) (now (a .energies)) (sym (c .before .outside .ensures) ∙ c .if1 .taken)))
 
 look-at-history-requires : tie.Need-look-at-history-requires
 look-at-history-requires c κs =
@@ -44,4 +45,4 @@ returns-2 c =
 pub of-history-spec : {M : Type 1} → statement M
 of-history-spec =
     tie.close
-    (tie.spec outside-set-requires returns look-at-history-requires answer-requires returns-2)
+    (tie.spec outside-requires returns look-at-history-requires answer-requires returns-2)
