@@ -1,11 +1,10 @@
 -- The reading by its cases: each test that puts an energy off the scale, and the tenths of one that is on it. Assumes nothing.
-use mathlib.Core.Path.{_≡_, refl, ap, _∙_}
+use mathlib.Core.Path.{_≡_, refl}
 use mathlib.Core.Bool.{Bool, true, false, _||_, cond}
-use Prim.Native.Nat.{ℕ, suc, _-_, _<_, _≤_, _^_}
+use Prim.Native.Nat.{ℕ, suc, _-_, _≤_}
 use native.Mathlib.Omega.{arith}
 use lib.Dec.{ltb}
 use lib.IntN.{ℤ, pos, negsuc, _+ℤ_}
-use lib.Signed.{mag}
 use lib.Ieee.{Float, lt, le, isNan}
 use mir.Syntax.{w32}
 use mir.Val.{SFits}

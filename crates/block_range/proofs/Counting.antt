@@ -1,16 +1,16 @@
 -- Counts of blocks over bins: how many stand below a bin, one bin more, and the running counts. Assumes nothing.
-use mathlib.Core.Path.{_≡_, refl, sym, ap, _∙_, subst}
+use mathlib.Core.Path.{_≡_, refl, ap, _∙_}
 use mathlib.Core.Bool.{Bool, true, false}
 use mathlib.Core.List.{List, [], _∷_}
-use Prim.Native.Nat.{ℕ, zero, suc, _+_, _-_, _*_, _^_, _≤_, _<_, zero-le}
+use Prim.Native.Nat.{ℕ, zero, suc, _+_, _*_, _≤_, _<_, zero-le}
 use native.Mathlib.Nat.{le-of-suc-le-suc, not-suc-le-zero}
 use native.Mathlib.Numerals.{add-one}
 use native.Mathlib.Omega.{arith}
 use borrow.Author.Tests.{ltb-true, ltb-false}
-use lib.Dec.{T, ltb, le→leb}
+use lib.Dec.{ltb}
 use lib.IntN.{pos}
-use lib.ListN.{length, getD, take, set}
-use lib.Ieee.{binary64, mul, ofInt, inFloat}
+use lib.ListN.{length, getD, take}
+use lib.Ieee.{binary64, mul, ofInt}
 use Rattle.tables.specs.Tables.{energyAt}
 use Rattle.blocks.specs.declared.Totals.{Totals}
 use Rattle.blocks.specs.Totals.{withBlocks, binsFrom}

@@ -2,13 +2,13 @@
 -- from bin to bin, each between its bin's boundaries. Assumes nothing.
 use mathlib.Core.Path.{_≡_, refl, sym, ap, _∙_, subst}
 use mathlib.Core.Logic.{_⊎_, inl, inr}
-use mathlib.Core.Bool.{Bool, true, false, cond, true≢false}
+use mathlib.Core.Bool.{Bool, true, false, cond}
 use Prim.Native.Nat.{ℕ, _+_, _-_, _≤_, _<_}
 use native.Mathlib.Nat.{eq-zero-or-pos}
 use native.Mathlib.Omega.{arith}
 use lib.Dec.{T}
-use lib.Ieee.{Float, nan, lt, le, isNan}
-use Rattle.floats.proofs.Order.{is-true, is-false, lt→le, lt-not-le}
+use lib.Ieee.{Float, lt, isNan}
+use Rattle.floats.proofs.Order.{is-false, lt→le, lt-not-le}
 use Rattle.floats.proofs.Nan.{only-nan}
 use Rattle.floats.proofs.Larger.{total, left-number, right-number, le-lt, lt-lt}
 use Rattle.tables.specs.Tables.{boundaryAt, energyAt}

@@ -1,6 +1,6 @@
 -- A set of histories as the C interface takes it: five numbers an entry, which are its kind (0 a histogram, 1 a queue), start, maximum, head and held.
 use Prim.Native.Nat.{ℕ, zero, suc, _+_, _/_, _%_}
-use mathlib.Core.Bool.{Bool, cond}
+use mathlib.Core.Bool.{cond}
 use mathlib.Core.List.{List, [], _∷_}
 use lib.Dec.{eqb}
 use lib.ListN.{length, getD}

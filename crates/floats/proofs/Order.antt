@@ -2,7 +2,7 @@
 -- Two finite floats compare as the whole numbers that stand over their common denominator, so each law is one on signed whole numbers. Assumes nothing.
 use mathlib.Core.Path.{_≡_, refl, sym, subst}
 use mathlib.Core.Logic.{_⊎_, inl, inr}
-use mathlib.Core.Bool.{Bool, true, false, not, _&&_, _||_, Bool·beq}
+use mathlib.Core.Bool.{Bool, true, false, _&&_, _||_}
 use Prim.Native.Nat.{ℕ, _+_, _*_, _≤_, _<_, zero-le}
 use native.Mathlib.Nat.{le-trans, le-of-eq, le-of-lt, lt-irrefl, eq-or-lt-of-le, eq-zero-or-pos, mul-pos, zero-mul}
 use native.Mathlib.Omega.{arith}

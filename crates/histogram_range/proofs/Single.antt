@@ -1,10 +1,9 @@
 -- A single history added to no block: a histogram's counters as they are, and of a queue no block. Assumes nothing.
 use mathlib.Core.Path.{_≡_, refl, sym, ap, _∙_}
 use mathlib.Core.List.{List, [], _∷_}
-use Prim.Native.Nat.{ℕ, zero, suc, _+_, _≤_, _<_}
-use native.Mathlib.Nat.{suc-inj}
+use Prim.Native.Nat.{ℕ, zero, suc, _+_, _≤_}
 use native.Mathlib.Omega.{arith}
-use lib.ListN.{length, getD, take, drop, replicate, length-take, length-drop}
+use lib.ListN.{length, getD, take, replicate, length-take, length-drop}
 use lib.Ieee.{Float}
 use Rattle.histogram_bins.specs.Bin.{bins}
 use Rattle.histogram.specs.Histogram.{empty, sums}

@@ -8,7 +8,7 @@ ghost use mathlib.Core.Path.{_≡_};
 ghost use mathlib.Core.List.{List, []};
 ghost use Prim.Native.Nat.{ℕ, _+_, _-_, _*_, _≤_, _<_};
 ghost use lib.IntN.{pos};
-ghost use lib.ListN.{length, getD, take};
+ghost use lib.ListN.{length, take};
 ghost use lib.Ieee.{binary64, ofInt};
 ghost use Rattle.refusals.specs.Outcome.{says, saidBy};
 ghost use Rattle.histogram_bins.specs.Bin.{bins};

@@ -1,8 +1,7 @@
 -- What refuses a set of histories, case by case, and what a set that nothing refuses keeps: few entries, none outside, every store sound.
 -- An operation over a set goes by the number of its refusal: 0, or what it answers, and then memory stays. Assumes nothing.
-use mathlib.Core.Path.{_≡_, refl, sym, ap, _∙_}
+use mathlib.Core.Path.{_≡_, refl, sym, ap}
 use mathlib.Core.Bool.{Bool, true, false, _||_, cond, true≢false}
-use mathlib.Core.List.{List}
 use Prim.Native.Nat.{ℕ, _≤_, _<_}
 use native.Mathlib.Omega.{arith}
 use borrow.Author.Tests.{lt-ltb, le-ltb, ltb-false}

@@ -1,6 +1,6 @@
 -- The rules that document 01 (port order, step 5) has the coefficients keep.
 -- "Coefficient 24 is 1; none exceeds 1 in magnitude; coefficients 24+k and 24-k (k to 23) differ by at most 2^-23."
-use mathlib.Core.Bool.{Bool, true, false, Bool·beq, cond}
+use mathlib.Core.Bool.{Bool, false, Bool·beq, cond}
 use Prim.Native.Nat.{ℕ, _+_, _-_, _*_, _^_}
 use lib.Dec.{leb}
 use lib.IntN.{pos}

@@ -2,14 +2,14 @@
 -- An entry's energies stand before those of the rest; none is below boundary 0, which is above zero. Assumes nothing.
 use mathlib.Core.Path.{_≡_, refl, sym, ap, subst, _∙_}
 use mathlib.Core.Bool.{Bool, true, false, not, _&&_, _||_, true≢false}
-use mathlib.Core.List.{List, [], _∷_, _++_, append-assoc}
+use mathlib.Core.List.{List, [], _∷_, _++_}
 use Prim.Native.Nat.{ℕ, zero, suc, _+_, _-_, _*_, _≤_, _<_}
 use native.Mathlib.Nat.{le-of-suc-le-suc, not-suc-le-zero, mul-pos}
 use native.Mathlib.Numerals.{add-one}
 use native.Mathlib.Omega.{arith}
 use borrow.Author.Tests.{lt-ltb}
 use lib.Dec.{T, ltb→lt, lt→ltb}
-use lib.ListN.{length, getD, take, drop, set, length-take, length-append, drop-of-length-le}
+use lib.ListN.{length, getD, take, drop, set, length-take, length-append}
 use lib.Seq.{drop-cons, getD-take, sets}
 use lib.Ieee.{Float, nan, inf, fin, up, down, lt, le, ne, isNan}
 use lib.Ieee.Fits.{up-pos, down-pos}

@@ -7,7 +7,7 @@ use lib.ListN.{length, drop}
 use lib.Ieee.{Float, isNan}
 use Rattle.refusals.specs.Refusal.{ROOM}
 use Rattle.refusals.specs.Outcome.{Outcome, went, refused}
-use Rattle.history.specs.Set.{History, counted, listed, Histories, historiesOf, Verdict, sound, refusing, refusalOf, unlessRefused}
+use Rattle.history.specs.Set.{History, counted, listed, Histories, historiesOf, refusalOf, unlessRefused}
 use Rattle.rising_order.specs.Order.{inOrder}
 use Rattle.spans.specs.Span.{Span, notANumber}
 use Rattle.rising_range.specs.Rising.{listedSpan}

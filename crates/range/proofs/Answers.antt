@@ -1,5 +1,5 @@
 -- What the range over a set comes to, by how many of its histories are queues. Each law settles the tests of `rangeOver`. Assumes nothing.
-use mathlib.Core.Path.{_≡_, refl, sym, ap, _∙_}
+use mathlib.Core.Path.{_≡_, refl, ap}
 use mathlib.Core.List.{List, [], _∷_}
 use Prim.Native.Nat.{ℕ, suc, _+_, _≤_, _<_}
 use native.Mathlib.Omega.{arith}
@@ -7,7 +7,7 @@ use borrow.Author.Tests.{eq-eqb, ne-eqb}
 use lib.ListN.{length, getD, take, drop, length-take}
 use lib.Ieee.{Float}
 use Rattle.refusals.specs.Refusal.{MODE}
-use Rattle.refusals.specs.Outcome.{Outcome, went, refused, Question, answers, Said, refusal, saidBy, keptBy}
+use Rattle.refusals.specs.Outcome.{went, refused, answers, refusal, saidBy, keptBy}
 use Rattle.histogram.specs.Histogram.{empty}
 use Rattle.history.specs.declared.set.Entry.{Entry}
 use Rattle.history.specs.Set.{

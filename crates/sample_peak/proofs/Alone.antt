@@ -1,6 +1,6 @@
 -- One channel alone: its peak after a call is its own before it and its own samples, whatever the other channels hold, and "places past the channel count stay".
 -- So one channel's samples never alter another channel's peak. Assumes nothing.
-use Prim.Native.Nat.{ℕ, _+_, _≤_, _<_}
+use Prim.Native.Nat.{ℕ, _≤_, _<_}
 use native.Mathlib.Omega.{arith}
 use mathlib.Core.Path.{_≡_}
 use mathlib.Core.List.{List}

@@ -1,11 +1,11 @@
 -- The largest magnitude by lanes: lane j of a block has every `lanes`-th place from j on, and `each` lanes are of one channel.
 -- The largest of the lanes' largest is the channel's, for a largest magnitude is the same in whatever order the places are taken. Assumes nothing.
-use Prim.Native.Nat.{ℕ, zero, suc, _+_, _-_, _*_, _/_, _%_, _≤_, _<_}
+use Prim.Native.Nat.{ℕ, zero, suc, _+_, _*_, _/_, _%_, _≤_, _<_}
 use native.Mathlib.Nat.{suc-mul, add-mul, mul-assoc, mul-comm, mul-le-mul-right, div-add-mod', mod-lt, not-suc-le-zero, lt-of-not-le, lt-irrefl, eq-zero-or-pos, zero-mul}
 use native.Mathlib.Omega.{arith}
 use mathlib.Core.Path.{_≡_, refl, ap, sym, subst, _∙_}
 use mathlib.Core.Logic.{_⊎_, inl, inr}
-use mathlib.Core.Bool.{Bool, true, false, true≢false}
+use mathlib.Core.Bool.{true, false, true≢false}
 use mathlib.Core.List.{List, [], _∷_}
 use lib.Dec.{T}
 use lib.ListN.{length, getD}

@@ -1,8 +1,8 @@
 -- The frames of a channel that are left after the first of them: they lie within the block, and from the largest of the first they give the largest of all. Assumes nothing.
-use Prim.Native.Nat.{ℕ, _+_, _-_, _*_, _≤_, _<_}
+use Prim.Native.Nat.{ℕ, _+_, _-_, _*_, _≤_}
 use native.Mathlib.Omega.{arith}
 use mathlib.Core.Path.{_≡_, ap, sym, _∙_}
-use mathlib.Core.List.{List, _++_}
+use mathlib.Core.List.{List}
 use lib.Ieee.{Float}
 use Rattle.samples.specs.Frames.{column}
 use Rattle.samples.proofs.Columns.{column-append}

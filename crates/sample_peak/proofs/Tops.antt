@@ -9,12 +9,11 @@ use mathlib.Core.Bool.{Bool, true, false, cond, true≢false}
 use mathlib.Core.List.{List}
 use borrow.Author.Tests.{ltb-false}
 use lib.Dec.{T}
-use lib.IntN.{ℤ}
-use lib.ListN.{length, getD}
+use lib.ListN.{getD}
 use lib.Ieee.{Float, nan, inf, fin, binary64, up, down, lt, isNan, fits}
 use lib.Ieee.Fits.{down-pos}
 use Rattle.floats.proofs.Order.{is-true}
-use Rattle.floats.proofs.Larger.{left-number, right-number, irreflexive, lt-lt}
+use Rattle.floats.proofs.Larger.{right-number, irreflexive, lt-lt}
 use Rattle.samples.proofs.Written.{same-float}
 use Rattle.samples.specs.Frames.{silence, column}
 use Rattle.sample_peak.specs.Peak.{absolute, greater, largestFrom}

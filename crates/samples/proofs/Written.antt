@@ -1,14 +1,14 @@
 -- Two floats that a format holds and that have the same sign and size are the same float: a float is written in one way, with an odd number or as a zero.
 -- Of two odd numbers times powers of two that are equal, the numbers are equal and so are the powers. Assumes nothing.
 use mathlib.Core.Path.{_≡_, refl, sym, ap, subst, _∙_}
-use mathlib.Core.Bool.{Bool, true, false, _&&_}
-use Prim.Native.Nat.{ℕ, zero, suc, _+_, _*_, _%_, _^_, _≤_, _<_}
-use native.Mathlib.Nat.{mul-one, one-mul, zero-mul, mul-assoc, mul-comm, mul-left-comm, mul-right-comm, mul-pos, zero-lt-suc, lt-irrefl, eq-of-mul-eq-mul-right, pow-suc, pow-succ'}
+use mathlib.Core.Bool.{Bool, _&&_}
+use Prim.Native.Nat.{ℕ, zero, suc, _+_, _*_, _%_, _^_, _<_}
+use native.Mathlib.Nat.{mul-one, one-mul, zero-mul, mul-assoc, mul-left-comm, mul-right-comm, mul-pos, zero-lt-suc, lt-irrefl, eq-of-mul-eq-mul-right, pow-suc, pow-succ'}
 use native.Mathlib.Omega.{arith}
 use lib.Dec.{T, eqb, leb, ltb, eqb→eq}
 use lib.IntN.{ℤ, pos, negsuc}
 use lib.Pow.{pow-add, pow-pos}
-use lib.Ieee.{Float, nan, inf, fin, Format, prec, emax, low, up, down, fits}
+use lib.Ieee.{Float, fin, Format, prec, emax, low, up, down, fits}
 use lib.Ieee.Exact.{HasValue}
 use lib.Ieee.Fits.{and-l, down-pos, up-pos}
 

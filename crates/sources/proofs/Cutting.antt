@@ -1,5 +1,5 @@
 -- A call in blocks: a block holds the samples from some frame on, and a channel's samples before it and its own, one after the other, are that channel's samples. Assumes nothing.
-use Prim.Native.Nat.{ℕ, zero, suc, _+_, _-_, _*_, _/_, _^_, _≤_, _<_, min}
+use Prim.Native.Nat.{ℕ, _+_, _-_, _*_, _/_, _^_, _≤_, _<_, min}
 use native.Mathlib.Nat.{min-le-left, min-le-right, mul-le-mul-right, add-mul, div-add-mod', mod-lt, zero-mul, lt-irrefl, eq-zero-or-pos}
 use mathlib.Core.Logic.{⊎-elim}
 use native.Mathlib.Omega.{arith}

@@ -1,6 +1,6 @@
 -- One channel alone: its memory after a call is its own before it and its own samples, whatever the other channels hold.
 -- So one channel's samples never alter another channel's state. Assumes nothing.
-use Prim.Native.Nat.{ℕ, _+_, _≤_, _<_}
+use Prim.Native.Nat.{ℕ, _+_, _<_}
 use native.Mathlib.Omega.{arith}
 use mathlib.Core.Path.{_≡_, subst}
 use mathlib.Core.Bool.{cond}

@@ -1,12 +1,12 @@
 -- The two passes over the histories of a set, an entry at a time: what each gives is added, and the rest goes on from there.
 -- The definitions go by recursion on the histories, and these are shown in the entries' order. Assumes nothing.
-use mathlib.Core.Path.{_≡_, refl, sym, ap, _∙_}
-use mathlib.Core.List.{List, [], _∷_}
+use mathlib.Core.Path.{_≡_, sym, ap, _∙_}
+use mathlib.Core.List.{List}
 use Prim.Native.Nat.{ℕ, _+_, _≤_, _<_}
 use lib.ListN.{length, getD, take, drop}
 use lib.Ieee.{Float}
 use Rattle.history.specs.declared.set.Entry.{Entry}
-use Rattle.history.specs.Set.{History, shows, allShow}
+use Rattle.history.specs.Set.{shows, allShow}
 use Rattle.history.proofs.Entries.{past-the-last, shows-next, shows-end}
 use Rattle.blocks.specs.declared.Totals.{Totals}
 use Rattle.blocks.specs.Totals.{withBlocks}

@@ -1,7 +1,6 @@
 -- `bin_search::reading` meets its contract: each refusing test puts the energy off the scale, and past all three it is on it.
 -- Assumes nothing.
 use mathlib.Core.Path.{_≡_, sym, ap, _∙_}
-use mathlib.Core.Bool.{false}
 use Prim.Native.Nat.{_<_}
 use borrow.Author.Needs.{needs}
 use native.Mathlib.Nat.{le-of-lt}
@@ -9,11 +8,9 @@ use native.Mathlib.Omega.{arith}
 use lib.Ieee.{Float, lt, le}
 use lib.IntN.{negsuc, pos, _+ℤ_}
 use mir.Syntax.{w32}
-use mir.Val.{SFits, toZ}
+use mir.Val.{toZ}
 use mir.ValLaws.{toZ-ofZ, toZ-pos}
-use Rattle.refusals.specs.Outcome.{saidBy}
 use Rattle.floats.proofs.Nan.{differs}
-use Rattle.bin_search.specs.Reading.{readingOf}
 use Rattle.histogram_bins.proofs.Bins.{bin-below}
 use Rattle.bin_search.proofs.Readings.{off-scale, on-scale, nan-off, low-off, high-off, none-off, tenths-fit}
 use Rattle.bin_search.proofs.reading.Statement.{statement}

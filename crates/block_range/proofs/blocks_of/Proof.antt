@@ -1,11 +1,10 @@
 -- `block_range::blocks_of` meets its contract. The invariant: the sum is that of the bins passed. Assumes nothing.
 use mathlib.Core.Path.{_≡_, ap, _∙_}
-use mathlib.Core.List.{List}
-use Prim.Native.Nat.{ℕ, _+_, _-_, _*_, _≤_}
+use Prim.Native.Nat.{ℕ, _+_, _-_, _≤_}
 use native.Mathlib.Omega.{arith}
 use borrow.Author.Needs.{needs}
 use denote.Ref.{now}
-use lib.ListN.{length, getD, take}
+use lib.ListN.{take}
 use Rattle.histogram.specs.Histogram.{largestCount}
 use Rattle.block_range.specs.Counted.{blocksIn}
 use Rattle.block_range.proofs.Counting.{blocks-more, blocks-up-to}

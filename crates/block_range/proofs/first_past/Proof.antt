@@ -1,11 +1,10 @@
 -- `block_range::first_past` meets its contract. The invariant: what stands below `bin` is known, and does not reach the rank. Assumes nothing.
 use mathlib.Core.Path.{_≡_}
-use mathlib.Core.List.{List}
-use Prim.Native.Nat.{ℕ, _+_, _-_, _*_, _≤_}
+use Prim.Native.Nat.{_-_, _≤_}
 use native.Mathlib.Omega.{arith}
 use borrow.Author.Needs.{needs}
 use denote.Ref.{now}
-use lib.ListN.{length, getD, take}
+use lib.ListN.{take}
 use Rattle.histogram_bins.specs.Bin.{bins}
 use Rattle.histogram.specs.Histogram.{largestCount}
 use Rattle.block_range.specs.Counted.{blocksIn}

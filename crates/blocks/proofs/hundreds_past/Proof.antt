@@ -1,10 +1,10 @@
 -- `blocks::hundreds_past` meets its contract. The invariant: the rows before are past. Assumes nothing.
-use Prim.Native.Nat.{ℕ, _+_, _-_, _*_, _%_, _≤_}
+use Prim.Native.Nat.{_+_, _-_, _*_, _%_, _≤_}
 use native.Mathlib.Omega.{arith}
-use mathlib.Core.Path.{_≡_, refl, sym, ap, _∙_}
-use mathlib.Core.Logic.{inl, inr}
+use mathlib.Core.Path.{_≡_, refl}
+use mathlib.Core.Logic.{inl}
 use borrow.Author.Needs.{needs}
-use lib.Ieee.{Float, nan, lt}
+use lib.Ieee.{nan}
 use lib.ListN.{getD}
 use Rattle.tables.specs.Rows.{energiesARow, energyRows}
 use Rattle.tables.proofs.Rows.{energy-entry}

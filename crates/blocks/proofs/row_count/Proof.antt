@@ -1,10 +1,9 @@
 -- `blocks::row_count` meets its contract. The invariant: with the blocks from place `i` of the row on there are as many as at first. Assumes nothing.
 use Prim.Native.Nat.{ℕ, _+_, _-_, _*_, _≤_}
 use native.Mathlib.Omega.{arith}
-use mathlib.Core.Path.{_≡_, refl, ap, _∙_}
+use mathlib.Core.Path.{_≡_, refl, ap}
 use borrow.Author.Needs.{needs}
 use denote.Ref.{now}
-use lib.ListN.{length, getD}
 use Rattle.tables.specs.Rows.{energiesARow}
 use Rattle.histogram.specs.Histogram.{largestCount}
 use Rattle.blocks.specs.Totals.{blocksAbove}

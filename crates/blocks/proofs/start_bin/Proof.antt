@@ -2,14 +2,14 @@
 use Prim.Native.Nat.{ℕ, _+_, _-_, _*_, _≤_, _<_}
 use native.Mathlib.Omega.{arith}
 use mathlib.Core.Path.{_≡_, refl, sym, ap, _∙_, subst}
-use mathlib.Core.Logic.{_⊎_, inl, inr, ⊎-elim}
+use mathlib.Core.Logic.{inl, inr, ⊎-elim}
 use mathlib.Core.Bool.{false}
 use borrow.Author.Needs.{needs}
 use lib.Ieee.{Float, nan, lt}
 use mathlib.Core.List.{List}
 use lib.ListN.{getD}
 use Rattle.tables.specs.Tables.{energyAt}
-use Rattle.tables.specs.Rows.{energiesARow, energyRows, energyRow}
+use Rattle.tables.specs.Rows.{energiesARow, energyRows}
 use Rattle.tables.proofs.Rows.{energy-entry}
 use Rattle.blocks.specs.Start.{Past}
 use Rattle.blocks.proofs.Start.{past-on, reached}

@@ -1,8 +1,7 @@
 -- `calls::all_admitted` meets its contract: the bytes left are admitted exactly where all are. Assumes nothing.
 use borrow.Author.Needs.{needs}
-use Prim.Native.Nat.{ℕ, _-_, _≤_}
-use native.Mathlib.Omega.{arith}
-use mathlib.Core.Path.{_≡_, refl, sym, ap, _∙_}
+use Prim.Native.Nat.{_-_, _≤_}
+use mathlib.Core.Path.{_≡_, sym, ap, _∙_}
 use lib.ListN.{length, drop, drop-of-length-le}
 use Rattle.calls.specs.Calls.{allAdmitted}
 use Rattle.calls.proofs.Checking.{admitted-not, admitted-next}

@@ -3,7 +3,6 @@ use mathlib.Core.Path.{_≡_, _∙_}
 use denote.Ref.{now}
 use Prim.Native.Nat.{ℕ}
 use Rattle.queue.specs.declared.Queue.{Queue}
-use Rattle.history.specs.declared.set.Entry.{Entry}
 use Rattle.entries.specs.Sets.{entryOf, entryAt}
 use Rattle.entries.proofs.Asked.{histogram-entry, queue-entry, no-entry, same-numbers}
 use borrow.Author.Needs.{needs}

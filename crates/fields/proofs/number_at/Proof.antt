@@ -1,12 +1,12 @@
 -- `fields::number_at` meets its contract. The loop's invariant: `number` is the field of the bytes from `left` on. The measure is `left`.
 -- Assumes nothing.
-use mathlib.Core.Path.{_≡_, refl, sym, ap, _∙_}
-use Prim.Native.Nat.{ℕ, suc, _+_, _-_, _*_, _^_, _≤_, _<_}
+use mathlib.Core.Path.{_≡_, sym, ap, _∙_}
+use Prim.Native.Nat.{ℕ, _+_, _-_, _*_, _^_, _≤_, _<_}
 use native.Mathlib.Nat.{add-zero}
 use native.Mathlib.Omega.{arith}
 use borrow.Author.Needs.{needs}
 use denote.Ref.{now}
-use lib.ListN.{length, getD}
+use lib.ListN.{getD}
 use Rattle.fields.specs.Field.{fieldAt, narrowed}
 use Rattle.fields.proofs.Fields.{first-byte, past-end, narrowed-small, seven-bytes}
 use Rattle.fields.proofs.number_at.Statement.{statement}

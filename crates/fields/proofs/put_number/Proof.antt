@@ -4,7 +4,6 @@ use mathlib.Core.List.{_++_}
 use Prim.Native.Nat.{ℕ, _-_, _≤_}
 use native.Mathlib.Omega.{arith}
 use borrow.Author.Needs.{needs}
-use denote.Ref.{now}
 use lib.ListN.{length, length-set, take}
 use Rattle.fields.specs.Field.{lowBytes}
 use Rattle.fields.proofs.Written.{low-turn, low-end}

@@ -1,8 +1,6 @@
 -- `floats::pattern_of` meets its contract: NaN is told apart first, and any other float has one pattern. Assumes nothing.
-use mathlib.Core.Path.{refl, sym, ap, _∙_}
-use mathlib.Core.Bool.{not}
+use mathlib.Core.Path.{sym, _∙_}
 use borrow.Author.Needs.{needs}
-use lib.Dec.{T}
 use lib.Ieee.{toBits}
 use Rattle.floats.proofs.Nan.{differs, only-nan}
 use Rattle.floats.proofs.pattern_of.Statement.{statement}

@@ -1,7 +1,6 @@
 -- `histogram::reset` meets its contract: `clear` empties a histogram, and no other store is touched. Assumes nothing.
 use mathlib.Core.Path.{refl}
 use borrow.Author.Needs.{needs}
-use denote.Ref.{now}
 use Rattle.histogram.proofs.Counters.{clear-store, clear-went}
 use Rattle.histogram.proofs.reset.Statement.{statement}
 use Rattle.histogram.proofs.reset.Tie as tie

@@ -1,6 +1,6 @@
 -- `histogram_merge::add_all` meets its contract. The invariant: the counters before `bin` are sums, and the others are as they were.
 -- Assumes nothing.
-use Prim.Native.Nat.{ℕ, _+_, _-_, _≤_, _<_}
+use Prim.Native.Nat.{_-_, _≤_}
 use native.Mathlib.Omega.{arith}
 use mathlib.Core.Path.{_≡_, _∙_}
 use borrow.Author.Needs.{needs}

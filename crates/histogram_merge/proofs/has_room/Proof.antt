@@ -1,6 +1,6 @@
 -- `histogram_merge::has_room` meets its contract. The invariant: what was found before `bin`, with what the bins from there on give, is what all give.
 -- Assumes nothing.
-use Prim.Native.Nat.{ℕ, _-_, _≤_}
+use Prim.Native.Nat.{_-_, _≤_}
 use native.Mathlib.Omega.{arith}
 use mathlib.Core.Path.{_≡_, refl, sym, _∙_}
 use borrow.Author.Needs.{needs}

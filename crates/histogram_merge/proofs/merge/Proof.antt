@@ -1,7 +1,6 @@
 -- `histogram_merge::merge` meets its contract, case by case: the look comes before anything is added. Assumes nothing.
-use mathlib.Core.Path.{_≡_, refl, ap, sym, _∙_}
+use mathlib.Core.Path.{_≡_, refl, sym, _∙_}
 use borrow.Author.Needs.{needs}
-use native.Mathlib.Omega.{arith}
 use denote.Ref.{now}
 use Rattle.histogram_merge.specs.Merge.{room}
 use Rattle.histogram_merge.proofs.Cases.{merge-store, merge-store-from, merge-full, merge-went}

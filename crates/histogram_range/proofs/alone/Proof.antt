@@ -1,13 +1,11 @@
 -- `histogram_range::alone` meets its contract, shape by shape. Assumes nothing.
-use mathlib.Core.Path.{_≡_, sym, ap, subst, _∙_}
-use mathlib.Core.List.{List, []}
-use Prim.Native.Nat.{ℕ, _+_, _≤_}
-use native.Mathlib.Omega.{arith}
+use mathlib.Core.Path.{sym, ap, subst, _∙_}
+use mathlib.Core.List.{[]}
+use Prim.Native.Nat.{_≤_}
 use borrow.Author.Needs.{needs}
 use denote.Ref.{now}
 use lib.ListN.{length}
 use Rattle.refusals.specs.Outcome.{Said, says}
-use Rattle.histogram_bins.specs.Bin.{bins}
 use Rattle.histogram.specs.Histogram.{empty}
 use Rattle.history.specs.declared.set.Shape.{Shape}
 use Rattle.history.specs.Set.{blockEnd, shapeShows}

@@ -1,9 +1,8 @@
 -- `histogram_range::ranked` meets its contract: the blocks below the gate, those left, and the bins of the two ranks. Assumes nothing.
-use mathlib.Core.Path.{_≡_, sym, ap, _∙_}
+use mathlib.Core.Path.{sym, ap, _∙_}
 use mathlib.Core.List.{List}
-use Prim.Native.Nat.{ℕ, _+_, _-_}
+use Prim.Native.Nat.{ℕ, _-_}
 use native.Mathlib.Omega.{arith}
-use denote.Ref.{now}
 use lib.Ieee.{Float}
 use Rattle.refusals.specs.Outcome.{Said, says}
 use Rattle.tables.specs.Tables.{energyAt}

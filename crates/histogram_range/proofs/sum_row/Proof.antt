@@ -1,12 +1,12 @@
 -- `histogram_range::sum_row` meets its contract. The invariant: the bins from place `i` of the row on, on top of what was counted, give what the whole row
 -- gives. Assumes nothing.
-use Prim.Native.Nat.{ℕ, _+_, _-_, _*_, _≤_}
+use Prim.Native.Nat.{_+_, _-_, _*_, _≤_}
 use native.Mathlib.Omega.{arith}
 use mathlib.Core.Path.{_≡_, refl, sym, ap, _∙_}
 use borrow.Author.Needs.{needs}
 use denote.Ref.{now}
 use lib.Ieee.{Float, nan, binary64, add, mul}
-use lib.ListN.{length, getD}
+use lib.ListN.{getD}
 use Rattle.tables.specs.Rows.{energiesARow}
 use Rattle.tables.proofs.Rows.{energy-entry}
 use Rattle.blocks.specs.Totals.{placesFrom, rowsFrom}

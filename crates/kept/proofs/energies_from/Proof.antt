@@ -5,7 +5,6 @@ use mathlib.Core.Path.{_≡_, refl, sym, ap, _∙_}
 use borrow.Author.Needs.{needs}
 use denote.Ref.{now}
 use lib.Ieee.{Float, nan, binary64, add}
-use lib.ListN.{getD}
 use Rattle.sums.proofs.Looking.{part}
 use Rattle.kept.specs.Kept.{energyKept, summedFrom}
 use Rattle.kept.proofs.Keeping.{carried-turn, carried-end}

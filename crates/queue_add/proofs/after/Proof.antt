@@ -1,7 +1,6 @@
 -- `queue_add::after` meets its contract: below the maximum, a number is its own remainder. Assumes nothing.
 use mathlib.Core.Path.{refl, sym}
 use native.Mathlib.Nat.{mod-eq-of-lt}
-use native.Mathlib.Omega.{arith}
 use borrow.Author.Needs.{needs}
 use Rattle.queue_add.proofs.after.Statement.{statement}
 use Rattle.queue_add.proofs.after.Tie as tie

@@ -3,7 +3,6 @@
 use mathlib.Core.Path.{sym, _∙_}
 use native.Mathlib.Nat.{mod-eq-of-lt, mod-eq-sub-mod}
 use native.Mathlib.Omega.{arith}
-use borrow.Author.Needs.{needs}
 use Rattle.queue_add.proofs.on_ring.Statement.{statement}
 use Rattle.queue_add.proofs.on_ring.Tie as tie
 

@@ -1,12 +1,12 @@
 -- `queue_range::copy_held` meets its contract: what an entry holds stands in two parts, which are copied one after the other. Assumes nothing.
-use mathlib.Core.Path.{_≡_, refl, sym, ap, _∙_}
+use mathlib.Core.Path.{refl, ap, _∙_}
 use mathlib.Core.List.{List}
 use Prim.Native.Nat.{_+_, _-_, _≤_}
 use native.Mathlib.Omega.{arith}
 use denote.Ref.{now}
 use lib.Ieee.{Float}
 use lib.ListN.{length}
-use lib.Seq.{sets, length-sets}
+use lib.Seq.{sets}
 use Rattle.queue_range.specs.Inner.{part, StandIn}
 use Rattle.queue_range.proofs.Looking.{parts-count, parts-set}
 use borrow.Author.Needs.{needs}

@@ -1,6 +1,6 @@
 -- `sample_peak::largest_all` meets its contract: each top is the largest magnitude of the frames done. Assumes nothing.
 use borrow.Author.Needs.{needs}
-use Prim.Native.Nat.{ℕ, _+_, _-_, _≤_, _<_}
+use Prim.Native.Nat.{ℕ, _-_, _≤_, _<_}
 use native.Mathlib.Omega.{arith}
 use mathlib.Core.Path.{_≡_, refl, sym, ap, _∙_}
 use mathlib.Core.List.{List}
@@ -11,7 +11,7 @@ use Rattle.samples.specs.Frames.{column}
 use Rattle.sources.specs.Blocks.{blockPlaces}
 use Rattle.sources.specs.Source.{sourceOf}
 use Rattle.sample_peak.specs.Peak.{largestFrom, nought}
-use Rattle.sample_peak.proofs.Loudest.{peaks, High, largest-high, channels-length, channels-first, start-tops, nought-high}
+use Rattle.sample_peak.proofs.Loudest.{peaks, largest-high, channels-length, channels-first, start-tops, nought-high}
 use Rattle.sources.proofs.Cutting.{Next, Step, step, filled}
 use Rattle.sample_peak.proofs.Cutting.{cut-peaks}
 use Rattle.sample_peak.proofs.largest_all.Statement.{statement}

@@ -3,7 +3,7 @@ use mathlib.Core.Path.{_≡_, sym, ap, _∙_}
 use mathlib.Core.Bool.{false}
 use borrow.Author.Needs.{needs}
 use denote.Ref.{now}
-use lib.ListN.{length, take}
+use lib.ListN.{length}
 use Rattle.history.specs.Set.{Histories, histories, chosen, outsideSet, numbered}
 use Rattle.history.proofs.Entries.{stores-inside}
 use Rattle.history.proofs.Verdicts.{none-outside, set-refused, one-unsound, all-well}

@@ -5,7 +5,6 @@ use native.Mathlib.Omega.{arith}
 use mathlib.Core.Path.{_≡_, refl, subst}
 use borrow.Author.Needs.{needs}
 use lib.Dec.{T}
-use lib.ListN.{length}
 use lib.Ieee.Positive.{above}
 use Rattle.rising_order.specs.Arrangement.{Above}
 use Rattle.rising_order.proofs.Perms.{all-perm}

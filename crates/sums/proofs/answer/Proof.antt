@@ -1,5 +1,5 @@
 -- `sums::answer` meets its contract. Assumes nothing.
-use mathlib.Core.Path.{refl, sym, ap}
+use mathlib.Core.Path.{refl}
 use Rattle.sums.proofs.answer.Statement.{statement}
 use Rattle.sums.proofs.answer.Tie as tie
 

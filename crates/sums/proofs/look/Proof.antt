@@ -6,7 +6,7 @@ use mathlib.Core.Bool.{not, _&&_}
 use borrow.Author.Needs.{needs}
 use denote.Ref.{now}
 use lib.Ieee.{Float, nan, lt}
-use lib.ListN.{length, getD}
+use lib.ListN.{getD}
 use Rattle.history.specs.Set.{noneBelow}
 use Rattle.blocks.specs.Totals.{onTopOf, energiesFrom}
 use Rattle.sums.proofs.Looking.{part, sound-turn, sound-end, sum-turn, sum-end}

@@ -1,11 +1,9 @@
 -- `sums::look_at_history` meets its contract, shape by shape: the entry is inside its slice. Assumes nothing.
 use Prim.Native.Nat.{_+_, _≤_}
-use mathlib.Core.Path.{_≡_, sym, ap, subst, _∙_}
-use mathlib.Core.Bool.{true}
+use mathlib.Core.Path.{sym, ap, subst, _∙_}
 use borrow.Author.Needs.{needs}
 use denote.Ref.{now}
 use lib.ListN.{length}
-use lib.Ieee.{Float}
 use Rattle.history.specs.declared.set.Shape.{Shape}
 use Rattle.history.specs.Set.{blockEnd, storeEnd, shapeShows, shapeSound}
 use Rattle.history.proofs.Entries.{block-inside, store-inside}

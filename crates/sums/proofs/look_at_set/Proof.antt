@@ -1,6 +1,6 @@
 -- `sums::look_at_set` meets its contract. The invariant: the stores and the totals of the histories from `i` on, on top of what was added, give what all
 -- give. Assumes nothing.
-use Prim.Native.Nat.{ℕ, _+_, _-_, _*_, _≤_}
+use Prim.Native.Nat.{_-_, _*_, _≤_}
 use native.Mathlib.Omega.{arith}
 use mathlib.Core.Path.{_≡_, refl, sym, _∙_}
 use mathlib.Core.Bool.{true, false, true≢false}

@@ -1,9 +1,9 @@
 -- `history::set::any_outside` meets its contract. The invariant: the entries from `i` on give what all give, so none before reaches outside.
 -- Assumes nothing.
-use Prim.Native.Nat.{ℕ, _-_, _≤_}
+use Prim.Native.Nat.{_-_, _≤_}
 use native.Mathlib.Omega.{arith}
 use mathlib.Core.Bool.{true, false}
-use mathlib.Core.Path.{_≡_, refl, sym, ap, _∙_}
+use mathlib.Core.Path.{_≡_, refl, sym, _∙_}
 use borrow.Author.Needs.{needs}
 use lib.ListN.{getD, take, drop}
 use Rattle.history.specs.Set.{isOutside, anyOutside}

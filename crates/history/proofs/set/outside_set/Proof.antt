@@ -1,5 +1,5 @@
 -- `history::set::outside_set` meets its contract: too many entries, or one of them outside. Assumes nothing.
-use mathlib.Core.Path.{_≡_, sym, ap, _∙_}
+use mathlib.Core.Path.{sym, _∙_}
 use borrow.Author.Needs.{needs}
 use denote.Ref.{now}
 use Rattle.history.specs.Set.{Histories, histories}

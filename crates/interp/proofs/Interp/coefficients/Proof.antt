@@ -1,5 +1,4 @@
 -- `interp::Interp::coefficients` meets its contract: each factor's constant is its table. Assumes nothing.
-use borrow.Author.Needs.{needs}
 use borrow.Author.Tests.{eq-eqb, ne-eqb}
 use lib.Ieee.{div, ofBits}
 use Rattle.interp.specs.Taps.{fourfold, twofold}

@@ -1,5 +1,4 @@
 -- `block::largest_on` meets its contract: the samples left, from the top as it is, give what all of them give. Assumes nothing.
-use borrow.Author.Needs.{needs}
 use Prim.Native.Nat.{_<_}
 use native.Mathlib.Omega.{arith}
 use mathlib.Core.Path.{_≡_, refl, sym, subst, _∙_}

@@ -1,18 +1,15 @@
 -- `block::peak_block` meets its contract: the channels left, from the tops as they are, give what all of them give.
 -- A channel that is left has the top that it came with; its lanes give what the frames of the turns give. Assumes nothing.
 use borrow.Author.Needs.{needs}
-use Prim.Native.Nat.{ℕ, _+_, _-_, _*_, _/_, _≤_, _<_}
+use Prim.Native.Nat.{ℕ, _-_, _*_, _/_, _≤_, _<_}
 use native.Mathlib.Nat.{div-add-mod', mul-le-mul-right, le-trans}
 use native.Mathlib.Omega.{arith}
-use mathlib.Core.Path.{_≡_, refl, sym, ap, subst, _∙_}
-use mathlib.Core.Bool.{Bool, false}
-use mathlib.Core.List.{List}
+use mathlib.Core.Path.{_≡_, refl, sym, ap, _∙_}
 use lib.ListN.{length, getD, set}
 use lib.Seq.{getD-set-other}
 use lib.Ieee.{Float, nan, lt}
 use Rattle.samples.specs.Frames.{column}
-use Rattle.sample_peak.specs.Peak.{largestFrom, nought, overChannels}
-use Rattle.sources.specs.Blocks.{Reach}
+use Rattle.sample_peak.specs.Peak.{nought, overChannels}
 use Rattle.sources.proofs.Reaching.{reach-start}
 use Rattle.sample_peak.proofs.Loudest.{High, peaks, largest-high, channels-again, channels-end}
 use Rattle.sample_peak.proofs.Rest.{reach-after, after-first}

@@ -1,9 +1,8 @@
 -- `block::raise_turn` meets its contract: the lanes left, from the tops as they are, give what all of them give. Assumes nothing.
 use borrow.Author.Needs.{needs}
-use Prim.Native.Nat.{ℕ, _+_, _-_, _≤_}
+use Prim.Native.Nat.{ℕ, _-_, _≤_}
 use native.Mathlib.Omega.{arith}
 use mathlib.Core.Path.{_≡_, refl, sym, ap, _∙_}
-use mathlib.Core.List.{List}
 use lib.ListN.{getD, set}
 use lib.Seq.{getD-set-other}
 use lib.Ieee.{Float, nan, lt}
