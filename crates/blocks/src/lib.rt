@@ -190,139 +190,39 @@ fn rough(count: u32) -> f32 {
 }
 
 // The blocks of four bins, each times its weight.
-fn four(lanes: Lanes, block: &[u32], bin: usize, weights: Lanes) -> Lanes
+fn four(lanes: Lanes, block: &[u32], bin: usize, weights: [f32; 4]) -> Lanes
     requires { ⌜ (length (now block) ≡ bins) × (bin + 3 < bins) ⌝ }
 {
     Lanes {
-        a: lanes.a + rough(block[bin]) * weights.a,
-        b: lanes.b + rough(block[bin + 1]) * weights.b,
-        c: lanes.c + rough(block[bin + 2]) * weights.c,
-        d: lanes.d + rough(block[bin + 3]) * weights.d,
+        a: lanes.a + rough(block[bin]) * weights[0],
+        b: lanes.b + rough(block[bin + 1]) * weights[1],
+        c: lanes.c + rough(block[bin + 2]) * weights[2],
+        d: lanes.d + rough(block[bin + 3]) * weights[3],
     }
 }
 
 // The energies of the blocks of a row and the next, on top of those of the rows above, all in energies of the row's first bin. A bin's weight is ten to the
-// hundredth of its place, a tenth of a LU a bin. The weights stand in the code and not in an array, which would be built anew in every turn.
+// hundredth of its place, a tenth of a LU a bin. The weights stand in the code and not in one array, which would be built anew in every turn.
 fn weigh(lanes: Lanes, block: &[u32], row: usize) -> Lanes
     requires { ⌜ (length (now block) ≡ bins) × (row + 1 < energyRows) ⌝ }
 {
-    let first = tables::ENERGIES_A_ROW * row;
+    let bin = tables::ENERGIES_A_ROW * row;
     let lanes = Lanes {
         a: lanes.a * TWO_ROWS,
         b: lanes.b * TWO_ROWS,
         c: lanes.c * TWO_ROWS,
         d: lanes.d * TWO_ROWS,
     };
-    let lanes = four(
-        lanes,
-        block,
-        first,
-        Lanes {
-            a: 1.0000000,
-            b: 1.0232930,
-            c: 1.0471285,
-            d: 1.0715193,
-        },
-    );
-    let lanes = four(
-        lanes,
-        block,
-        first + 4,
-        Lanes {
-            a: 1.0964782,
-            b: 1.1220185,
-            c: 1.1481536,
-            d: 1.1748976,
-        },
-    );
-    let lanes = four(
-        lanes,
-        block,
-        first + 8,
-        Lanes {
-            a: 1.2022644,
-            b: 1.2302688,
-            c: 1.2589254,
-            d: 1.2882496,
-        },
-    );
-    let lanes = four(
-        lanes,
-        block,
-        first + 12,
-        Lanes {
-            a: 1.3182567,
-            b: 1.3489629,
-            c: 1.3803843,
-            d: 1.4125375,
-        },
-    );
-    let lanes = four(
-        lanes,
-        block,
-        first + 16,
-        Lanes {
-            a: 1.4454398,
-            b: 1.4791084,
-            c: 1.5135612,
-            d: 1.5488166,
-        },
-    );
-    let lanes = four(
-        lanes,
-        block,
-        first + 20,
-        Lanes {
-            a: 1.5848932,
-            b: 1.6218101,
-            c: 1.6595869,
-            d: 1.6982437,
-        },
-    );
-    let lanes = four(
-        lanes,
-        block,
-        first + 24,
-        Lanes {
-            a: 1.7378008,
-            b: 1.7782794,
-            c: 1.8197009,
-            d: 1.8620871,
-        },
-    );
-    let lanes = four(
-        lanes,
-        block,
-        first + 28,
-        Lanes {
-            a: 1.9054607,
-            b: 1.9498446,
-            c: 1.9952623,
-            d: 2.0417379,
-        },
-    );
-    let lanes = four(
-        lanes,
-        block,
-        first + 32,
-        Lanes {
-            a: 2.0892961,
-            b: 2.1379621,
-            c: 2.1877616,
-            d: 2.2387211,
-        },
-    );
-    let lanes = four(
-        lanes,
-        block,
-        first + 36,
-        Lanes {
-            a: 2.2908677,
-            b: 2.3442288,
-            c: 2.3988329,
-            d: 2.4547089,
-        },
-    );
+    let lanes = four(lanes, block, bin, [1.00000, 1.02329, 1.04713, 1.07152]);
+    let lanes = four(lanes, block, bin + 4, [1.09648, 1.12202, 1.14815, 1.17490]);
+    let lanes = four(lanes, block, bin + 8, [1.20226, 1.23027, 1.25893, 1.28825]);
+    let lanes = four(lanes, block, bin + 12, [1.31826, 1.34896, 1.38038, 1.41254]);
+    let lanes = four(lanes, block, bin + 16, [1.44544, 1.47911, 1.51356, 1.54882]);
+    let lanes = four(lanes, block, bin + 20, [1.58489, 1.62181, 1.65959, 1.69824]);
+    let lanes = four(lanes, block, bin + 24, [1.73780, 1.77828, 1.81970, 1.86209]);
+    let lanes = four(lanes, block, bin + 28, [1.90546, 1.94984, 1.99526, 2.04174]);
+    let lanes = four(lanes, block, bin + 32, [2.08930, 2.13796, 2.18776, 2.23872]);
+    let lanes = four(lanes, block, bin + 36, [2.29087, 2.34423, 2.39883, 2.45471]);
     lanes
 }
 

@@ -4,8 +4,8 @@ use borrow.Author.Needs.{needs}
 use Rattle.blocks.proofs.weigh.Statement.{statement}
 use Rattle.blocks.proofs.weigh.Tie as tie
 
-mul-first : tie.Need-mul-first
-mul-first c = search needs
+mul-bin : tie.Need-mul-bin
+mul-bin c = search needs
 
 four-requires : tie.Need-four-requires
 four-requires c κs = let p = c .before .before .before .before .before .pre in (p .0, omega (arith, p .1))
@@ -71,7 +71,7 @@ pub weigh-spec : {M : Type 1} → statement M
 weigh-spec =
     tie.close
     (tie.spec
-    mul-first
+    mul-bin
     four-requires
     add-four
     four-requires-2

@@ -58,6 +58,9 @@ pub fn run(rng: &mut Rng) {
     ] {
         queues(number, name, rng);
     }
+    let mut programme = Set::default();
+    programme.push_histogram(&programmes_counters(rng));
+    gate("a programme's histogram", 100, &programme, None);
 }
 
 /// The range of queues that hold so many energies in all, in four orders.
@@ -91,6 +94,16 @@ fn energies_of(number: usize, rng: &mut Rng) -> Vec<f64> {
 /// Some blocks in every bin.
 fn counters(rng: &mut Rng) -> Vec<u32> {
     (0..1000).map(|_| rng.below(1 << 16) as u32).collect()
+}
+
+/// The blocks of an hour, in a bell around -23 LUFS: each bin is the mean of six from 30 LU below it to 30 above.
+fn programmes_counters(rng: &mut Rng) -> Vec<u32> {
+    let mut counters = vec![0; 1000];
+    for _ in 0..LONGEST {
+        let six: u64 = (0..6).map(|_| 170 + rng.below(600)).sum();
+        counters[(six / 6) as usize] += 1;
+    }
+    counters
 }
 
 /// libebur128 tells no count and no sum.
