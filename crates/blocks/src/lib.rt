@@ -301,30 +301,6 @@ struct Both {
     above: f64,
 }
 
-// A row's energies on top of either sum.
-fn row_both(before: Both, block: &[u32], row: usize, energies: [f64; 20]) -> Both
-    requires { ⌜ (length (now block) ≡ bins) × (row < energyRows) × (energies ≡ energyRow row) ⌝ }
-    ensures { λ r. ⌜ (r .count ≡ before .count)
-        × (sumAbove (r .sum) (energiesARow * (row + 1)) (now (block .entry)) ≡ sumAbove (before .sum) (energiesARow * row) (now (block .entry)))
-        × (sumAbove (r .above) (energiesARow * (row + 1)) (now (block .entry)) ≡ sumAbove (before .above) (energiesARow * row) (now (block .entry))) ⌝ }
-{
-    let first = tables::ENERGIES_A_ROW * row;
-    let mut sum = before.sum;
-    let mut above = before.above;
-    let mut i = 0;
-    while i < tables::ENERGIES_A_ROW {
-        let energy = (block[first + i] as f64) * energies[i];
-        sum = sum + energy;
-        above = above + energy;
-        i += 1;
-    }
-    Both {
-        count: before.count,
-        sum,
-        above,
-    }
-}
-
 // The rows from one upward on top of either sum. They are counted as in `rows_from`.
 fn rows_both(sum: f64, above: f64, block: &[u32], row: usize) -> Both
     requires { ⌜ (length (now block) ≡ bins) × (row ≤ energyRows) ⌝ }
@@ -340,7 +316,9 @@ fn rows_both(sum: f64, above: f64, block: &[u32], row: usize) -> Both
     let mut down = tables::ENERGY_ROWS;
     while up < tables::ENERGY_ROWS {
         down -= 1;
-        both = row_both(both, block, up, tables::energy_row(up));
+        let energies = tables::energy_row(up);
+        both.sum = row_sum(both.sum, block, up, energies, 0);
+        both.above = row_sum(both.above, block, up, energies, 0);
         both.count = row_count(both.count, block, down, 0);
         up += 1;
     }

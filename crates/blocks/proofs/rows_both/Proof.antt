@@ -36,8 +36,11 @@ sub-down c = search needs
 energy-row-requires : tie.Need-energy-row-requires Inv-loop μ-loop
 energy-row-requires c κs = search needs
 
-row-both-requires : tie.Need-row-both-requires Inv-loop μ-loop
-row-both-requires c κs = search needs
+row-sum-requires : tie.Need-row-sum-requires Inv-loop μ-loop
+row-sum-requires c κs = search needs
+
+row-sum-requires-2 : tie.Need-row-sum-requires-2 Inv-loop μ-loop
+row-sum-requires-2 c κs = search needs
 
 row-count-requires : tie.Need-row-count-requires Inv-loop μ-loop
 row-count-requires c κs = search needs
@@ -50,22 +53,23 @@ loop-less c = search needs
 
 loop-again : tie.Need-loop-again Inv-loop μ-loop
 loop-again c =
-    let l = c .before .before .before .before in
+    let l = c .before .before .before .before .before in
     let a = l .before .before .args in
     let block = now (a .block) in
     let i = l .loop .inv in
+    let up = l .loop .up in
     let down = l .loop .down in
     let counted = c .row-count .ensures in
-    let added = c .before .row-both .ensures in
     let row : energiesARow * (down - 1 + 1) ≡ energiesARow * down = omega (arith, i .2) in
-    let next : energiesARow * (down - 1) + 0 ≡ energiesARow * (down - 1) = omega arith in (
+    let next : energiesARow * (down - 1) + 0 ≡ energiesARow * (down - 1) = omega arith in
+    let first : (sum : Float) → sumAbove sum (energiesARow * up + 0) block ≡ sumAbove sum (energiesARow * up) block = λ sum. ap (λ (n : ℕ). sumAbove sum n block) (omega arith) in (
       omega arith,
       omega arith,
       omega (arith, i .2),
-      omega (arith, counted .1, added .0, i .2, i .3),
-      omega (arith, counted .0, added .0, i .4, ap (λ (n : ℕ). blocksAbove n block) row, ap (λ (n : ℕ). blocksAbove n block) next),
-      added .1 ∙ i .5,
-      added .2 ∙ i .6,
+      omega (arith, counted .1, i .2, i .3),
+      omega (arith, counted .0, i .4, ap (λ (n : ℕ). blocksAbove n block) row, ap (λ (n : ℕ). blocksAbove n block) next),
+      c .before .before .row-sum .ensures ∙ first (l .loop .both .sum) ∙ i .5,
+      c .before .row-sum2 .ensures ∙ first (l .loop .both .above) ∙ i .6,
     )
 
 returns : tie.Need-returns Inv-loop μ-loop
@@ -91,7 +95,8 @@ rows-both-spec =
     loop-holds
     sub-down
     energy-row-requires
-    row-both-requires
+    row-sum-requires
+    row-sum-requires-2
     row-count-requires
     add-up
     loop-less
