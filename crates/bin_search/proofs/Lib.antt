@@ -1,4 +1,2 @@
-pub mod Ends
-pub mod Between
 pub mod Halving
 pub mod Readings

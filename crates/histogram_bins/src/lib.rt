@@ -26,13 +26,9 @@ pub fn highest_boundary() -> f64
 pub fn boundary(i: usize) -> f64
     ensures { λ r. ⌜ r ≡ boundaryAt i ⌝ }
 {
-    if i < BINS {
-        let row = boundary_rows::boundary_row(i / boundary_rows::BOUNDARIES_A_ROW);
-        let place = i % boundary_rows::BOUNDARIES_A_ROW;
-        return row[place];
-    }
-    if i == BINS {
-        highest_boundary()
+    if i <= BINS {
+        let boundaries = tables::all_boundaries();
+        boundaries[i]
     } else {
         0.0 / 0.0
     }
@@ -43,9 +39,8 @@ pub fn energy(i: usize) -> f64
     ensures { λ r. ⌜ r ≡ energyAt i ⌝ }
 {
     if i < BINS {
-        let row = tables::energy_row(i / tables::ENERGIES_A_ROW);
-        let place = i % tables::ENERGIES_A_ROW;
-        row[place]
+        let energies = tables::all_energies();
+        energies[i]
     } else {
         0.0 / 0.0
     }

@@ -1,4 +1,3 @@
-pub mod Arms
 pub mod Pairs
 pub mod Rules
-pub mod Rows
+pub mod Taken

@@ -1,65 +1,65 @@
--- `bin_search::find_histogram_index` meets its contract: an energy between the boundaries of the near bin is in it, one off the scale in an end bin,
--- and halving finds the bin of any other.
+-- `bin_search::find_histogram_index` meets its contract. The loop's invariant is the bracket of two bins or more, and its measure the bracket's width.
 -- Assumes nothing.
-use mathlib.Core.Path.{sym, ap, _∙_}
+use mathlib.Core.Logic.{⊎-elim}
+use Prim.Native.Nat.{_+_, _-_, _/_, _≤_, _<_}
+use native.Mathlib.Nat.{le-of-lt}
+use native.Mathlib.Omega.{arith}
 use borrow.Author.Needs.{needs}
-use lib.Ieee.{Float, le}
-use Rattle.bin_search.proofs.Ends.{bin-above, bin-under}
-use Rattle.bin_search.proofs.Between.{between}
+use lib.ListN.{getD}
+use lib.Ieee.{nan}
+use Rattle.tables.proofs.Taken.{boundary-entry}
+use Rattle.bin_search.proofs.Halving.{Bracket, start, turn-up, turn-down, done}
 use Rattle.bin_search.proofs.find_histogram_index.Statement.{statement}
 use Rattle.bin_search.proofs.find_histogram_index.Tie as tie
 
-near-requires : tie.Need-near-requires
-near-requires c κs = search needs
+abbrev Inv-loop : tie.InvT-loop
+Inv-loop energy boundaries min₀ max₀ min max = (min + 2 ≤ max) × Bracket energy min max
 
-boundary-row-requires : tie.Need-boundary-row-requires
-boundary-row-requires c κs = search needs
+abbrev μ-loop : tie.MeasureT-loop
+μ-loop energy boundaries min₀ max₀ min max = max - min
 
-mul-if1 : tie.Need-mul-if1
-mul-if1 c = search needs
+all-boundaries-requires : tie.Need-all-boundaries-requires Inv-loop μ-loop
+all-boundaries-requires c κs = search needs
 
-array-read-if1 : tie.Need-array-read-if1
-array-read-if1 c = search needs
+loop-holds : tie.Need-loop-holds Inv-loop μ-loop
+loop-holds c = (omega arith, start (c .before .args .energy))
 
-add-if2 : tie.Need-add-if2
-add-if2 c = search needs
+add-mid : tie.Need-add-mid Inv-loop μ-loop
+add-mid c = search needs
 
-mul-if2 : tie.Need-mul-if2
-mul-if2 c = search needs
+mul-if1 : tie.Need-mul-if1 Inv-loop μ-loop
+mul-if1 c = omega (arith, c .loop .inv .1 .within)
 
-array-read-if2 : tie.Need-array-read-if2
-array-read-if2 c = search needs
+array-read-if1 : tie.Need-array-read-if1 Inv-loop μ-loop
+array-read-if1 c = omega (arith, c .loop .inv .1 .within, c .loop .inv .1 .ordered)
 
-returns : tie.Need-returns
-returns c =
-    let read = c .before .before in
-    let near = read .before .near in
-    between (read .before .before .args .energy) (near .result) (read .boundary-row .result) (near .ensures) (read .boundary-row .ensures) (c .before .if1 .taken) (c .if2 .taken)
+joined : (c : tie.Joined1 Inv-loop μ-loop)
+    → Bracket (c .before .before .before .args .energy) (c .if1 .min) (c .if1 .max)
+    × (c .if1 .max - c .if1 .min < c .before .loop .max - c .before .loop .min)
+joined c =
+    let at = c .before .loop in
+    let taken = c .before .before .all-boundaries in
+    let mid = (at .min + at .max) / 2 in
+    let entry = getD (taken .result) mid nan in
+    let read = boundary-entry (taken .result) mid (taken .ensures) in
+    ⊎-elim (λ w. turn-up (at .inv .1) (at .inv .0) entry read (c .if1 .min) (c .if1 .max) (w .0 .taken) (w .1) (w .2))
+    (λ w. turn-down (at .inv .1) (at .inv .0) entry read (c .if1 .min) (c .if1 .max) (w .0 .left) (w .1) (w .2))
+    (c .if1 .came)
 
-highest-boundary-requires : tie.Need-highest-boundary-requires
-highest-boundary-requires c κs = search needs
+sub-if2 : tie.Need-sub-if2 Inv-loop μ-loop
+sub-if2 c = le-of-lt (joined (c .before .before) .0 .ordered)
 
-returns-2 : tie.Need-returns-2
-returns-2 c =
-    let e = c .before .before .before .before .before .args .energy in
-    bin-above e (ap (λ (b : Float). le b e) (sym (c .before .highest-boundary .ensures)) ∙ c .if3 .taken)
+loop-less : tie.Need-loop-less Inv-loop μ-loop
+loop-less c = joined (c .before .before .before) .1
 
-lowest-boundary-requires : tie.Need-lowest-boundary-requires
-lowest-boundary-requires c κs = search needs
+loop-again : tie.Need-loop-again Inv-loop μ-loop
+loop-again c =
+    let j = joined (c .before .before .before) .0 in
+    (omega (arith, j .ordered), j)
 
-by-halving-requires : tie.Need-by-halving-requires
-by-halving-requires c κs = search needs
-
-returns-3 : tie.Need-returns-3
-returns-3 c = search needs
-
-returns-4 : tie.Need-returns-4
-returns-4 c =
-    let e = c .before .before .before .before .before .before .before .args .energy in
-    bin-under e (ap (λ (b : Float). le b e) (sym (c .before .lowest-boundary .ensures)) ∙ c .if4 .left)
+returns : tie.Need-returns Inv-loop μ-loop
+returns c = done (joined (c .before .before .before) .0) (c .if2 .taken)
 
 pub find-histogram-index-spec : {M : Type 1} → statement M
 find-histogram-index-spec =
-    tie.close
-    (tie.spec near-requires boundary-row-requires mul-if1 array-read-if1 add-if2 mul-if2 array-read-if2 returns highest-boundary-requires returns-2
-    lowest-boundary-requires by-halving-requires returns-3 returns-4)
+    tie.close (tie.spec Inv-loop μ-loop all-boundaries-requires loop-holds add-mid mul-if1 array-read-if1 sub-if2 loop-less loop-again returns)
