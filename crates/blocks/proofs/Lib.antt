@@ -1,3 +1,4 @@
-pub mod Nothing
 pub mod Running
+pub mod Nothing
+pub mod Stretches
 pub mod Start

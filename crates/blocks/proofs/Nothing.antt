@@ -21,7 +21,8 @@ use lib.Ieee.Positive.{positive}
 use Rattle.tables.specs.Tables.{energyAt}
 use Rattle.tables.proofs.Rules.{energy-positive, energy-past}
 use Rattle.blocks.specs.declared.Totals.{Totals}
-use Rattle.blocks.specs.Totals.{unsigned, Steady, withBlocks, binsFrom}
+use Rattle.blocks.specs.Totals.{withBlocks, binsFrom}
+use Rattle.blocks.specs.Inner.{unsigned, Steady}
 
 -- ---- a number that the format holds is its own rounding
 module _ (f : Format) (s : Bool) where
@@ -119,6 +120,34 @@ swapped (fin false m e) u =
 pub to-nothing : (x : Float) → Steady x → add binary64 (ofBits binary64 0) x ≡ x
 to-nothing x p = ap (λ (z : Float). add binary64 z x) nothing ∙ swapped x (p .1) ∙ add-nothing x (p .0) (p .1)
 
+-- ---- no block times an energy is 0
+times-none : (a c : ℕ) → 0 < c → a * c ≡ 0 → a ≡ 0
+times-none a c h e = elim (eq-zero-or-pos a) [
+  | inl z ↦ z
+  | inr p ↦ absurd (lt-irrefl 0 (lt-of-lt-of-le (mul-pos p h) (omega (arith, e))))
+]
+
+only-nothing : (c : ℕ) → 0 < c → (x : Float) → T (fits binary64 x) → HasValue x false 0 c → x ≡ fin false 0 (pos 0)
+unfolding fits
+only-nothing c h nan q v = absurd v
+only-nothing c h (inf t) q v = absurd v
+only-nothing c h (fin t n d) q v =
+    same-value binary64 false 0 (pos 0) (fin t n d) tt q
+    (v .0, mul-one (n * up d) ∙ times-none (n * up d) c h (v .1 ∙ zero-mul (down d)) ∙ sym (zero-mul (down d)))
+
+round-nothing : (c : ℕ) → 0 < c → round binary64 false 0 c ≡ fin false 0 (pos 0)
+round-nothing c h =
+    only-nothing c h (round binary64 false 0 c) (round-fits binary64 false 0 c)
+    (round-exact binary64 false 0 c 0 0 h (pow-pos (prec binary64)) (pow-pos (low binary64 + suc (emax binary64))) (zero-mul (2 ^ low binary64) ∙ sym (zero-mul c)))
+
+pub none-times : (x : Float) → T (positive x) → mul binary64 (ofInt binary64 (pos 0)) x ≡ ofBits binary64 0
+unfolding mul ofInt
+none-times (fin false n d) p =
+    ap (λ (z : Float). mul binary64 z (fin false n d)) (round-nothing 1 (omega arith))
+    ∙ ap (λ (k : ℕ). round binary64 false k (1 * down d)) (zero-mul (n * up d))
+    ∙ round-nothing (1 * down d) (omega (arith, down-pos d))
+    ∙ sym nothing
+
 -- ---- no minus comes of two without one
 odd-unsigned : (d q k l : ℕ) → T (unsigned (odd d false q k l))
 unfolding odd unsigned
@@ -183,13 +212,13 @@ positive-unsigned : (x : Float) → T (positive x) → T (unsigned x)
 unfolding unsigned
 positive-unsigned (fin false m e) p = tt
 
-table-unsigned : (bin : ℕ) → T (unsigned (energyAt bin))
+pub table-unsigned : (bin : ℕ) → T (unsigned (energyAt bin))
 table-unsigned bin = elim (eq-zero-or-pos (1000 - bin)) [
   | inl z ↦ subst (λ (x : Float). T (unsigned x)) (sym (energy-past bin (omega arith))) nan-unsigned
   | inr p ↦ positive-unsigned (energyAt bin) (energy-positive bin (omega arith))
 ]
 
-count-unsigned : (n : ℕ) → T (unsigned (ofInt binary64 (pos n)))
+pub count-unsigned : (n : ℕ) → T (unsigned (ofInt binary64 (pos n)))
 unfolding ofInt
 count-unsigned n = round-unsigned binary64 n 1
 

@@ -12,10 +12,10 @@ use lib.Seq.{drop-cons}
 use lib.Ieee.{Float, binary64, add, mul, ofInt}
 use Rattle.tables.specs.Tables.{energyAt}
 use Rattle.histogram_bins.specs.Bin.{bins}
-use Rattle.tables.specs.Rows.{energiesARow}
 use Rattle.history.specs.Set.{blockAt}
 use Rattle.blocks.specs.declared.Totals.{Totals}
-use Rattle.blocks.specs.Totals.{onTopOf, withBlocks, binsFrom, placesFrom, rowsFrom, blocksIn, sumFrom, blocksAbove, sumAbove, energiesFrom, fromBin}
+use Rattle.blocks.specs.Totals.{onTopOf, withBlocks, binsFrom, energiesFrom, fromBin}
+use Rattle.blocks.specs.Inner.{onwards, blocksIn, sumFrom, blocksAbove, sumAbove, Steady}
 
 module _ (counters : List ℕ) (totals : Totals) (bin : ℕ) where
   pub bins-turn : bin < length counters
@@ -28,23 +28,6 @@ module _ (counters : List ℕ) (totals : Totals) (bin : ℕ) where
   unfolding binsFrom
   bins-end h = rw (drop-of-length-le counters h)
 
--- ---- rows of bins
-module _ (counters : List ℕ) (totals : Totals) (row place : ℕ) where
-  pub places-turn : (energy : Float) → energiesARow * row + place < length counters → energy ≡ energyAt (energiesARow * row + place)
-      → placesFrom (withBlocks totals (getD counters (energiesARow * row + place) 0) (mul binary64 (ofInt binary64 (pos (getD counters (energiesARow * row + place) 0))) energy)) row (place + 1) counters
-      ≡ placesFrom totals row place counters
-  places-turn energy h e =
-      let bin = energiesARow * row + place in
-      let blocks = getD counters bin 0 in
-      ap (λ (x : Float). placesFrom (withBlocks totals blocks (mul binary64 (ofInt binary64 (pos blocks)) x)) row (place + 1) counters) e
-      ∙ ap (λ (n : ℕ). binsFrom (withBlocks totals blocks (mul binary64 (ofInt binary64 (pos blocks)) (energyAt bin))) n (drop n counters)) {x = energiesARow * row + (place + 1)} {y = bin + 1} (omega arith)
-      ∙ bins-turn counters totals bin h
-
-  -- past its last place a row's next one starts
-  pub row-end : place ≡ energiesARow → placesFrom totals row place counters ≡ rowsFrom totals (row + 1) counters
-  row-end e =
-      ap (λ (n : ℕ). binsFrom totals n (drop n counters)) {x = energiesARow * row + place} {y = energiesARow * (row + 1) + 0} (omega (arith, e))
-
 -- ---- count and sum apart
 pub bins-split : (count : ℕ) (sum : Float) (bin : ℕ) (l : List ℕ)
     → binsFrom (record { count = count; sum = sum }) bin l ≡ record { count = count + blocksIn l; sum = sumFrom sum bin l }
@@ -54,13 +37,6 @@ bins-split count sum bin (x ∷ l) =
     let next = add binary64 sum (mul binary64 (ofInt binary64 (pos x)) (energyAt bin)) in
     bins-split (count + x) next (suc bin) l
     ∙ ap {B = Totals} (λ (n : ℕ). record { count = n; sum = sumFrom next (suc bin) l }) {x = count + x + blocksIn l} {y = count + (x + blocksIn l)} (omega arith)
-
--- count and sum apart are what the bins give
-pub joined : (block : List ℕ) (sum : Float) (start : ℕ) (r : Totals) → r .count ≡ blocksAbove start block → r .sum ≡ sumAbove sum start block → r ≡ binsFrom (onTopOf sum) start (drop start block)
-joined block sum start r ec es =
-    ap {B = Totals} (λ (n : ℕ). record { count = n; sum = r .sum }) {x = r .count} {y = 0 + blocksAbove start block} (omega (arith, ec))
-    ∙ ap {B = Totals} (λ (x : Float). record { count = 0 + blocksAbove start block; sum = x }) es
-    ∙ sym (bins-split 0 sum start (drop start block))
 
 module _ (counters : List ℕ) where
   pub blocks-turn : (bin : ℕ) → bin < length counters → blocksAbove bin counters ≡ getD counters bin 0 + blocksAbove (bin + 1) counters

@@ -15,7 +15,8 @@ use Rattle.tables.specs.Tables.{boundaryAt, energyAt}
 use Rattle.histogram_bins.specs.Bin.{bins, binOf}
 use Rattle.tables.proofs.Rules.{boundary-below-energy, energy-below-next, boundaries-rise}
 use Rattle.histogram_bins.proofs.Bins.{bin-below, bin-is, bin-between, bin-of-nan}
-use Rattle.blocks.specs.Start.{Past, startBin}
+use Rattle.blocks.specs.Start.{startBin}
+use Rattle.blocks.specs.Inner.{Past}
 
 module _ (threshold : Float) where
   pub start-below : lt threshold (boundaryAt 0) ≡ true → startBin threshold ≡ 0

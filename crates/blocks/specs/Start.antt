@@ -1,9 +1,7 @@
 -- Where a gate starts (01, step 8): "Histogram bins count from the threshold's bin, or the next if the threshold is above that bin's energy; below boundary 0
 -- from bin 0; the start may be 1000. Queue energies count if not below the threshold."
-use Prim.Native.Nat.{ℕ, _+_, _-_, _<_}
-use mathlib.Core.Path.{_≡_}
-use mathlib.Core.Logic.{_⊎_}
-use mathlib.Core.Bool.{Bool, true, not, cond}
+use Prim.Native.Nat.{ℕ, _+_}
+use mathlib.Core.Bool.{Bool, not, cond}
 use lib.Ieee.{Float, lt}
 use Rattle.tables.specs.Tables.{boundaryAt, energyAt}
 use Rattle.histogram_bins.specs.Bin.{binOf}
@@ -12,10 +10,6 @@ use Rattle.histogram_bins.specs.Bin.{binOf}
 unfoldable pub startBin : Float → ℕ
 startBin threshold =
     cond (lt threshold (boundaryAt 0)) 0 (cond (lt (energyAt (binOf threshold)) threshold) (binOf threshold + 1) (binOf threshold))
-
--- the bins up to here are past: the energy of the last of them is below the threshold
-abbrev pub Past : Float → ℕ → Type 0
-Past threshold bin = (bin ≡ 0) ⊎ ((0 < bin) × (lt (energyAt (bin - 1)) threshold ≡ true))
 
 -- whether a block at this energy counts: it does if it is not below the threshold, so an equal one does
 abbrev pub counts : Float → Float → Bool

@@ -28,7 +28,8 @@ use Rattle.history.specs.Set.{
 use Rattle.history.proofs.Entries.{sound-at}
 use Rattle.history.proofs.Verdicts.{kept}
 use Rattle.blocks.specs.declared.Totals.{Totals}
-use Rattle.blocks.specs.Totals.{none, Steady, withBlocks, energiesFrom}
+use Rattle.blocks.specs.Totals.{none, withBlocks, energiesFrom}
+use Rattle.blocks.specs.Inner.{Steady}
 use Rattle.blocks.proofs.Nothing.{to-nothing, nothing-steady, steady-added, bins-steady}
 use Rattle.sums.specs.Sums.{totalsOf, allTotals, alone, ofHistory, ofSet}
 use Rattle.sums.proofs.Looking.{same}

@@ -10,9 +10,11 @@ ghost use Prim.Native.Nat.{_≤_};
 ghost use lib.ListN.{length};
 ghost use Rattle.refusals.specs.Outcome.{saidBy};
 ghost use Rattle.history.specs.Set.{histories, isOutside, isSound, shows, historiesOf, refusalOf, sound};
-ghost use Rattle.blocks.specs.Totals.{mostBlocks, onTopOf, Steady, none};
+ghost use Rattle.tables.specs.Tables.{energies as binEnergies};
+ghost use Rattle.blocks.specs.Totals.{mostBlocks, onTopOf, none};
+ghost use Rattle.blocks.specs.Inner.{Steady};
 ghost use Rattle.blocks.specs.Start.{startBin};
-ghost use Rattle.sums.specs.Sums.{alone, aboveOf};
+ghost use Rattle.sums.specs.Sums.{alone};
 ghost use Rattle.gate.specs.Gate.{gatedOf, allGated, someLeft, gateOf, said};
 
 // The answer: the blocks at or above the gate and the sum of their energies.
@@ -23,6 +25,7 @@ pub enum Gated {
 
 // What one history has at or above the gate, on top of a running sum.
 fn history_gated(
+    table: &[f64; 1000],
     sum: f64,
     entry: Entry,
     counters: &[u32],
@@ -31,35 +34,36 @@ fn history_gated(
     bin: usize,
 ) -> Totals
     requires { ⌜ (isOutside (length (now counters)) (length (now energies)) entry ≡ false) × (isSound (now energies) entry ≡ true)
-        × (bin ≡ startBin threshold) × Steady sum ⌝ }
+        × (bin ≡ startBin threshold) × Steady sum × (now table ≡ binEnergies) ⌝ }
     ensures { λ r. ⌜ (r ≡ gatedOf threshold (onTopOf sum) (shows (now (counters .entry)) (now (energies .entry)) entry)) × (r .count ≤ mostBlocks)
         × Steady (r .sum) ⌝ }
 {
     let shape = entry.shape;
     match shape {
-        Shape::Histogram(start) => blocks::from_bin(sum, counters, start, bin),
+        Shape::Histogram(start) => blocks::from_bin(table, sum, counters, start, bin),
         Shape::Queue(start, queue) => kept::of_queue(sum, energies, start, queue, threshold),
     }
 }
 
 // What all histories have at or above the gate: one running sum passes over them in order.
 fn all_gated(
+    table: &[f64; 1000],
     entries: [Entry; MOST],
     count: usize,
     counters: &[u32],
     energies: &[f64],
     threshold: f64,
 ) -> Totals
-    requires { ⌜ refusalOf (histories entries count (now counters) (now energies)) ≡ sound ⌝ }
+    requires { ⌜ (refusalOf (histories entries count (now counters) (now energies)) ≡ sound) × (now table ≡ binEnergies) ⌝ }
     ensures { λ r. ⌜ r ≡ allGated threshold none (historiesOf (histories entries count (now (counters .entry)) (now (energies .entry)))) ⌝ }
 {
-    let bin = blocks::start_bin(threshold);
+    let bin = blocks::start_in(table, threshold);
     let mut blocks: u64 = 0;
     let mut sum = 0.0;
     let mut i = 0;
     while i < count {
         let entry = entries[i];
-        let gated = history_gated(sum, entry, counters, energies, threshold, bin);
+        let gated = history_gated(table, sum, entry, counters, energies, threshold, bin);
         blocks = blocks + gated.count;
         sum = gated.sum;
         i += 1;
@@ -81,39 +85,14 @@ fn some_left(left: Totals) -> Gated
 pub fn gate(entries: [Entry; MOST], count: usize, counters: &[u32], energies: &[f64]) -> Gated
     ensures { λ r. ⌜ said r ≡ saidBy (gateOf (histories entries count (now (counters .entry)) (now (energies .entry)))) ⌝ }
 {
-    let sums = sums::of_set(entries, count, counters, energies);
+    let table = tables::all_energies();
+    let sums = sums::of_set(&table, entries, count, counters, energies);
     match threshold::of_sums(sums) {
         Threshold::Energy(energy) => {
-            some_left(all_gated(entries, count, counters, energies, energy))
+            some_left(all_gated(&table, entries, count, counters, energies, energy))
         }
         Threshold::Loudness(_) => Gated::Refused(refusals::NONE),
         Threshold::Refused(refusal) => Gated::Refused(refusal),
-    }
-}
-
-// What a single history has at or above the gate. A histogram's was looked at ahead where its bin was guessed right.
-fn gated_ahead(
-    likely: usize,
-    above: Totals,
-    entry: Entry,
-    counters: &[u32],
-    energies: &[f64],
-    threshold: f64,
-) -> Totals
-    requires { ⌜ (isOutside (length (now counters)) (length (now energies)) entry ≡ false) × (isSound (now energies) entry ≡ true)
-        × (above ≡ aboveOf entry (now counters) likely) ⌝ }
-    ensures { λ r. ⌜ r ≡ gatedOf threshold none (shows (now (counters .entry)) (now (energies .entry)) entry) ⌝ }
-{
-    let bin = blocks::start_bin(threshold);
-    let shape = entry.shape;
-    match shape {
-        Shape::Histogram(_) => {
-            if bin == likely {
-                return above;
-            }
-            history_gated(0.0, entry, counters, energies, threshold, bin)
-        }
-        Shape::Queue(_, _) => history_gated(0.0, entry, counters, energies, threshold, bin),
     }
 }
 
@@ -121,18 +100,12 @@ fn gated_ahead(
 pub fn gate_of_history(entry: Entry, counters: &[u32], energies: &[f64]) -> Gated
     ensures { λ r. ⌜ said r ≡ saidBy (gateOf (alone entry (now (counters .entry)) (now (energies .entry)))) ⌝ }
 {
-    let ahead = sums::of_history_ahead(entry, counters, energies);
-    let sums = ahead.sums;
-    let above = ahead.above;
-    match threshold::of_sums(sums) {
-        Threshold::Energy(energy) => some_left(gated_ahead(
-            ahead.bin,
-            above,
-            entry,
-            counters,
-            energies,
-            energy,
-        )),
+    let table = tables::all_energies();
+    match threshold::of_sums(sums::of_history(&table, entry, counters, energies)) {
+        Threshold::Energy(energy) => {
+            let bin = blocks::start_in(&table, energy);
+            some_left(history_gated(&table, 0.0, entry, counters, energies, energy, bin))
+        }
         Threshold::Loudness(_) => Gated::Refused(refusals::NONE),
         Threshold::Refused(refusal) => Gated::Refused(refusal),
     }

@@ -19,7 +19,8 @@ use Rattle.queue.proofs.Held.{held-count}
 use Rattle.history.specs.Set.{queueAt, noneBelow}
 use Rattle.history.proofs.Slices.{held-slices}
 use Rattle.blocks.specs.declared.Totals.{Totals}
-use Rattle.blocks.specs.Totals.{mostBlocks, onTopOf, none, unsigned, Steady, withBlocks}
+use Rattle.blocks.specs.Totals.{mostBlocks, onTopOf, none, withBlocks}
+use Rattle.blocks.specs.Inner.{unsigned, Steady}
 use Rattle.blocks.specs.Start.{counts}
 use Rattle.blocks.proofs.Nothing.{nothing-added, steady-added, not-below-unsigned}
 use Rattle.sums.proofs.Looking.{part, part-next, part-end, same}

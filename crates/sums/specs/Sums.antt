@@ -7,11 +7,9 @@ use lib.Ieee.{Float}
 use Rattle.refusals.specs.Refusal.{STORE}
 use Rattle.refusals.specs.Outcome.{Question, refused, answers, Said, says, refusal}
 use Rattle.history.specs.declared.set.Entry.{Entry}
-use Rattle.history.specs.declared.set.Shape.{Shape}
-use Rattle.history.specs.declared.set.Shape.the-variants.{Histogram, Queue as Queue-at}
 use Rattle.history.specs.Set.{mostHistories, History, counted, listed, Histories, histories, historiesOf, shows, refusalOf, unlessRefused}
 use Rattle.blocks.specs.declared.Totals.{Totals}
-use Rattle.blocks.specs.Totals.{mostBlocks, none, withBlocks, binsFrom, energiesFrom, fromBin}
+use Rattle.blocks.specs.Totals.{mostBlocks, none, withBlocks, binsFrom, energiesFrom}
 use Rattle.sums.specs.declared.Sums.{Sums}
 use Rattle.sums.specs.declared.Sums.the-variants.{Blocks, Refused}
 
@@ -38,14 +36,6 @@ ofHistory entry counters energies = unlessRefused (refusalOf (alone entry counte
 
 unfoldable pub ofSet : Histories → Question Totals
 ofSet h = unlessRefused (refusalOf h) (answers (allTotals none (historiesOf h)))
-
--- what a single history has from a bin upward: of a histogram its blocks, of a queue, which has no bins, none
-abbrev pub shapeAbove : Shape → List ℕ → ℕ → Totals
-shapeAbove (Histogram start) counters bin = fromBin (none .sum) counters start bin
-shapeAbove (Queue-at start queue) counters bin = none
-
-abbrev pub aboveOf : Entry → List ℕ → ℕ → Totals
-aboveOf entry counters bin = shapeAbove (entry .shape) counters bin
 
 -- the totals of sound stores, or STORE
 abbrev pub answered : Bool → Totals → Question Totals

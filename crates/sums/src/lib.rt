@@ -11,8 +11,9 @@ ghost use lib.ListN.{length, take, drop};
 ghost use Rattle.refusals.specs.Outcome.{saidBy};
 ghost use Rattle.queue.specs.Queue.{suits, heldOf};
 ghost use Rattle.history.specs.Set.{histories, queueAt, isOutside, outsideSet, noneBelow, isSound, allSound, shows, allShow};
+ghost use Rattle.tables.specs.Tables.{energies as binEnergies};
 ghost use Rattle.blocks.specs.Totals.{mostBlocks, onTopOf, none, energiesFrom};
-ghost use Rattle.sums.specs.Sums.{totalsOf, allTotals, alone, answered, ofHistory, ofSet, aboveOf, said};
+ghost use Rattle.sums.specs.Sums.{totalsOf, allTotals, alone, answered, ofHistory, ofSet, said};
 
 // The answer: the blocks and the sum of their energies.
 pub enum Sums {
@@ -84,15 +85,15 @@ struct Seen {
 }
 
 // One history, which is inside its slice.
-fn look_at_history(entry: Entry, counters: &[u32], energies: &[f64]) -> Seen
-    requires { ⌜ isOutside (length (now counters)) (length (now energies)) entry ≡ false ⌝ }
+fn look_at_history(table: &[f64; 1000], entry: Entry, counters: &[u32], energies: &[f64]) -> Seen
+    requires { ⌜ (now table ≡ binEnergies) × (isOutside (length (now counters)) (length (now energies)) entry ≡ false) ⌝ }
     ensures { λ r. ⌜ (r .sound ≡ isSound (now (energies .entry)) entry)
         × (r .sound ≡ true → (record { count = r .count; sum = r .sum } ≡ totalsOf (shows (now (counters .entry)) (now (energies .entry)) entry)) × (r .count ≤ mostBlocks)) ⌝ }
 {
     let shape = entry.shape;
     match shape {
         Shape::Histogram(start) => {
-            let totals = blocks::from_bin(0.0, counters, start, 0);
+            let totals = blocks::from_bin(table, 0.0, counters, start, 0);
             Seen {
                 sound: true,
                 count: totals.count,
@@ -111,8 +112,8 @@ fn look_at_history(entry: Entry, counters: &[u32], energies: &[f64]) -> Seen
 }
 
 // All histories of a set that SET does not refuse, added history by history from 0.
-fn look_at_set(entries: [Entry; MOST], count: usize, counters: &[u32], energies: &[f64]) -> Seen
-    requires { ⌜ outsideSet (histories entries count (now counters) (now energies)) ≡ false ⌝ }
+fn look_at_set(table: &[f64; 1000], entries: [Entry; MOST], count: usize, counters: &[u32], energies: &[f64]) -> Seen
+    requires { ⌜ (now table ≡ binEnergies) × (outsideSet (histories entries count (now counters) (now energies)) ≡ false) ⌝ }
     ensures { λ r. ⌜ (r .sound ≡ allSound (now (energies .entry)) (take count entries))
         × (r .sound ≡ true → record { count = r .count; sum = r .sum } ≡ allTotals none (allShow (now (counters .entry)) (now (energies .entry)) (take count entries))) ⌝ }
 {
@@ -121,7 +122,7 @@ fn look_at_set(entries: [Entry; MOST], count: usize, counters: &[u32], energies:
     let mut i = 0;
     while i < count {
         let entry = entries[i];
-        let seen = look_at_history(entry, counters, energies);
+        let seen = look_at_history(table, entry, counters, energies);
         if seen.sound {
             blocks = blocks + seen.count;
             sum = sum + seen.sum;
@@ -162,64 +163,23 @@ fn outside(entry: Entry, counters: &[u32], energies: &[f64]) -> bool
 }
 
 // The blocks of a single history and the sum of their energies.
-pub fn of_history(entry: Entry, counters: &[u32], energies: &[f64]) -> Sums
+pub fn of_history(table: &[f64; 1000], entry: Entry, counters: &[u32], energies: &[f64]) -> Sums
+    requires { ⌜ now table ≡ binEnergies ⌝ }
     ensures { λ r. ⌜ said r ≡ saidBy (ofHistory entry (now (counters .entry)) (now (energies .entry))) ⌝ }
 {
     if outside(entry, counters, energies) {
         return Sums::Refused(refusals::SET);
     }
-    answer(look_at_history(entry, counters, energies))
-}
-
-// The same, and of a histogram also the blocks from a bin upward, which is likely to be where its gate starts.
-pub struct Ahead {
-    pub sums: Sums,
-    pub bin: usize,
-    pub above: Totals,
-}
-
-// What a histogram's blocks come to, or SET.
-fn of_histogram(entry: Entry, all: Totals, counters: &[u32], energies: &[f64]) -> Sums
-    requires { ⌜ (isSound (now energies) entry ≡ true)
-        × (isOutside (length (now counters)) (length (now energies)) entry ≡ false → all ≡ totalsOf (shows (now counters) (now energies) entry)) ⌝ }
-    ensures { λ r. ⌜ said r ≡ saidBy (ofHistory entry (now (counters .entry)) (now (energies .entry))) ⌝ }
-{
-    if outside(entry, counters, energies) {
-        return Sums::Refused(refusals::SET);
-    }
-    Sums::Blocks(all)
-}
-
-// The blocks of a single history, the sum of their energies, and what is looked at ahead: the two sums that a gate asks for are then taken side by side.
-pub fn of_history_ahead(entry: Entry, counters: &[u32], energies: &[f64]) -> Ahead
-    ensures { λ r. ⌜ (said (r .sums) ≡ saidBy (ofHistory entry (now (counters .entry)) (now (energies .entry)))) × (r .above ≡ aboveOf entry (now (counters .entry)) (r .bin)) ⌝ }
-{
-    let shape = entry.shape;
-    match shape {
-        Shape::Histogram(start) => {
-            let sides = blocks::side_by_side(counters, start);
-            let all = sides.all;
-            let above = sides.above;
-            Ahead {
-                sums: of_histogram(entry, all, counters, energies),
-                bin: sides.bin,
-                above,
-            }
-        }
-        Shape::Queue(_, _) => Ahead {
-            sums: of_history(entry, counters, energies),
-            bin: 0,
-            above: Totals { count: 0, sum: 0.0 },
-        },
-    }
+    answer(look_at_history(table, entry, counters, energies))
 }
 
 // Those of a set of histories.
-pub fn of_set(entries: [Entry; MOST], count: usize, counters: &[u32], energies: &[f64]) -> Sums
+pub fn of_set(table: &[f64; 1000], entries: [Entry; MOST], count: usize, counters: &[u32], energies: &[f64]) -> Sums
+    requires { ⌜ now table ≡ binEnergies ⌝ }
     ensures { λ r. ⌜ said r ≡ saidBy (ofSet (histories entries count (now (counters .entry)) (now (energies .entry)))) ⌝ }
 {
     if history::set::outside_set(entries, count, counters, energies) {
         return Sums::Refused(refusals::SET);
     }
-    answer(look_at_set(entries, count, counters, energies))
+    answer(look_at_set(table, entries, count, counters, energies))
 }

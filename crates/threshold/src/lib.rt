@@ -51,5 +51,6 @@ pub fn of_sums(sums: Sums) -> Threshold
 pub fn relative_threshold(entry: Entry, counters: &[u32], energies: &[f64]) -> Threshold
     ensures { λ r. ⌜ said r ≡ saidBy (relativeOf entry (now (counters .entry)) (now (energies .entry))) ⌝ }
 {
-    of_sums(sums::of_history(entry, counters, energies))
+    let table = tables::all_energies();
+    of_sums(sums::of_history(&table, entry, counters, energies))
 }

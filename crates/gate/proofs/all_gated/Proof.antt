@@ -9,7 +9,8 @@ use Rattle.history.specs.Set.{Histories, histories, shows, allShow}
 use Rattle.history.proofs.Entries.{past-the-last, inside-at, sound-at}
 use Rattle.history.proofs.Verdicts.{Kept, kept}
 use Rattle.blocks.specs.declared.Totals.{Totals}
-use Rattle.blocks.specs.Totals.{mostBlocks, Steady, none}
+use Rattle.blocks.specs.Totals.{mostBlocks, none}
+use Rattle.blocks.specs.Inner.{Steady}
 use Rattle.blocks.proofs.Nothing.{nothing-steady}
 use Rattle.gate.specs.Gate.{allGated}
 use Rattle.gate.proofs.Gating.{gated-on}
@@ -18,7 +19,7 @@ use Rattle.gate.proofs.all_gated.Statement.{statement}
 use Rattle.gate.proofs.all_gated.Tie as tie
 
 abbrev Inv-loop : tie.InvT-loop
-Inv-loop count counters energies threshold entries bin blocks₀ sum₀ i₀ blocks sum i =
+Inv-loop table count counters energies threshold entries bin blocks₀ sum₀ i₀ blocks sum i =
     (i ≤ count)
     × Steady sum
     × (blocks ≤ i * mostBlocks)
@@ -26,19 +27,19 @@ Inv-loop count counters energies threshold entries bin blocks₀ sum₀ i₀ blo
     ≡ allGated threshold none (allShow counters energies (take count entries)))
 
 abbrev μ-loop : tie.MeasureT-loop
-μ-loop count counters energies threshold entries bin blocks₀ sum₀ i₀ blocks sum i = count - i
+μ-loop table count counters energies threshold entries bin blocks₀ sum₀ i₀ blocks sum i = count - i
 
-start-bin-requires : tie.Need-start-bin-requires Inv-loop μ-loop
-start-bin-requires c κs = search needs
+start-in-requires : tie.Need-start-in-requires Inv-loop μ-loop
+start-in-requires c κs = search needs
 
 -- the set, which nothing refuses
 abbrev given : tie.At-loop Inv-loop μ-loop → Histories
 given l =
     let a = l .before .before .before .before .args in
-    histories (a .t1) (a .count) (now (a .counters)) (now (a .energies))
+    histories (a .t2) (a .count) (now (a .counters)) (now (a .energies))
 
 well : (l : tie.At-loop Inv-loop μ-loop) → Kept (given l)
-well l = kept (given l) (l .before .before .before .before .pre)
+well l = kept (given l) (l .before .before .before .before .pre .0)
 
 -- the totals so far
 abbrev so-far : tie.At-loop Inv-loop μ-loop → Totals
@@ -60,8 +61,9 @@ history-gated-requires c κs =
     let k = well l in (
       inside-at (length (h .counters)) (length (h .energies)) (h .entries) (h .count) (l .loop .i) (omega arith) (omega (arith, k .few)) (k .inside),
       sound-at (h .energies) (h .entries) (h .count) (l .loop .i) (omega arith) (omega (arith, k .few)) (k .stores),
-      l .before .start-bin .ensures,
+      l .before .start-in .ensures,
       l .loop .inv .1,
+      l .before .before .before .before .pre .1,
     )
 
 add-blocks : tie.Need-add-blocks Inv-loop μ-loop
@@ -102,7 +104,7 @@ all-gated-spec =
     (tie.spec
     Inv-loop
     μ-loop
-    start-bin-requires
+    start-in-requires
     loop-holds
     mul-entry
     array-copy-out-entry

@@ -17,7 +17,7 @@ use Rattle.gate.proofs.gate.Tie as tie
 -- the set, as it was given
 abbrev given : tie.After-of-sums → Histories
 given c =
-    let a = c .before .before .before .before .args in
+    let a = c .before .before .before .before .before .before .args in
     histories (a .entries) (a .count) (now (a .counters)) (now (a .energies))
 
 -- what is said of its threshold
@@ -26,6 +26,9 @@ told c threshold e = sym (ap said e) ∙ c .of-sums .ensures ∙ ap levelSaid (c
 
 answers-by : (c : tie.After-of-sums) (threshold : Threshold) → c .of-sums .result ≡ threshold → answeredAt (leftAt (given c)) (said threshold) ≡ saidBy (gateOf (given c))
 answers-by c threshold e = gate-at (given c) (said threshold) (told c threshold e)
+
+all-energies-requires : tie.Need-all-energies-requires
+all-energies-requires c κs = search needs
 
 of-set-requires : tie.Need-of-set-requires
 of-set-requires c κs = search needs
@@ -38,9 +41,9 @@ enum-known-energy c = search needs
 
 all-gated-requires : tie.Need-all-gated-requires
 all-gated-requires c κs =
-    let s = c .before .before .before in
-    let energy = c .before .energy .given in
-    nothing-refuses (given s) (energy .0 .0) (told s _ (energy .1))
+    let s = c .before .before .before .before in
+    let energy = c .before .before .energy .given in
+    (nothing-refuses (given s) (energy .0 .0) (told s _ (energy .1)), search needs)
 
 some-left-requires : tie.Need-some-left-requires
 some-left-requires c κs = search needs
@@ -53,13 +56,13 @@ enum-known-refusal c = search needs
 
 -- the blocks left are those at or above it
 left-is : (c : tie.After-all-gated) →
-    let k = c .before in
+    let k = c .before .before in
     c .all-gated .result ≡ allGated (k .before .energy .given .0 .0) none (historiesOf (given (k .before .before .before)))
 left-is c = c .all-gated .ensures
 
 returns : tie.Need-returns
 returns c =
-    let k = c .before .before in
+    let k = c .before .before .before in
     c .some-left .ensures
     ∙ ap (λ (left : Totals). saidBy (someLeft left)) (left-is (c .before))
     ∙ answers-by (k .before .before .before) _ (k .before .energy .given .1)
@@ -74,6 +77,7 @@ pub gate-spec : {M : Type 1} → statement M
 gate-spec =
     tie.close
     (tie.spec
+    all-energies-requires
     of-set-requires
     of-sums-requires
     enum-known-energy

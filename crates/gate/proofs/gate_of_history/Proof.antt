@@ -11,6 +11,7 @@ use Rattle.history.proofs.Entries.{inside-at, sound-at}
 use Rattle.history.proofs.Verdicts.{kept}
 use Rattle.blocks.specs.declared.Totals.{Totals}
 use Rattle.blocks.specs.Totals.{none}
+use Rattle.blocks.proofs.Nothing.{nothing-steady}
 use Rattle.sums.specs.Sums.{alone, ofSet}
 use Rattle.threshold.specs.declared.Threshold.{Threshold}
 use Rattle.threshold.specs.Relative.{levelSaid, said}
@@ -23,20 +24,23 @@ use Rattle.gate.proofs.gate_of_history.Tie as tie
 -- the history, as it was given
 abbrev given : tie.After-of-sums → Histories
 given c =
-    let a = c .before .before .before .before .before .args in
+    let a = c .before .before .before .before .before .before .args in
     alone (a .entry) (now (a .counters)) (now (a .energies))
 
 -- what is said of its threshold
 told : (c : tie.After-of-sums) (threshold : Threshold) → c .of-sums .result ≡ threshold → said threshold ≡ levelSaid (saidBy (ofSet (given c)))
 told c threshold e =
-    let a = c .before .before .before .before .before .args in
-    sym (ap said e) ∙ c .of-sums .ensures ∙ ap levelSaid (c .before .before .of-history-ahead .ensures .0 ∙ ap saidBy (alone-same (a .entry) (now (a .counters)) (now (a .energies))))
+    let a = c .before .before .before .before .before .before .args in
+    sym (ap said e) ∙ c .of-sums .ensures ∙ ap levelSaid (c .before .of-history .ensures ∙ ap saidBy (alone-same (a .entry) (now (a .counters)) (now (a .energies))))
 
 answers-by : (c : tie.After-of-sums) (threshold : Threshold) → c .of-sums .result ≡ threshold → answeredAt (leftAt (given c)) (said threshold) ≡ saidBy (gateOf (given c))
 answers-by c threshold e = gate-at (given c) (said threshold) (told c threshold e)
 
-of-history-ahead-requires : tie.Need-of-history-ahead-requires
-of-history-ahead-requires c κs = search needs
+all-energies-requires : tie.Need-all-energies-requires
+all-energies-requires c κs = search needs
+
+of-history-requires : tie.Need-of-history-requires
+of-history-requires c κs = search needs
 
 of-sums-requires : tie.Need-of-sums-requires
 of-sums-requires c κs = search needs
@@ -44,17 +48,22 @@ of-sums-requires c κs = search needs
 enum-known-energy : tie.Need-enum-known-energy
 enum-known-energy c = search needs
 
-gated-ahead-requires : tie.Need-gated-ahead-requires
-gated-ahead-requires c κs =
-    let s = c .before .before .before in
-    let a = s .before .before .before .before .before .args in
+start-in-requires : tie.Need-start-in-requires
+start-in-requires c κs = search needs
+
+history-gated-requires : tie.Need-history-gated-requires
+history-gated-requires c κs =
+    let s = c .before .before .before .before .before .before in
+    let a = s .before .before .before .before .before .before .args in
     let counters = now (a .counters) in
     let energies = now (a .energies) in
-    let energy = c .before .energy .given in
+    let energy = c .before .before .before .before .energy .given in
     let k = kept (given s) (nothing-refuses (given s) (energy .0 .0) (told s _ (energy .1))) in (
       inside-at (length counters) (length energies) (a .entry ∷ []) 1 0 (omega arith) (omega arith) (k .inside),
       sound-at energies (a .entry ∷ []) 1 0 (omega arith) (omega arith) (k .stores),
-      s .before .before .of-history-ahead .ensures .1,
+      c .before .start-in .ensures,
+      nothing-steady,
+      search needs,
     )
 
 some-left-requires : tie.Need-some-left-requires
@@ -67,15 +76,15 @@ enum-known-refusal : tie.Need-enum-known-refusal
 enum-known-refusal c = search needs
 
 -- the blocks left are those at or above it
-left-is : (c : tie.After-gated-ahead) →
-    let k = c .before .before in
-    c .gated-ahead .result ≡ allGated (k .energy .given .0 .0) none (historiesOf (given (k .before .before)))
+left-is : (c : tie.After-history-gated) →
+    let k = c .before .before .before .before .before in
+    c .history-gated .result ≡ allGated (k .energy .given .0 .0) none (historiesOf (given (k .before .before)))
 unfolding allGated allShow
-left-is c = c .gated-ahead .ensures
+left-is c = c .history-gated .ensures .0
 
 returns : tie.Need-returns
 returns c =
-    let k = c .before .before .before in
+    let k = c .before .before .before .before .before .before in
     c .some-left .ensures
     ∙ ap (λ (left : Totals). saidBy (someLeft left)) (left-is (c .before))
     ∙ answers-by (k .before .before) _ (k .energy .given .1)
@@ -90,10 +99,12 @@ pub gate-of-history-spec : {M : Type 1} → statement M
 gate-of-history-spec =
     tie.close
     (tie.spec
-    of-history-ahead-requires
+    all-energies-requires
+    of-history-requires
     of-sums-requires
     enum-known-energy
-    gated-ahead-requires
+    start-in-requires
+    history-gated-requires
     some-left-requires
     enum-told
     enum-known-refusal

@@ -8,7 +8,8 @@ use Rattle.history.specs.declared.set.Shape.{Shape}
 use Rattle.history.specs.Set.{blockEnd, storeEnd, blockAt, shapeShows}
 use Rattle.history.proofs.Entries.{block-inside, store-inside, sound-queue}
 use Rattle.blocks.specs.declared.Totals.{Totals}
-use Rattle.blocks.specs.Totals.{onTopOf, Steady, binsFrom}
+use Rattle.blocks.specs.Totals.{onTopOf, binsFrom}
+use Rattle.blocks.specs.Inner.{Steady}
 use Rattle.blocks.proofs.Nothing.{bins-steady}
 use Rattle.blocks.proofs.Running.{there}
 use Rattle.kept.proofs.Keeping.{queue-keeps}
@@ -20,7 +21,7 @@ enum-known-shape : tie.Need-enum-known-shape
 enum-known-shape c = search needs
 
 from-bin-requires : tie.Need-from-bin-requires
-from-bin-requires c κs = search needs
+from-bin-requires c κs = let w = c .before .before .before .before .before in (w .pre .4, w .pre .3)
 
 enum-known-shape-2 : tie.Need-enum-known-shape-2
 enum-known-shape-2 c = search needs

@@ -9,6 +9,7 @@ use Rattle.history.specs.Set.{blockEnd, storeEnd, shapeShows, shapeSound}
 use Rattle.history.proofs.Entries.{block-inside, store-inside}
 use Rattle.blocks.specs.Totals.{none}
 use Rattle.blocks.proofs.Running.{there}
+use Rattle.blocks.proofs.Nothing.{nothing-steady}
 use Rattle.sums.specs.Sums.{totalsOf}
 use Rattle.sums.proofs.Looking.{queue-totals}
 use Rattle.sums.proofs.look_at_history.Statement.{statement}
@@ -18,7 +19,7 @@ enum-known-shape : tie.Need-enum-known-shape
 enum-known-shape c = search needs
 
 from-bin-requires : tie.Need-from-bin-requires
-from-bin-requires c κs = search needs
+from-bin-requires c κs = (c .before .before .before .before .before .pre .0, nothing-steady)
 
 enum-known-shape-2 : tie.Need-enum-known-shape-2
 enum-known-shape-2 c = search needs
@@ -28,7 +29,7 @@ look-at-queue-requires c κs =
     let w = c .before .before .before .before .before in
     let a = w .args in
     subst (λ (s : Shape). storeEnd s ≤ length (now (a .energies))) (c .before .shape2 .given .1)
-    (store-inside (length (now (a .counters))) (length (now (a .energies))) (a .entry) (w .pre))
+    (store-inside (length (now (a .counters))) (length (now (a .energies))) (a .entry) (w .pre .1))
 
 returns : tie.Need-returns
 returns c =
@@ -39,7 +40,7 @@ returns c =
     let start = c .before .before .shape .given .0 .0 in
     let is = c .before .before .shape .given .1 in
     let within : start + 1000 ≤ length counters =
-    subst (λ (s : Shape). blockEnd s ≤ length counters) is (block-inside (length counters) (length energies) (a .entry) (w .pre)) in (
+    subst (λ (s : Shape). blockEnd s ≤ length counters) is (block-inside (length counters) (length energies) (a .entry) (w .pre .1)) in (
       ap (shapeSound energies) (sym is),
       λ _. (
         c .from-bin .ensures .0 ∙ there (none .sum) counters start 0 within ∙ ap (λ (s : Shape). totalsOf (shapeShows counters energies s)) (sym is),

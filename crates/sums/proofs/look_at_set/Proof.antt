@@ -17,7 +17,7 @@ use Rattle.sums.proofs.look_at_set.Statement.{statement}
 use Rattle.sums.proofs.look_at_set.Tie as tie
 
 abbrev Inv-loop : tie.InvT-loop
-Inv-loop count counters energies entries blocks₀ sum₀ i₀ blocks sum i =
+Inv-loop table count counters energies entries blocks₀ sum₀ i₀ blocks sum i =
     (i ≤ count)
     × (blocks ≤ i * mostBlocks)
     × (allSound energies (drop i (take count entries)) ≡ allSound energies (take count entries))
@@ -25,17 +25,20 @@ Inv-loop count counters energies entries blocks₀ sum₀ i₀ blocks sum i =
     ≡ allTotals none (allShow counters energies (take count entries)))
 
 abbrev μ-loop : tie.MeasureT-loop
-μ-loop count counters energies entries blocks₀ sum₀ i₀ blocks sum i = count - i
+μ-loop table count counters energies entries blocks₀ sum₀ i₀ blocks sum i = count - i
 
 -- the set, which is inside its slices
 abbrev given : tie.At-loop Inv-loop μ-loop → Histories
 given l =
     let a = l .before .before .before .args in
-    histories (a .t1) (a .count) (now (a .counters)) (now (a .energies))
+    histories (a .t2) (a .count) (now (a .counters)) (now (a .energies))
 
 within : (l : tie.At-loop Inv-loop μ-loop)
     → (given l .count ≤ mostHistories) × (anyOutside (length (given l .counters)) (length (given l .energies)) (chosen (given l)) ≡ false)
-within l = none-outside (given l) (l .before .before .before .pre)
+within l = none-outside (given l) (l .before .before .before .pre .1)
+
+there : (l : tie.At-loop Inv-loop μ-loop) → given l .count ≤ length (given l .entries)
+there l = omega (arith, within l .0)
 
 loop-holds : tie.Need-loop-holds Inv-loop μ-loop
 loop-holds c = (omega arith, omega arith, refl, refl)
@@ -50,7 +53,7 @@ look-at-history-requires : tie.Need-look-at-history-requires Inv-loop μ-loop
 look-at-history-requires c κs =
     let l = c .before .before in
     let h = given l in
-    inside-at (length (h .counters)) (length (h .energies)) (h .entries) (h .count) (l .loop .i) (omega arith) (omega (arith, within l .0)) (within l .1)
+    (l .before .before .before .pre .0, inside-at (length (h .counters)) (length (h .energies)) (h .entries) (h .count) (l .loop .i) (omega arith) (omega (arith, within l .0)) (within l .1))
 
 add-blocks : tie.Need-add-blocks Inv-loop μ-loop
 add-blocks c = let t = c .before in omega (arith, within (t .before .before .before .before) .0, t .before .look-at-history .ensures .1 (t .if1 .taken) .1)
@@ -70,8 +73,8 @@ loop-again c =
     let is = seen .ensures .1 (t .if1 .taken) in (
       omega arith,
       omega (arith, is .1),
-      sym (all-passed (h .energies) (h .entries) (h .count) (l .loop .i) (omega arith) (omega (arith, within l .0)) (sym (seen .ensures .0) ∙ t .if1 .taken)) ∙ l .loop .inv .2,
-      totals-turn (h .counters) (h .energies) (h .entries) (h .count) (l .loop .i) (record { count = l .loop .blocks; sum = l .loop .sum }) (omega arith) (omega (arith, within l .0))
+      sym (all-passed (h .energies) (h .entries) (h .count) (l .loop .i) (omega arith) (omega (arith, there l)) (sym (seen .ensures .0) ∙ t .if1 .taken)) ∙ l .loop .inv .2,
+      totals-turn (h .counters) (h .energies) (h .entries) (h .count) (l .loop .i) (record { count = l .loop .blocks; sum = l .loop .sum }) (omega arith) (omega (arith, there l))
           (record { count = seen .result .count; sum = seen .result .sum }) (is .0)
           ∙ l .loop .inv .3,
     )

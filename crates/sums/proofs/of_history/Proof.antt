@@ -26,8 +26,9 @@ returns c =
 
 look-at-history-requires : tie.Need-look-at-history-requires
 look-at-history-requires c κs =
-    let a = c .before .before .before .before .args in
-    history-inside (a .entry) (now (a .counters)) (now (a .energies)) (inside c)
+    let w = c .before .before .before .before in
+    let a = w .args in
+    (w .pre, history-inside (a .entry) (now (a .counters)) (now (a .energies)) (inside c))
 
 answer-requires : tie.Need-answer-requires
 answer-requires c κs = search needs

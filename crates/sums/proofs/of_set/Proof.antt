@@ -24,7 +24,7 @@ returns : tie.Need-returns
 returns c = sym (ap saidBy (set-outside (given (c .before .before .before .before)) (sym (c .before .outside-set .ensures) ∙ c .if1 .taken)))
 
 look-at-set-requires : tie.Need-look-at-set-requires
-look-at-set-requires c κs = inside c
+look-at-set-requires c κs = (c .before .before .before .before .pre, inside c)
 
 answer-requires : tie.Need-answer-requires
 answer-requires c κs = search needs

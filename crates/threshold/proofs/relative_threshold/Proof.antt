@@ -7,6 +7,9 @@ use Rattle.threshold.proofs.Levels.{history-level}
 use Rattle.threshold.proofs.relative_threshold.Statement.{statement}
 use Rattle.threshold.proofs.relative_threshold.Tie as tie
 
+all-energies-requires : tie.Need-all-energies-requires
+all-energies-requires c κs = search needs
+
 of-history-requires : tie.Need-of-history-requires
 of-history-requires c κs = search needs
 
@@ -15,8 +18,8 @@ of-sums-requires c κs = search needs
 
 returns : tie.Need-returns
 returns c =
-    let a = c .before .before .before .before .args in
+    let a = c .before .before .before .before .before .before .args in
     c .of-sums .ensures ∙ ap levelSaid (c .before .of-history .ensures) ∙ history-level (a .entry) (now (a .counters)) (now (a .energies))
 
 pub relative-threshold-spec : {M : Type 1} → statement M
-relative-threshold-spec = tie.close (tie.spec of-history-requires of-sums-requires returns)
+relative-threshold-spec = tie.close (tie.spec all-energies-requires of-history-requires of-sums-requires returns)
