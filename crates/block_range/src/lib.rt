@@ -98,7 +98,7 @@ fn ranked(block: &[u32], count: u64, start: usize) -> Range
 pub fn of_block(counters: &[u32], start: usize) -> Range
     ensures { λ r. ⌜ said r ≡ says (spanAt (now (counters .entry)) start) ⌝ }
 {
-    let totals = blocks::from_bin(0.0, counters, start, 0);
+    let totals = blocks::of_counters(counters, start);
     let count = totals.count;
     if count == 0 {
         return Range::Nothing;

@@ -14,8 +14,8 @@ use Rattle.tables.specs.Tables.{energyAt}
 use Rattle.histogram_bins.specs.Bin.{bins}
 use Rattle.history.specs.Set.{blockAt}
 use Rattle.blocks.specs.declared.Totals.{Totals}
-use Rattle.blocks.specs.Totals.{onTopOf, withBlocks, binsFrom, energiesFrom, fromBin}
-use Rattle.blocks.specs.Inner.{onwards, blocksIn, sumFrom, blocksAbove, sumAbove, Steady}
+use Rattle.blocks.specs.Totals.{onTopOf, withBlocks, binsFrom, blocksIn, energiesFrom, fromBin}
+use Rattle.blocks.specs.Inner.{sumFrom, blocksAbove, sumAbove}
 
 module _ (counters : List ℕ) (totals : Totals) (bin : ℕ) where
   pub bins-turn : bin < length counters

@@ -1,5 +1,5 @@
 -- Inner definitions: what the loops over stretches of bins go by, and the search for the bin where a gate starts.
-use Prim.Native.Nat.{ℕ, suc, _+_, _-_, _<_}
+use Prim.Native.Nat.{ℕ, suc, _-_, _<_}
 use mathlib.Core.Path.{_≡_}
 use mathlib.Core.Logic.{_⊎_}
 use mathlib.Core.Bool.{Bool, true, not}
@@ -10,7 +10,7 @@ use lib.ListN.{drop}
 use lib.Ieee.{Float, nan, inf, fin, binary64, add, mul, ofInt, fits, lt}
 use Rattle.tables.specs.Tables.{energyAt}
 use Rattle.blocks.specs.declared.Totals.{Totals}
-use Rattle.blocks.specs.Totals.{binsFrom}
+use Rattle.blocks.specs.Totals.{binsFrom, blocksIn}
 
 -- so many bins are passed over at once where none of them has a block
 abbrev pub stretch : ℕ
@@ -21,11 +21,6 @@ abbrev pub onwards : Totals → ℕ → List ℕ → Totals
 onwards totals bin counters = binsFrom totals bin (drop bin counters)
 
 -- ---- its two parts
--- how many blocks some bins have
-unfoldable pub blocksIn : List ℕ → ℕ
-blocksIn [] = 0
-blocksIn (count ∷ rest) = count + blocksIn rest
-
 -- the sum, from a bin upward
 unfoldable pub sumFrom : Float → ℕ → List ℕ → Float
 sumFrom sum bin [] = sum

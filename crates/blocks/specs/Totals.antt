@@ -33,6 +33,11 @@ unfoldable pub binsFrom : Totals → ℕ → List ℕ → Totals
 binsFrom totals bin [] = totals
 binsFrom totals bin (count ∷ rest) = binsFrom (withBlocks totals count (mul binary64 (ofInt binary64 (pos count)) (energyAt bin))) (suc bin) rest
 
+-- how many blocks some bins have
+unfoldable pub blocksIn : List ℕ → ℕ
+blocksIn [] = 0
+blocksIn (count ∷ rest) = count + blocksIn rest
+
 -- ---- queues
 -- energies one after the other, each a block
 unfoldable pub energiesFrom : Totals → List Float → Totals

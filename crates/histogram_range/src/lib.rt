@@ -6,16 +6,15 @@ use history::set::Shape;
 use spans::Range;
 ghost use mathlib.Core.Path.{_≡_};
 ghost use mathlib.Core.List.{List, []};
-ghost use Prim.Native.Nat.{ℕ, _+_, _-_, _*_, _≤_, _<_};
+ghost use Prim.Native.Nat.{ℕ, _+_, _-_, _*_, _≤_};
 ghost use lib.IntN.{pos};
 ghost use lib.ListN.{length, take};
 ghost use lib.Ieee.{binary64, ofInt};
 ghost use Rattle.refusals.specs.Outcome.{says, saidBy};
 ghost use Rattle.histogram_bins.specs.Bin.{bins};
-ghost use Rattle.tables.specs.Rows.{energiesARow, energyRows};
 ghost use Rattle.histogram.specs.Histogram.{largestCount, empty, sums};
 ghost use Rattle.history.specs.Set.{mostHistories, histories, blockEnd, blocksInside, shows, allShow};
-ghost use Rattle.blocks.specs.Totals.{none, binsFrom, rowsFrom};
+ghost use Rattle.blocks.specs.Totals.{none, binsFrom};
 ghost use Rattle.spans.specs.Span.{said};
 ghost use Rattle.histogram_range.specs.Counted.{
   mostInBin,
@@ -83,38 +82,22 @@ fn float(blocks: u64) -> f64
     (blocks as i64) as f64
 }
 
-// A row of bins on top of running totals.
-fn sum_row(totals: Totals, counters: &[u64], row: usize) -> Totals
-    requires { ⌜ (length (now counters) ≡ bins) × (row < energyRows) × AtMost mostInBin (now counters) × (totals .count ≤ energiesARow * row * mostInBin) ⌝ }
-    ensures { λ r. ⌜ (rowsFrom r (row + 1) (now (counters .entry)) ≡ rowsFrom totals row (now (counters .entry)))
-        × (r .count ≤ energiesARow * (row + 1) * mostInBin) ⌝ }
-{
-    let energies = tables::energy_row(row);
-    let first = tables::ENERGIES_A_ROW * row;
-    let mut count = totals.count;
-    let mut sum = totals.sum;
-    let mut i = 0;
-    while i < tables::ENERGIES_A_ROW {
-        let blocks = counters[first + i];
-        sum = sum + float(blocks) * energies[i];
-        count = count + blocks;
-        i += 1;
-    }
-    Totals { count, sum }
-}
-
 // The blocks of all bins and the sum of their energies, bins upward.
 fn sum_up(counters: &[u64]) -> Totals
     requires { ⌜ (length (now counters) ≡ bins) × AtMost mostInBin (now counters) ⌝ }
     ensures { λ r. ⌜ r ≡ binsFrom none 0 (now (counters .entry)) ⌝ }
 {
-    let mut totals = Totals { count: 0, sum: 0.0 };
-    let mut row = 0;
-    while row < tables::ENERGY_ROWS {
-        totals = sum_row(totals, counters, row);
-        row += 1;
+    let energies = tables::all_energies();
+    let mut count: u64 = 0;
+    let mut sum = 0.0;
+    let mut bin = 0;
+    while bin < histogram_bins::BINS {
+        let blocks = counters[bin];
+        sum = sum + float(blocks) * energies[bin];
+        count = count + blocks;
+        bin += 1;
     }
-    totals
+    Totals { count, sum }
 }
 
 // Each counter becomes the running count, so that the bin of a rank is found by halving.

@@ -1,48 +1,101 @@
--- `histogram_range::sum_up` meets its contract. The invariant: the rows from `row` on, on top of what was counted, give what all give. Assumes nothing.
+-- `histogram_range::sum_up` meets its contract. The invariant: the bins from `bin` on, on top of what was counted, give what all give. Assumes nothing.
 use Prim.Native.Nat.{_+_, _-_, _*_, _≤_}
 use native.Mathlib.Omega.{arith}
-use mathlib.Core.Path.{_≡_, refl, sym, _∙_}
+use mathlib.Core.Path.{_≡_, refl, sym, ap, _∙_}
 use borrow.Author.Needs.{needs}
 use denote.Ref.{now}
-use Rattle.tables.specs.Rows.{energiesARow, energyRows}
-use Rattle.blocks.specs.Totals.{none, binsFrom, rowsFrom}
-use Rattle.blocks.proofs.Running.{bins-end}
+use lib.IntN.{pos}
+use lib.Ieee.{Float, nan, binary64, add, mul, ofInt}
+use lib.ListN.{getD, drop}
+use Rattle.histogram_bins.specs.Bin.{bins}
+use Rattle.tables.proofs.Taken.{energy-entry}
+use Rattle.blocks.specs.declared.Totals.{Totals}
+use Rattle.blocks.specs.Totals.{none, binsFrom}
+use Rattle.blocks.proofs.Running.{bins-turn, bins-end}
 use Rattle.histogram_range.specs.Counted.{mostInBin}
 use Rattle.histogram_range.proofs.sum_up.Statement.{statement}
 use Rattle.histogram_range.proofs.sum_up.Tie as tie
 
 abbrev Inv-loop : tie.InvT-loop
-Inv-loop counters totals₀ row₀ totals row =
-    (row ≤ energyRows) × (totals .count ≤ energiesARow * row * mostInBin) × (rowsFrom totals row counters ≡ binsFrom none 0 counters)
+Inv-loop counters energies count₀ sum₀ bin₀ count sum bin =
+    (bin ≤ bins) × (count ≤ bin * mostInBin) × (binsFrom (record { count = count; sum = sum }) bin (drop bin counters) ≡ binsFrom none 0 counters)
 
 abbrev μ-loop : tie.MeasureT-loop
-μ-loop counters totals₀ row₀ totals row = energyRows - row
+μ-loop counters energies count₀ sum₀ bin₀ count sum bin = bins - bin
+
+all-energies-requires : tie.Need-all-energies-requires Inv-loop μ-loop
+all-energies-requires c κs = search needs
 
 loop-holds : tie.Need-loop-holds Inv-loop μ-loop
 loop-holds c = (omega arith, omega arith, refl)
 
-sum-row-requires : tie.Need-sum-row-requires Inv-loop μ-loop
-sum-row-requires c κs =
-    let l = c .before in
-    let s = l .before .before in
-    (s .pre .0, omega arith, s .pre .1, l .loop .inv .1)
+mul-blocks : tie.Need-mul-blocks Inv-loop μ-loop
+mul-blocks c = search needs
 
-add-row : tie.Need-add-row Inv-loop μ-loop
-add-row c = search needs
+shared-slice-read-blocks : tie.Need-shared-slice-read-blocks Inv-loop μ-loop
+shared-slice-read-blocks c = search needs
+
+-- the blocks read are at most what a bin of 16 histograms has
+read : (c : tie.In-loop Inv-loop μ-loop) →
+    let l = c .before in
+    getD (now (l .before .before .before .args .counters)) (l .loop .bin) 0 ≤ mostInBin
+read c = let l = c .before in l .before .before .before .pre .1 (l .loop .bin)
+
+float-requires : tie.Need-float-requires Inv-loop μ-loop
+float-requires c κs = read (c .before)
+
+mul-sum : tie.Need-mul-sum Inv-loop μ-loop
+mul-sum c = search needs
+
+array-read-sum : tie.Need-array-read-sum Inv-loop μ-loop
+array-read-sum c = search needs
+
+add-count : tie.Need-add-count Inv-loop μ-loop
+add-count c = omega (arith, read (c .before .before))
+
+add-bin : tie.Need-add-bin Inv-loop μ-loop
+add-bin c = search needs
 
 loop-less : tie.Need-loop-less Inv-loop μ-loop
 loop-less c = search needs
 
 loop-again : tie.Need-loop-again Inv-loop μ-loop
-loop-again c = let r = c .sum-row .ensures in (omega arith, r .1, r .0 ∙ c .before .before .loop .inv .2)
+loop-again c =
+    let l = c .before .before .before in
+    let counters = now (l .before .before .before .args .counters) in
+    let taken = l .before .all-energies in
+    let bin = l .loop .bin in
+    let blocks = getD counters bin 0 in
+    let next : Float → Totals = λ (x : Float). binsFrom (record { count = l .loop .count + blocks; sum = add binary64 (l .loop .sum) x }) (bin + 1) (drop (bin + 1) counters) in (
+      omega arith,
+      omega (arith, read (c .before .before)),
+      ap (λ (x : Float). next (mul binary64 x (getD (taken .result) bin nan))) (c .float .ensures)
+          ∙ ap (λ (x : Float). next (mul binary64 (ofInt binary64 (pos blocks)) x)) (energy-entry (taken .result) bin (taken .ensures))
+          ∙ bins-turn counters (record { count = l .loop .count; sum = l .loop .sum }) bin (omega (arith, l .before .before .before .pre .0))
+          ∙ l .loop .inv .2,
+    )
 
 returns : tie.Need-returns Inv-loop μ-loop
 returns c =
     let l = c .before in
-    let s = l .before .before in
-    sym (bins-end (now (s .args .counters)) (l .loop .totals) (energiesARow * l .loop .row + 0) (omega (arith, s .pre .0))) ∙ l .loop .inv .2
+    let s = l .before .before .before in
+    sym (bins-end (now (s .args .counters)) (record { count = l .loop .count; sum = l .loop .sum }) (l .loop .bin) (omega (arith, s .pre .0))) ∙ l .loop .inv .2
 
 pub sum-up-spec : {M : Type 1} → statement M
 sum-up-spec =
     tie.close
-    (tie.spec Inv-loop μ-loop loop-holds sum-row-requires add-row loop-less loop-again returns)
+    (tie.spec
+    Inv-loop
+    μ-loop
+    all-energies-requires
+    loop-holds
+    mul-blocks
+    shared-slice-read-blocks
+    float-requires
+    mul-sum
+    array-read-sum
+    add-count
+    add-bin
+    loop-less
+    loop-again
+    returns)
