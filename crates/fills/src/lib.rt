@@ -44,14 +44,3 @@ pub fn fill_f32_i16(block: &mut [f32], from: &[i16])
         i += 1;
     }
 }
-
-pub fn fill_f32_f32(block: &mut [f32], from: &[f32])
-    ensures { λ _. ⌜ now (block .exit) ≡ sets (now (block .entry)) 0 (map sampleOfF32 (now (from .entry))) ⌝ }
-{
-    let n = shorter(block.len(), from.len());
-    let mut i = 0;
-    while i < n {
-        block[i] = from[i];
-        i += 1;
-    }
-}

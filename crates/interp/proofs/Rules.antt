@@ -1,34 +1,17 @@
--- The rules of the coefficients, at each place. `checked` is one computed test over each whole table; each rule is a part of it, read off at a place. Assumes nothing.
+-- The rules of the coefficients, at each place. `checked` is one computed test over both whole tables; each rule is a part of it, read off at a place. Assumes nothing.
 use mathlib.Core.Path.{_≡_, refl, sym, subst}
 use mathlib.Core.Logic.{inl, inr}
 use mathlib.Core.Bool.{Bool, true, _&&_}
 use mathlib.Core.List.{List, [], _∷_}
-use Prim.Native.Nat.{ℕ, zero, suc, _+_, _-_, _<_, _≤_}
+use Prim.Native.Nat.{ℕ, zero, suc, _+_, _-_, _<_}
 use native.Mathlib.Nat.{le-of-suc-le-suc, not-suc-le-zero, eq-or-lt-of-le}
 use native.Mathlib.Omega.{arith}
 use lib.Dec.{T}
-use lib.ListN.{length, getD, List·getD-eq-default}
+use lib.ListN.{length, getD}
 use lib.Ieee.{Float, nan, ofBits}
 use lib.Ieee.Fits.{and-l, and-r}
-use Rattle.interp.specs.Taps.{fourfold, twofold, fourfoldAt, twofoldAt}
-use Rattle.interp.specs.Rules.{one, withinOne, near}
-
--- ---- past its end a table has NaN
-pub fourfold-length : length fourfold ≡ 48
-unfolding fourfold
-fourfold-length = refl
-
-pub twofold-length : length twofold ≡ 48
-unfolding twofold
-twofold-length = refl
-
-pub fourfold-past : (j : ℕ) → 48 ≤ j → fourfoldAt j ≡ nan
-unfolding fourfoldAt
-fourfold-past j h = List·getD-eq-default fourfold nan {n = j} (subst (λ (n : ℕ). n ≤ j) (sym fourfold-length) h)
-
-pub twofold-past : (j : ℕ) → 48 ≤ j → twofoldAt j ≡ nan
-unfolding twofoldAt
-twofold-past j h = List·getD-eq-default twofold nan {n = j} (subst (λ (n : ℕ). n ≤ j) (sym twofold-length) h)
+use Rattle.interp.specs.Taps.{fourfold, twofold}
+use Rattle.interp.specs.Rules.{one, withinOne, near, Ruled}
 
 -- ---- the test
 abbrev allWithin : List Float → Bool
@@ -51,14 +34,6 @@ checked : T right
 unfolding right ofBits
 checked = tt
 
-fourfold-ruled : T (ruled fourfold)
-unfolding right
-fourfold-ruled = and-l (ruled fourfold) (ruled twofold) checked
-
-twofold-ruled : T (ruled twofold)
-unfolding right
-twofold-ruled = and-r (ruled fourfold) (ruled twofold) checked
-
 -- ---- what the test says at a place, for any table
 within-at : (table : List Float) → T (allWithin table) → (j : ℕ) → j < length table → T (withinOne (getD table j nan))
 within-at [] t j h = absurd (not-suc-le-zero h)
@@ -72,27 +47,19 @@ mirrored-at table (suc n) t k h = elim (eq-or-lt-of-le (le-of-suc-le-suc h)) [
   | inr l ↦ mirrored-at table n (and-r (near (getD table (24 + n) nan) (getD table (24 - n) nan)) (mirrored table n) t) k l
 ]
 
+by-test : (table : List Float) → length table ≡ 48 → getD table 24 nan ≡ one → T (ruled table) → Ruled table
+by-test table size centre t =
+    record {
+      centre = centre;
+      within = λ j h. within-at table (and-l (allWithin table) (mirrored table 24) t) j (subst (λ (n : ℕ). j < n) (sym size) h);
+      mirrored = λ k h. mirrored-at table 24 (and-r (allWithin table) (mirrored table 24) t) k (omega arith);
+    }
+
 -- ---- the rules
-pub fourfold-centre : fourfoldAt 24 ≡ one
-unfolding fourfoldAt ofBits
-fourfold-centre = refl
+pub fourfold-ruled : Ruled fourfold
+unfolding fourfold ofBits right
+fourfold-ruled = by-test fourfold refl refl (and-l (ruled fourfold) (ruled twofold) checked)
 
-pub twofold-centre : twofoldAt 24 ≡ one
-unfolding twofoldAt ofBits
-twofold-centre = refl
-
-pub fourfold-within : (j : ℕ) → j < 48 → T (withinOne (fourfoldAt j))
-unfolding fourfoldAt
-fourfold-within j h = within-at fourfold (and-l (allWithin fourfold) (mirrored fourfold 24) fourfold-ruled) j (subst (λ (n : ℕ). j < n) (sym fourfold-length) h)
-
-pub fourfold-mirrored : (k : ℕ) → k ≤ 23 → T (near (fourfoldAt (24 + k)) (fourfoldAt (24 - k)))
-unfolding fourfoldAt
-fourfold-mirrored k h = mirrored-at fourfold 24 (and-r (allWithin fourfold) (mirrored fourfold 24) fourfold-ruled) k (omega arith)
-
-pub twofold-within : (j : ℕ) → j < 48 → T (withinOne (twofoldAt j))
-unfolding twofoldAt
-twofold-within j h = within-at twofold (and-l (allWithin twofold) (mirrored twofold 24) twofold-ruled) j (subst (λ (n : ℕ). j < n) (sym twofold-length) h)
-
-pub twofold-mirrored : (k : ℕ) → k ≤ 23 → T (near (twofoldAt (24 + k)) (twofoldAt (24 - k)))
-unfolding twofoldAt
-twofold-mirrored k h = mirrored-at twofold 24 (and-r (allWithin twofold) (mirrored twofold 24) twofold-ruled) k (omega arith)
+pub twofold-ruled : Ruled twofold
+unfolding twofold ofBits right
+twofold-ruled = by-test twofold refl refl (and-r (ruled fourfold) (ruled twofold) checked)

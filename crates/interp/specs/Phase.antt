@@ -7,16 +7,10 @@ use lib.Dec.{eqb}
 use lib.ListN.{take, getD, replicate}
 use lib.Ieee.{Float, nan, add, mul, ofBits, binary32}
 use Rattle.interp.specs.declared.Interp.{Interp}
-use Rattle.interp.specs.declared.Four.{Four}
-use Rattle.interp.specs.declared.Two.{Two}
-use Rattle.interp.specs.Taps.{fourfold as fourfoldTaps, twofold as twofoldTaps, fourfoldAt, twofoldAt}
+use Rattle.interp.specs.Taps.{fourfold as fourfoldTaps, twofold as twofoldTaps}
 use Rattle.interp.specs.Interp.{fourfold, twofold}
 
--- coefficient j of a factor, and NaN where there is none
-abbrev pub coefficientAt : ℕ → ℕ → Float
-coefficientAt factor j = cond (eqb factor (fourfold .factor)) (fourfoldAt j) (cond (eqb factor (twofold .factor)) (twofoldAt j) nan)
-
--- all of them
+-- the coefficients of a factor, and NaN where there are none
 abbrev pub coefficients : ℕ → List Float
 coefficients factor = cond (eqb factor (fourfold .factor)) fourfoldTaps (cond (eqb factor (twofold .factor)) twofoldTaps (replicate 48 nan))
 
@@ -28,42 +22,26 @@ nought = ofBits binary32 0
 abbrev pub plus : Float → Float → Float → Float
 plus sum x c = add binary32 sum (mul binary32 x c)
 
--- the sum carried on over samples, newest first: the first goes times coefficient j, each next one times the coefficient `factor` places on
-unfoldable pub summed : ℕ → ℕ → Float → List Float → Float
-summed factor j sum [] = sum
-summed factor j sum (x ∷ xs) = summed factor (j + factor) (plus sum x (coefficientAt factor j)) xs
+-- the sum carried on over samples, newest first: the first goes times tap j, each next one times the tap `factor` places on
+unfoldable pub summed : List Float → ℕ → ℕ → Float → List Float → Float
+summed taps factor j sum [] = sum
+summed taps factor j sum (x ∷ xs) = summed taps factor (j + factor) (plus sum x (getD taps j nan)) xs
 
--- the same by a table of taps
-unfoldable pub summedBy : List Float → ℕ → ℕ → Float → List Float → Float
-summedBy taps factor j sum [] = sum
-summedBy taps factor j sum (x ∷ xs) = summedBy taps factor (j + factor) (plus sum x (getD taps j nan)) xs
+-- phase f of these samples, by a table of taps
+abbrev pub phase : List Float → ℕ → List Float → ℕ → Float
+phase taps factor samples f = summed taps factor f nought samples
 
-unfoldable pub phase : Interp → List Float → ℕ → Float
+-- n phases from phase f on
+unfoldable pub phasesFrom : List Float → ℕ → List Float → ℕ → ℕ → List Float
 unfolding summed
-phase i history f = summed (i .factor) f nought (take (i .taps) history)
+phasesFrom taps factor samples f zero = []
+phasesFrom taps factor samples f (suc n) = phase taps factor samples f ∷ phasesFrom taps factor samples (suc f) n
 
--- n phases from phase f on, and all phases of an interpolator: one for each part that its factor makes of a frame
-unfoldable pub phasesFrom : Interp → List Float → ℕ → ℕ → List Float
-phasesFrom i history f zero = []
-phasesFrom i history f (suc n) = phase i history f ∷ phasesFrom i history (suc f) n
-
-unfoldable pub phases : Interp → List Float → List Float
-unfolding phasesFrom
-phases i history = phasesFrom i history 0 (i .factor)
-
-unfoldable pub phasesByFrom : List Float → Interp → List Float → ℕ → ℕ → List Float
-unfolding summedBy
-phasesByFrom taps i history f zero = []
-phasesByFrom taps i history f (suc n) = summedBy taps (i .factor) f nought (take (i .taps) history) ∷ phasesByFrom taps i history (suc f) n
-
--- the phases that a table of taps gives, in place of the interpolator's own coefficients
+-- all phases by a table of taps: one for each part that the factor makes of a frame
 unfoldable pub phasesBy : List Float → Interp → List Float → List Float
-unfolding phasesByFrom
-phasesBy taps i history = phasesByFrom taps i history 0 (i .factor)
+unfolding phasesFrom
+phasesBy taps i history = phasesFrom taps (i .factor) (take (i .taps) history) 0 (i .factor)
 
--- ---- the code's types as lists
-abbrev pub four : Four → List Float
-four r = r .p0 ∷ r .p1 ∷ r .p2 ∷ r .p3 ∷ []
-
-abbrev pub two : Two → List Float
-two r = r .p0 ∷ r .p1 ∷ []
+-- an interpolator's phases: by its own coefficients
+abbrev pub phases : Interp → List Float → List Float
+phases i = phasesBy (coefficients (i .factor)) i

@@ -1,8 +1,7 @@
 -- The 48 coefficients of each factor, as the bit patterns of their f32 values, printed by the oracle. Written by tools/make-taps: edit that program and not this file.
 use Prim.Native.Nat.{ℕ}
 use mathlib.Core.List.{List, [], _∷_, map}
-use lib.ListN.{getD}
-use lib.Ieee.{Float, nan, ofBits, binary32}
+use lib.Ieee.{Float, ofBits, binary32}
 
 unfoldable pub fourfoldBits : List ℕ
 fourfoldBits =
@@ -114,12 +113,3 @@ fourfold = map (ofBits binary32) fourfoldBits
 unfoldable pub twofold : List Float
 unfolding twofoldBits
 twofold = map (ofBits binary32) twofoldBits
-
--- the coefficient at a place, and NaN past the table's end
-unfoldable pub fourfoldAt : ℕ → Float
-unfolding fourfold
-fourfoldAt j = getD fourfold j nan
-
-unfoldable pub twofoldAt : ℕ → Float
-unfolding twofold
-twofoldAt j = getD twofold j nan

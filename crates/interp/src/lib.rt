@@ -1,9 +1,11 @@
-// The interpolator: which one a rate has, and its coefficients. Its phases at a frame are defined here, and `phases` has their code.
+// The interpolator: which one a rate has, its coefficients, and its phases at a frame.
 ghost use mathlib.Core.Path.{_≡_};
+ghost use Prim.Native.Nat.{_*_, _<_, _≤_};
+ghost use lib.ListN.{length};
 ghost use Rattle.interp.specs.Interp.{fourfold, twofold, kindOf, said};
-ghost use Rattle.interp.specs.Phase.{coefficientAt, coefficients};
+ghost use Rattle.interp.specs.Phase.{coefficients, phase, phases};
 
-pub mod taps;
+mod taps;
 
 pub struct Interp {
     pub factor: usize,
@@ -62,19 +64,6 @@ impl Interp {
         Scan::Off
     }
 
-    // Coefficient j. NaN where there is none.
-    pub fn coefficient(self, j: usize) -> f32
-        ensures { λ r. ⌜ r ≡ coefficientAt (self .factor) j ⌝ }
-    {
-        if self.factor == Interp::FOURFOLD {
-            return taps::fourfold(j);
-        }
-        if self.factor == Interp::TWOFOLD {
-            return taps::twofold(j);
-        }
-        0.0 / 0.0
-    }
-
     // All coefficients. NaN where there are none.
     pub fn coefficients(self) -> [f32; Interp::COEFFICIENTS]
         ensures { λ r. ⌜ r ≡ coefficients (self .factor) ⌝ }
@@ -87,17 +76,43 @@ impl Interp {
         }
         [0.0 / 0.0; Interp::COEFFICIENTS]
     }
+    // The four phases at a frame by factor 4, from its own sample and the 11 before it, newest first.
+    pub fn fourfold_phases(samples: &[f32; Interp::FOURFOLD_TAPS]) -> [f32; Interp::FOURFOLD]
+        ensures { λ r. ⌜ r ≡ phases fourfold (now (samples .entry)) ⌝ }
+    {
+        let taps = taps::FOURFOLD;
+        [
+            phase(&taps, Interp::FOURFOLD, samples, 0),
+            phase(&taps, Interp::FOURFOLD, samples, 1),
+            phase(&taps, Interp::FOURFOLD, samples, 2),
+            phase(&taps, Interp::FOURFOLD, samples, 3),
+        ]
+    }
+
+    // The two phases by factor 2, from its own sample and the 23 before it.
+    pub fn twofold_phases(samples: &[f32; Interp::TWOFOLD_TAPS]) -> [f32; Interp::TWOFOLD]
+        ensures { λ r. ⌜ r ≡ phases twofold (now (samples .entry)) ⌝ }
+    {
+        let taps = taps::TWOFOLD;
+        [
+            phase(&taps, Interp::TWOFOLD, samples, 0),
+            phase(&taps, Interp::TWOFOLD, samples, 1),
+        ]
+    }
 }
 
-// The phases at a frame, by factor.
-pub struct Four {
-    pub p0: f32,
-    pub p1: f32,
-    pub p2: f32,
-    pub p3: f32,
-}
-
-pub struct Two {
-    pub p0: f32,
-    pub p1: f32,
+// Phase f of these samples, newest first, by a table of taps. Product and sum are rounded each by itself.
+fn phase(taps: &[f32; Interp::COEFFICIENTS], factor: usize, samples: &[f32], f: usize) -> f32
+    requires { ⌜ (f < factor) × (length (now samples) * factor ≤ 48) ⌝ }
+    ensures { λ r. ⌜ r ≡ phase (now (taps .entry)) factor (now (samples .entry)) f ⌝ }
+{
+    let mut sum = 0.0;
+    let mut at = f;
+    let mut i = 0;
+    while i < samples.len() {
+        sum = sum + samples[i] * taps[at];
+        at += factor;
+        i += 1;
+    }
+    sum
 }

@@ -15,7 +15,7 @@ use lib.Ieee.{Float, nan, inf, fin, binary32, up, down, round, sum, add, mul, of
 use lib.Ieee.Fits.{down-pos}
 use lib.Ieee.Scale.{round-same}
 use Rattle.interp.specs.declared.Interp.{Interp}
-use Rattle.interp.specs.Phase.{nought, plus, summedBy, phasesByFrom, phasesBy}
+use Rattle.interp.specs.Phase.{nought, plus, summed, phasesFrom, phasesBy}
 use Rattle.largest_phase.specs.Largest.{magnitude, louder, loudest}
 use Rattle.largest_phase.specs.Line.{back}
 use Rattle.largest_phase.specs.Taps.{minusNought, sumsFrom, sumsBy}
@@ -74,8 +74,8 @@ alike-added x y z (zeros s t e g) =
     subst (λ (v : Float). Alike (add binary32 v z) (add binary32 y z)) (sym e) (subst (λ (v : Float). Alike (add binary32 (zeroOf s) z) (add binary32 v z)) (sym g) (zeros-alike s t z))
 
 -- ---- the sums of a frame, and its phases
-summed-alike : (taps : List Float) (factor j : ℕ) (s t : Float) (xs : List Float) → Alike s t → Alike (summedBy taps factor j s xs) (summedBy taps factor j t xs)
-unfolding summedBy
+summed-alike : (taps : List Float) (factor j : ℕ) (s t : Float) (xs : List Float) → Alike s t → Alike (summed taps factor j s xs) (summed taps factor j t xs)
+unfolding summed
 summed-alike taps factor j s t [] h = h
 summed-alike taps factor j s t (x ∷ xs) h =
     let c = getD taps j nan in
@@ -85,17 +85,16 @@ starts : Alike minusNought nought
 unfolding ofBits
 starts = zeros true false refl refl
 
-phases-alike : (taps : List Float) (i : Interp) (history : List Float) (peak : Float) (f n : ℕ) → loudest peak (sumsFrom taps i history f n) ≡ loudest peak (phasesByFrom taps i history f n)
-unfolding loudest sumsFrom phasesByFrom
-phases-alike taps i history peak f zero = refl
-phases-alike taps i history peak f (suc n) =
-    let xs = take (i .taps) history in
-    let mine = summedBy taps (i .factor) f minusNought xs in
-    let its = summedBy taps (i .factor) f nought xs in
-    ap (λ (v : Float). loudest (louder peak v) (sumsFrom taps i history (suc f) n)) (alike-magnitude mine its (summed-alike taps (i .factor) f minusNought nought xs starts))
-    ∙ phases-alike taps i history (louder peak (magnitude its)) (suc f) n
+phases-alike : (taps : List Float) (factor : ℕ) (samples : List Float) (peak : Float) (f n : ℕ) → loudest peak (sumsFrom taps factor samples f n) ≡ loudest peak (phasesFrom taps factor samples f n)
+unfolding loudest sumsFrom phasesFrom
+phases-alike taps factor samples peak f zero = refl
+phases-alike taps factor samples peak f (suc n) =
+    let mine = summed taps factor f minusNought samples in
+    let its = summed taps factor f nought samples in
+    ap (λ (v : Float). loudest (louder peak v) (sumsFrom taps factor samples (suc f) n)) (alike-magnitude mine its (summed-alike taps factor f minusNought nought samples starts))
+    ∙ phases-alike taps factor samples (louder peak (magnitude its)) (suc f) n
 
 -- a frame's window begins at place `at` of a line
 pub raised-alike : (taps : List Float) (i : Interp) (line : List Float) (peak : Float) (at : ℕ) (sums : List Float) → sums ≡ sumsBy taps i (back line at 24) → loudest peak sums ≡ loudest peak (phasesBy taps i (back line at 24))
 unfolding sumsBy phasesBy
-raised-alike taps i line peak at sums e = ap (loudest peak) e ∙ phases-alike taps i (back line at 24) peak 0 (i .factor)
+raised-alike taps i line peak at sums e = ap (loudest peak) e ∙ phases-alike taps (i .factor) (take (i .taps) (back line at 24)) peak 0 (i .factor)

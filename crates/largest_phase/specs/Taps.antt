@@ -4,25 +4,32 @@ use Prim.Native.Nat.{ℕ, zero, suc, _+_}
 use lib.ListN.{getD, take}
 use lib.Ieee.{Float, nan, ofBits, binary32}
 use Rattle.interp.specs.declared.Interp.{Interp}
-use Rattle.interp.specs.declared.Four.{Four}
-use Rattle.interp.specs.declared.Two.{Two}
-use Rattle.interp.specs.Phase.{plus, summedBy}
+use Rattle.interp.specs.Phase.{plus, summed}
+use Rattle.largest_phase.specs.declared.Four.{Four}
+use Rattle.largest_phase.specs.declared.Two.{Two}
 use Rattle.largest_phase.specs.declared.Fours.{Fours}
 use Rattle.largest_phase.specs.declared.Twos.{Twos}
+
+-- ---- the code's types as lists
+abbrev pub four : Four → List Float
+four r = r .p0 ∷ r .p1 ∷ r .p2 ∷ r .p3 ∷ []
+
+abbrev pub two : Two → List Float
+two r = r .p0 ∷ r .p1 ∷ []
 
 -- -0
 abbrev pub minusNought : Float
 minusNought = ofBits binary32 0x8000_0000
 
 -- the phases that a table of taps gives, with sums that begin at -0 in place of 0: they differ in the sign of a zero at most, so they raise a peak alike
-unfoldable pub sumsFrom : List Float → Interp → List Float → ℕ → ℕ → List Float
-unfolding summedBy
-sumsFrom taps i history f zero = []
-sumsFrom taps i history f (suc n) = summedBy taps (i .factor) f minusNought (take (i .taps) history) ∷ sumsFrom taps i history (suc f) n
+unfoldable pub sumsFrom : List Float → ℕ → List Float → ℕ → ℕ → List Float
+unfolding summed
+sumsFrom taps factor samples f zero = []
+sumsFrom taps factor samples f (suc n) = summed taps factor f minusNought samples ∷ sumsFrom taps factor samples (suc f) n
 
 unfoldable pub sumsBy : List Float → Interp → List Float → List Float
 unfolding sumsFrom
-sumsBy taps i history = sumsFrom taps i history 0 (i .factor)
+sumsBy taps i history = sumsFrom taps (i .factor) (take (i .taps) history) 0 (i .factor)
 
 -- where the windows of four frames begin in a line
 pub record Windows : Type 0 where

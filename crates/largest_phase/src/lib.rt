@@ -6,13 +6,11 @@ ghost use lib.ListN.{length, getD, set};
 ghost use lib.Dec.{T};
 ghost use lib.Ieee.{nan, isNan, lt};
 ghost use Rattle.interp.specs.Interp.{fourfold, twofold};
-ghost use Rattle.interp.specs.Phase.{four, two, phasesBy};
+ghost use Rattle.interp.specs.Phase.{phasesBy};
 ghost use Rattle.largest_phase.specs.Largest.{magnitude, louder, loudest};
 ghost use Rattle.largest_phase.specs.Line.{block, quarter, back, scanned, loudestOf, Louds, Raised, Pairs};
-ghost use Rattle.largest_phase.specs.Taps.{sumsBy, windows, onFour, fourAt, tapFour, onPair, tapPair};
-use interp::Four;
+ghost use Rattle.largest_phase.specs.Taps.{four, two, sumsBy, windows, onFour, fourAt, tapFour, onPair, tapPair};
 use interp::Interp;
-use interp::Two;
 
 // How many frames of a channel are taken at a time, a half of them and a quarter: four frames side by side fill a vector each.
 pub const BLOCK: usize = 128;
@@ -64,6 +62,19 @@ fn raised(peak: f32, x: f32) -> f32
         return magnitude(x);
     }
     peak
+}
+
+// The phases of a frame, by factor, or the sums on the way to them.
+struct Four {
+    p0: f32,
+    p1: f32,
+    p2: f32,
+    p3: f32,
+}
+
+struct Two {
+    p0: f32,
+    p1: f32,
 }
 
 fn loudest_four(peak: f32, p: Four) -> f32

@@ -2,7 +2,7 @@
 use filter::Filter;
 use filter::Filtered;
 use filter::Switches;
-use phases::Twelve;
+use interp::Interp;
 use recurrence::Coefficients;
 use refusals::Answer;
 use sample_peak::Peaks;
@@ -168,35 +168,18 @@ pub(crate) fn phases_same(case: &[u8]) -> bool {
     twofold_same(case)
 }
 
-fn twelve_at(case: &[u8], from: usize) -> Twelve {
-    let mut samples: [f32; 12] = [0.0; 12];
-    fill_narrow(case, from, 12, &mut samples);
-    Twelve {
-        v0: samples[0],
-        v1: samples[1],
-        v2: samples[2],
-        v3: samples[3],
-        v4: samples[4],
-        v5: samples[5],
-        v6: samples[6],
-        v7: samples[7],
-        v8: samples[8],
-        v9: samples[9],
-        v10: samples[10],
-        v11: samples[11],
-    }
-}
-
 fn fourfold_same(case: &[u8]) -> bool {
-    let p = phases::fourfold_phases(twelve_at(case, 2));
-    let phases = [p.p0, p.p1, p.p2, p.p3];
-    narrow_same(case, 98, 4, &phases)
+    let mut samples: [f32; Interp::FOURFOLD_TAPS] = [0.0; Interp::FOURFOLD_TAPS];
+    fill_narrow(case, 2, Interp::FOURFOLD_TAPS, &mut samples);
+    let phases = Interp::fourfold_phases(&samples);
+    narrow_same(case, 98, Interp::FOURFOLD, &phases)
 }
 
 fn twofold_same(case: &[u8]) -> bool {
-    let p = phases::twofold_phases(twelve_at(case, 2), twelve_at(case, 50));
-    let phases = [p.p0, p.p1];
-    narrow_same(case, 98, 2, &phases)
+    let mut samples: [f32; Interp::TWOFOLD_TAPS] = [0.0; Interp::TWOFOLD_TAPS];
+    fill_narrow(case, 2, Interp::TWOFOLD_TAPS, &mut samples);
+    let phases = Interp::twofold_phases(&samples);
+    narrow_same(case, 98, Interp::TWOFOLD, &phases)
 }
 
 // ---- calls

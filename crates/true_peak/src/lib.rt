@@ -13,13 +13,13 @@ ghost use Rattle.true_peak.specs.Line.{room};
 ghost use Rattle.samples.specs.Frames.{column};
 ghost use Rattle.calls.specs.Calls.{mostChannels};
 ghost use Rattle.true_peak_state.specs.TruePeak.{historyAt, channelOf, withChannel, measured};
-ghost use Rattle.true_peak.specs.TruePeak.{processed, seeded};
+ghost use Rattle.true_peak.specs.TruePeak.{processed};
 use interp::Interp;
 use interp::Scan;
 use refusals::Answer;
 use true_peak_state::TruePeak;
 
-// What `process` and `seed` answer, beside the state.
+// What a call answers, beside the state.
 pub struct Measured {
     pub answer: Answer,
     pub state: TruePeak,
@@ -271,26 +271,5 @@ pub fn process(rate: u32, t: TruePeak, channels: usize, samples: &[f32]) -> Meas
     Measured {
         answer: Answer::Done,
         state: measure(rate, t, channels, samples),
-    }
-}
-
-// The memory after a block of interleaved samples, whose peaks are not wanted.
-pub fn seed(rate: u32, t: TruePeak, channels: usize, samples: &[f32]) -> Measured
-    ensures { λ r. ⌜ said (r .answer) ≡ saidBy (seeded rate (record { channels = channels; samples = now (samples .entry) }) t) ⌝ }
-    ensures { λ r. ⌜ r .state ≡ keptBy t (seeded rate (record { channels = channels; samples = now (samples .entry) }) t) ⌝ }
-{
-    let number = calls::refused_frames(channels, samples.len());
-    if number != 0 {
-        return Measured {
-            answer: Answer::Refused(number),
-            state: t,
-        };
-    }
-    let peaks = t.peaks;
-    let mut moved = measure(rate, t, channels, samples);
-    moved.peaks = peaks;
-    Measured {
-        answer: Answer::Done,
-        state: moved,
     }
 }

@@ -8,8 +8,8 @@ use lib.ListN.{getD, replicate}
 use lib.Ieee.{Float, nan, fin, add, mul, lt, ofBits}
 use Rattle.interp.specs.Interp.{kindOf}
 use Rattle.interp.specs.Rules.{one}
-use Rattle.interp.specs.Taps.{fourfoldAt, twofoldAt}
-use Rattle.interp.specs.Phase.{nought, phase, phases}
+use Rattle.interp.specs.Taps.{fourfold, twofold}
+use Rattle.interp.specs.Phase.{nought, phasesBy}
 use Rattle.true_peak_state.specs.declared.TruePeak.{TruePeak}
 use Rattle.largest_phase.specs.Largest.{loudest}
 use Rattle.true_peak_state.specs.Channel.{heard}
@@ -27,17 +27,17 @@ peakAt rate n = getD (measured (kindOf rate) (fullScale n) silent .peaks) 0 nan
 
 -- "Mono, 44,100, -32768 then eleven zeros: true peak 1.0."
 pub at-44100 : peakAt 44100 11 ≡ one
-unfolding peakAt measured heard loudest phases phase column fourfoldAt add mul lt ofBits
+unfolding peakAt measured heard loudest phasesBy column fourfold add mul lt ofBits
 at-44100 = refl
 
 -- "At 96,000 the peak reaches 1.0 with twelve zeros."
 pub at-96000 : peakAt 96000 12 ≡ one
-unfolding peakAt measured heard loudest phases phase column twofoldAt add mul lt ofBits
+unfolding peakAt measured heard loudest phasesBy column twofold add mul lt ofBits
 at-96000 = refl
 
 -- with eleven it has not: 0.6338966 is below 1
 pub before-96000 : lt (peakAt 96000 11) one ≡ true
-unfolding peakAt measured heard loudest phases phase column twofoldAt add mul lt ofBits
+unfolding peakAt measured heard loudest phasesBy column twofold add mul lt ofBits
 before-96000 = refl
 
 -- "At 192,000: none": whatever the samples, the state stays

@@ -80,9 +80,9 @@ fn weigh(
 }
 
 // The memories of two channels that are weighed side by side: one channel's sums wait on themselves, and two channels' do not wait on each other.
-pub struct Pair {
-    pub one: Memory,
-    pub two: Memory,
+struct Pair {
+    one: Memory,
+    two: Memory,
 }
 
 // A frame of two channels side by side, the second's output `part` places after the first's.

@@ -7,7 +7,6 @@ ghost use Rattle.states.specs.Channels.{callOf};
 ghost use Rattle.weighting.specs.Weighting.{weighed, kept};
 use recurrence::Coefficients;
 use refusals::Answer;
-use states::State;
 
 mod channels;
 
@@ -48,33 +47,4 @@ pub fn process_lent(
         start,
     );
     Answer::Done
-}
-
-// What a call answers, beside the state. A refused call leaves it as given.
-pub struct Weighted {
-    pub answer: Answer,
-    pub state: State,
-}
-
-// `process_lent` on a copy of the state.
-pub fn process(
-    c: Coefficients,
-    s: State,
-    channels: usize,
-    ints: &[i16],
-    floats: &[f32],
-    map: &[u8],
-    dest: &mut [f64],
-    start: usize,
-) -> Weighted
-    ensures { λ r. ⌜ said (r .answer) ≡ saidBy (weighed (callOf c s channels (sourceOf (now (ints .entry)) (now (floats .entry))) (now (map .entry))) (now (dest .entry)) start) ⌝ }
-    ensures { λ r. ⌜ r .state ≡ kept (callOf c s channels (sourceOf (now (ints .entry)) (now (floats .entry))) (now (map .entry))) (now (dest .entry)) start .state ⌝ }
-    ensures { λ r. ⌜ now (dest .exit) ≡ kept (callOf c s channels (sourceOf (now (ints .entry)) (now (floats .entry))) (now (map .entry))) (now (dest .entry)) start .dest ⌝ }
-{
-    let mut state = s.values;
-    let answer = process_lent(c, &mut state, channels, ints, floats, map, dest, start);
-    Weighted {
-        answer: answer,
-        state: State { values: state },
-    }
 }

@@ -2,10 +2,9 @@
 use mathlib.Core.Path.{ap, _∙_}
 use native.Mathlib.Omega.{arith}
 use lib.Ieee.{ofBits, neg}
-use Rattle.interp.specs.Phase.{four}
 use Rattle.largest_phase.specs.declared.Fours.{Fours}
 use Rattle.largest_phase.specs.Line.{back}
-use Rattle.largest_phase.specs.Taps.{sumsBy, windows, tapFour}
+use Rattle.largest_phase.specs.Taps.{four, sumsBy, windows, tapFour}
 use Rattle.largest_phase.proofs.each_four.Statement.{statement}
 use Rattle.largest_phase.proofs.each_four.Tie as tie
 

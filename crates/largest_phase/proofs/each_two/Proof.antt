@@ -2,10 +2,9 @@
 use mathlib.Core.Path.{ap, _∙_}
 use native.Mathlib.Omega.{arith}
 use lib.Ieee.{ofBits, neg}
-use Rattle.interp.specs.Phase.{two}
 use Rattle.largest_phase.specs.declared.Twos.{Twos}
 use Rattle.largest_phase.specs.Line.{back}
-use Rattle.largest_phase.specs.Taps.{sumsBy, windows, tapPair}
+use Rattle.largest_phase.specs.Taps.{two, sumsBy, windows, tapPair}
 use Rattle.largest_phase.proofs.each_two.Statement.{statement}
 use Rattle.largest_phase.proofs.each_two.Tie as tie
 

@@ -1,6 +1,6 @@
 -- `true_peak::scan` meets its contract: the factor tells the two interpolators apart, and the taps lent are its coefficients. Assumes nothing.
 use borrow.Author.Needs.{needs}
-use mathlib.Core.Path.{_≡_, sym, ap, _∙_}
+use mathlib.Core.Path.{_≡_, ap, _∙_}
 use mathlib.Core.List.{List}
 use Prim.Native.Nat.{ℕ, min, _≤_}
 use native.Mathlib.Nat.{min-eq-left}
@@ -9,21 +9,18 @@ use Rattle.interp.specs.declared.Interp.{Interp}
 use Rattle.interp.specs.Interp.{fourfold, twofold}
 use Rattle.interp.specs.Phase.{coefficients, phases, phasesBy}
 use Rattle.interp.proofs.Rates.{known-fourfold, known-twofold}
-use Rattle.interp.proofs.Table.{four-table, two-table}
 use Rattle.largest_phase.specs.Line.{block, scanned}
 use Rattle.true_peak.proofs.scan.Statement.{statement}
 use Rattle.true_peak.proofs.scan.Tie as tie
 
 -- a scan by a table of an interpolator's own coefficients is a scan by its phases
 own-taps : (k i : Interp) → k ≡ i → (taps line : List Float) (n : ℕ) (peak r : Float) → taps ≡ coefficients (i .factor) → n ≤ block
-    → ((history : List Float) → phasesBy (coefficients (k .factor)) k history ≡ phases k history)
     → r ≡ scanned (phasesBy taps k) line 0 (min n block) peak → r ≡ scanned (phases i) line 0 n peak
-own-taps k i e taps line n peak r t h same f =
+own-taps k i e taps line n peak r t h f =
     f
     ∙ ap (λ (m : ℕ). scanned (phasesBy taps k) line 0 m peak) (min-eq-left h)
-    ∙ ap (λ (q : List Float). scanned (phasesBy q k) line 0 n peak) (t ∙ ap (λ (j : Interp). coefficients (j .factor)) (sym e))
-    ∙ ap (λ (p : List Float → List Float). scanned p line 0 n peak) (λ x history. same history x)
-    ∙ ap (λ (j : Interp). scanned (phases j) line 0 n peak) e
+    ∙ ap (λ (q : List Float). scanned (phasesBy q k) line 0 n peak) t
+    ∙ ap (λ (j : Interp). scanned (phasesBy (coefficients (i .factor)) j) line 0 n peak) e
 
 scan-fourfold-requires : tie.Need-scan-fourfold-requires
 scan-fourfold-requires c κs = search needs
@@ -32,7 +29,7 @@ returns : tie.Need-returns
 returns c =
     let s = c .before .before .before in
     let a = s .args in
-    own-taps fourfold (a .i) (known-fourfold (a .i) (s .pre .0) (c .before .if1 .taken)) (a .taps .now) (a .line .now) (a .n) (a .peak) (c .scan-fourfold .result) (s .pre .1 .0) (s .pre .1 .1) four-table (c .scan-fourfold .ensures)
+    own-taps fourfold (a .i) (known-fourfold (a .i) (s .pre .0) (c .before .if1 .taken)) (a .taps .now) (a .line .now) (a .n) (a .peak) (c .scan-fourfold .result) (s .pre .1 .0) (s .pre .1 .1) (c .scan-fourfold .ensures)
 
 scan-twofold-requires : tie.Need-scan-twofold-requires
 scan-twofold-requires c κs = search needs
@@ -41,7 +38,7 @@ returns-2 : tie.Need-returns-2
 returns-2 c =
     let s = c .before .before .before in
     let a = s .args in
-    own-taps twofold (a .i) (known-twofold (a .i) (s .pre .0) (c .before .if1 .left)) (a .taps .now) (a .line .now) (a .n) (a .peak) (c .scan-twofold .result) (s .pre .1 .0) (s .pre .1 .1) two-table (c .scan-twofold .ensures)
+    own-taps twofold (a .i) (known-twofold (a .i) (s .pre .0) (c .before .if1 .left)) (a .taps .now) (a .line .now) (a .n) (a .peak) (c .scan-twofold .result) (s .pre .1 .0) (s .pre .1 .1) (c .scan-twofold .ensures)
 
 pub scan-spec : {M : Type 1} → statement M
 scan-spec = tie.close (tie.spec scan-fourfold-requires returns scan-twofold-requires returns-2)

@@ -3,7 +3,7 @@ use borrow.Author.Needs.{needs}
 use borrow.Author.Tests.{ne-eqb}
 use native.Mathlib.Omega.{arith}
 use mathlib.Core.Path.{sym, ap}
-use mathlib.Core.Bool.{true, false, not, true≢false}
+use mathlib.Core.Bool.{not, true≢false}
 use lib.ListN.{getD}
 use Rattle.weighting.proofs.channels.both_used.Statement.{statement}
 use Rattle.weighting.proofs.channels.both_used.Tie as tie

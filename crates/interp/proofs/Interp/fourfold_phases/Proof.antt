@@ -1,0 +1,34 @@
+-- `interp::Interp::fourfold_phases` meets its contract: the phases look at twelve samples, which are all, and the constant is the table. Assumes nothing.
+use borrow.Author.Needs.{needs}
+use mathlib.Core.Path.{_≡_}
+use native.Mathlib.Omega.{arith}
+use lib.ListN.{take}
+use lib.Seq.{take-all}
+use lib.Ieee.{ofBits}
+use Rattle.interp.specs.Taps.{fourfold}
+use Rattle.interp.specs.Phase.{phasesBy}
+use Rattle.interp.proofs.Interp.fourfold_phases.Statement.{statement}
+use Rattle.interp.proofs.Interp.fourfold_phases.Tie as tie
+
+phase-requires : tie.Need-phase-requires
+phase-requires c κs = search needs
+
+phase-requires-2 : tie.Need-phase-requires-2
+phase-requires-2 c κs = search needs
+
+phase-requires-3 : tie.Need-phase-requires-3
+phase-requires-3 c κs = search needs
+
+phase-requires-4 : tie.Need-phase-requires-4
+phase-requires-4 c κs = search needs
+
+returns : tie.Need-returns
+unfolding phasesBy fourfold ofBits
+returns c =
+    let samples = c .before .before .before .before .before .before .before .before .before .before .before .before .args .samples .now in
+    let whole : take 12 samples ≡ samples = take-all 12 samples (omega arith) in
+    cc
+
+pub fourfold-phases-spec : {M : Type 1} → statement M
+fourfold-phases-spec =
+    tie.close (tie.spec phase-requires phase-requires-2 phase-requires-3 phase-requires-4 returns)

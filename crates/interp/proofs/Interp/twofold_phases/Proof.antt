@@ -1,0 +1,27 @@
+-- `interp::Interp::twofold_phases` meets its contract: the phases look at twenty-four samples, which are all, and the constant is the table. Assumes nothing.
+use borrow.Author.Needs.{needs}
+use mathlib.Core.Path.{_≡_}
+use native.Mathlib.Omega.{arith}
+use lib.ListN.{take}
+use lib.Seq.{take-all}
+use lib.Ieee.{ofBits}
+use Rattle.interp.specs.Taps.{twofold}
+use Rattle.interp.specs.Phase.{phasesBy}
+use Rattle.interp.proofs.Interp.twofold_phases.Statement.{statement}
+use Rattle.interp.proofs.Interp.twofold_phases.Tie as tie
+
+phase-requires : tie.Need-phase-requires
+phase-requires c κs = search needs
+
+phase-requires-2 : tie.Need-phase-requires-2
+phase-requires-2 c κs = search needs
+
+returns : tie.Need-returns
+unfolding phasesBy twofold ofBits
+returns c =
+    let samples = c .before .before .before .before .before .before .args .samples .now in
+    let whole : take 24 samples ≡ samples = take-all 24 samples (omega arith) in
+    cc
+
+pub twofold-phases-spec : {M : Type 1} → statement M
+twofold-phases-spec = tie.close (tie.spec phase-requires phase-requires-2 returns)
