@@ -76,6 +76,7 @@ impl Interp {
         }
         [0.0 / 0.0; Interp::COEFFICIENTS]
     }
+
     // The four phases at a frame by factor 4, from its own sample and the 11 before it, newest first.
     pub fn fourfold_phases(samples: &[f32; Interp::FOURFOLD_TAPS]) -> [f32; Interp::FOURFOLD]
         ensures { λ r. ⌜ r ≡ phases fourfold (now (samples .entry)) ⌝ }
