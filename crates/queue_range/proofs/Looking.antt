@@ -1,6 +1,6 @@
 -- The energies that the entries hold, an entry at a time: how many, whether one is NaN, and that all are above zero where none is NaN.
 -- An entry's energies stand before those of the rest; none is below boundary 0, which is above zero. Assumes nothing.
-use mathlib.Core.Path.{_≡_, refl, sym, ap, subst, _∙_}
+use mathlib.Core.Path.{_≡_, refl, sym, ap, _∙_}
 use mathlib.Core.Bool.{Bool, true, false, not, _&&_, _||_, true≢false}
 use mathlib.Core.List.{List, [], _∷_, _++_}
 use Prim.Native.Nat.{ℕ, zero, suc, _+_, _-_, _*_, _≤_, _<_}
@@ -11,11 +11,11 @@ use borrow.Author.Tests.{lt-ltb}
 use lib.Dec.{T, ltb→lt, lt→ltb}
 use lib.ListN.{length, getD, take, drop, set, length-take, length-append}
 use lib.Seq.{drop-cons, getD-take, sets}
-use lib.Ieee.{Float, nan, inf, fin, up, down, lt, le, ne, isNan}
+use lib.Ieee.{Float, nan, inf, fin, up, down, lt, ne, isNan}
 use lib.Ieee.Fits.{up-pos, down-pos}
 use lib.Ieee.Positive.{positive, above}
 use Rattle.floats.proofs.Nan.{differs}
-use Rattle.floats.proofs.Order.{is-true, is-false, lt-not-le, le-nan}
+use Rattle.floats.proofs.Order.{is-true}
 use Rattle.tables.specs.Tables.{boundaryAt}
 use Rattle.tables.proofs.Rules.{boundary-positive}
 use Rattle.histogram_bins.specs.Energy.{dropped}
@@ -30,7 +30,7 @@ use Rattle.rising_order.specs.Order.{allAbove}
 use Rattle.queue_range.specs.declared.Parts.{Parts}
 use Rattle.queue_range.specs.declared.Seen.{Seen}
 use Rattle.queue_range.specs.Listed.{heldBy, allHeld, anyNan}
-use Rattle.queue_range.specs.Inner.{heldIn, heldAt, suitsAt, part, StandIn, Sees}
+use Rattle.queue_range.specs.Inner.{heldIn, heldAt, suitsAt, part, StandIn, withSeen}
 use Rattle.queue_range.proofs.Copying.{sets-append}
 
 -- ---- NaN in a part
@@ -42,13 +42,13 @@ or-false : (a : Bool) → a || false ≡ a
 or-false true = refl
 or-false false = refl
 
-pub part-next : (l : List Float) (i until : ℕ) (d : Float) → i < until → until ≤ length l → part i until l ≡ getD l i d ∷ part (i + 1) until l
+part-next : (l : List Float) (i until : ℕ) (d : Float) → i < until → until ≤ length l → part i until l ≡ getD l i d ∷ part (i + 1) until l
 part-next l i until d h g =
     ap (λ (n : ℕ). take n (drop i l)) {x = until - i} {y = suc (until - (i + 1))} (omega arith)
     ∙ ap (take (suc (until - (i + 1)))) (drop-cons l i d (omega arith))
     ∙ ap {B = List Float} (λ (n : ℕ). getD l i d ∷ take (until - (i + 1)) (drop n l)) (sym (add-one i))
 
-pub part-end : (l : List Float) (i until : ℕ) → until ≤ i → part i until l ≡ []
+part-end : (l : List Float) (i until : ℕ) → until ≤ i → part i until l ≡ []
 part-end l i until h = ap (λ (n : ℕ). take n (drop i l)) {x = until - i} {y = 0} (omega arith)
 
 and-assoc : (a b c : Bool) → (a && b) && c ≡ a && (b && c)
@@ -82,24 +82,6 @@ module _ (l : List Float) (i until : ℕ) where
   unfolding noneBelow
   fine-end fine h = rw (part-end l i until h) (and-true fine)
 
--- ---- energies that reach boundary 0
-no-nan : (lo x : Float) → le lo x ≡ true → isNan x ≡ false
-unfolding isNan
-no-nan lo nan e = absurd (true≢false (sym e ∙ le-nan lo))
-no-nan lo (inf s) e = refl
-no-nan lo (fin s m d) e = refl
-
-pub reach-turn : (l : List Float) (i until : ℕ) (fine : Bool) (least d : Float) → least ≡ boundaryAt 0 → i < until → until ≤ length l
-    → fine && le least (getD l i d) ≡ true
-    → (fine ≡ true) × (noneBelow (part i until l) ≡ noneBelow (part (i + 1) until l)) × (anyNan (part i until l) ≡ anyNan (part (i + 1) until l))
-unfolding noneBelow anyNan
-reach-turn l i until fine least d e h g t =
-    let known = both fine (le least (getD l i d)) t in
-    let reaches : T (le (boundaryAt 0) (getD l i d)) = subst (λ (lo : Float). T (le lo (getD l i d))) e (subst T (sym (known .1)) tt) in
-    let kept : dropped (getD l i d) ≡ false = is-false (dropped (getD l i d)) (λ below. lt-not-le (getD l i d) (boundaryAt 0) below reaches) in
-    let number = no-nan least (getD l i d) (known .1) in
-    (known .0, rw (part-next l i until d h g, kept), rw (part-next l i until d h g, number))
-
 -- ---- a part that is copied
 module _ (work l : List Float) (place i until : ℕ) where
   pub copy-turn : (d : Float) → i < until → until ≤ length l → sets (set work place (getD l i d)) (place + 1) (part (i + 1) until l) ≡ sets work place (part i until l)
@@ -109,10 +91,23 @@ module _ (work l : List Float) (place i until : ℕ) where
   pub copy-end : until ≤ i → sets work place (part i until l) ≡ work
   copy-end h = ap (sets work place) (part-end l i until h)
 
+-- ---- what was seen, and then more
 nan-append : (a b : List Float) → anyNan (a ++ b) ≡ anyNan a || anyNan b
 unfolding anyNan
 nan-append [] b = refl
 nan-append (x ∷ a) b = rw (nan-append a b, or-assoc)
+
+pub seen-is : (before : Seen) (l : List Float) (blocks : ℕ) (fine nans : Bool) → blocks ≡ before .blocks + length l → fine ≡ before .fine && noneBelow l
+    → nans ≡ before .nan || anyNan l → record { blocks = blocks; fine = fine; nan = nans } ≡ withSeen before l
+seen-is before l blocks fine nans p q r = rw (p, q, r)
+
+pub seen-append : (before : Seen) (a b : List Float) → withSeen (withSeen before a) b ≡ withSeen before (a ++ b)
+seen-append before a b =
+    seen-is before (a ++ b) _ _ _ (omega (arith, length-append a b)) (rw (none-below-append, and-assoc)) (rw (nan-append, or-assoc))
+
+pub seen-none : (seen : Seen) → withSeen seen [] ≡ seen
+unfolding noneBelow anyNan
+seen-none seen = sym (seen-is seen [] (seen .blocks) (seen .fine) (seen .nan) (omega arith) (sym (and-true (seen .fine))) (sym (or-false (seen .nan))))
 
 -- ---- an entry that is inside and sound
 stores-in : (energies : ℕ) (l : List Entry) (i : ℕ) → i < length l → storesInside energies l → storeEnd (getD l i past-the-last .shape) ≤ energies
@@ -136,9 +131,10 @@ unfolding noneBelow
 sound-suits energies (Histogram start) h = refl
 sound-suits energies (Queue-at start queue) h = rw h
 
-pub unsound : (energies : List Float) (s : Shape) → suitsAt s ≡ false → false ≡ shapeSound energies s
-unsound energies (Histogram start) h = absurd (true≢false h)
-unsound energies (Queue-at start queue) h = rw h
+pub unsound : (energies : List Float) (s : Shape) (fine : Bool) → suitsAt s ≡ false → false ≡ fine && shapeSound energies s
+unsound energies (Histogram start) fine h = absurd (true≢false h)
+unsound energies (Queue-at start queue) true h = rw h
+unsound energies (Queue-at start queue) false h = refl
 
 -- ---- entry by entry
 module _ (energies : List Float) (l : List Entry) (count i : ℕ) where
@@ -146,7 +142,7 @@ module _ (energies : List Float) (l : List Entry) (count i : ℕ) where
   unfolding allHeld
   held-end h = ap allHeld (shows-end [] energies l count i h)
 
-  pub held-next : i < count → count ≤ length l
+  held-next : i < count → count ≤ length l
       → heldIn energies (drop i (take count l)) ≡ heldBy (shows [] energies (getD l i past-the-last)) ++ heldIn energies (drop (i + 1) (take count l))
   unfolding allHeld
   held-next h g = ap allHeld (shows-next [] energies l count i h g)
@@ -156,20 +152,21 @@ module _ (energies : List Float) (l : List Entry) (count i : ℕ) where
   held-count h g =
       ap length (held-next h g) ∙ length-append (heldAt energies (getD l i past-the-last)) (heldIn energies (drop (i + 1) (take count l)))
 
-  pub sound-next : i < count → count ≤ length l → (fine here : Bool) → here ≡ isSound energies (getD l i past-the-last)
-      → (fine && here) && allSound energies (drop (i + 1) (take count l)) ≡ fine && allSound energies (drop i (take count l))
+  pub sound-next : i < count → count ≤ length l → (fine : Bool)
+      → (fine && isSound energies (getD l i past-the-last)) && allSound energies (drop (i + 1) (take count l)) ≡ fine && allSound energies (drop i (take count l))
   unfolding allSound
-  sound-next h g fine here e = rw (and-assoc, next-entry l count i past-the-last h g, e)
+  sound-next h g fine = rw (and-assoc, next-entry l count i past-the-last h g)
 
   pub sound-end : count ≤ i → (fine : Bool) → fine && allSound energies (drop i (take count l)) ≡ fine
   sound-end h fine = rw (all-end energies l count i h) (and-true fine)
 
-  pub held-nan : i < count → count ≤ length l → (found here : Bool) → here ≡ anyNan (heldAt energies (getD l i past-the-last))
-      → (found || here) || anyNan (heldIn energies (drop (i + 1) (take count l))) ≡ found || anyNan (heldIn energies (drop i (take count l)))
-  held-nan h g found here e =
-      or-assoc found here (anyNan (heldIn energies (drop (i + 1) (take count l))))
-      ∙ ap (λ (b : Bool). found || (b || anyNan (heldIn energies (drop (i + 1) (take count l))))) e
-      ∙ sym (ap (λ (b : Bool). found || b) (ap anyNan (held-next h g) ∙ nan-append (heldAt energies (getD l i past-the-last)) (heldIn energies (drop (i + 1) (take count l)))))
+  pub seen-next : i < count → count ≤ length l → (before seen : Seen) → seen ≡ withSeen before (heldAt energies (getD l i past-the-last))
+      → withSeen seen (heldIn energies (drop (i + 1) (take count l))) ≡ withSeen before (heldIn energies (drop i (take count l)))
+  seen-next h g before seen e =
+      let rest = heldIn energies (drop (i + 1) (take count l)) in
+      ap (λ (s : Seen). withSeen s rest) e
+      ∙ seen-append before (heldAt energies (getD l i past-the-last)) rest
+      ∙ ap (withSeen before) (sym (held-next h g))
 
   -- this entry's energies are stored, and then those of the others
   pub held-set : i < count → count ≤ length l → (work next : List Float) (at after : ℕ) → next ≡ sets work at (heldAt energies (getD l i past-the-last))
@@ -197,19 +194,9 @@ module _ (energies : List Float) (entry : Entry) (p : Parts) (s : StandIn (entry
       ∙ length-append older newer
       ∙ omega (arith, slice-length (p .from) (p .until) energies (omega (arith, s .inside)), slice-length (p .start) (p .end) energies (omega (arith, s .within)))
 
-  pub parts-see : (a b c : Seen) → Sees older a → Sees newer b → c .blocks ≡ a .blocks + b .blocks → c .fine ≡ a .fine && b .fine → c .nan ≡ a .nan || b .nan
-      → Sees (heldAt energies entry) c
-  parts-see a b c f g p q r =
-      let held = s .held energies k in
-      record {
-        blocks-are = omega (arith, p, f .blocks-are, g .blocks-are, ap length held ∙ length-append older newer);
-        fine-is =
-            q ∙ ap (λ (x : Bool). x && b .fine) (f .fine-is) ∙ ap (λ (x : Bool). noneBelow older && x) (g .fine-is)
-            ∙ sym (ap noneBelow held ∙ none-below-append older newer);
-        nan-is =
-            r ∙ ap (λ (x : Bool). x || b .nan) (f .nan-is) ∙ ap (λ (x : Bool). anyNan older || x) (g .nan-is)
-            ∙ sym (ap anyNan held ∙ nan-append older newer);
-      }
+  pub parts-seen : (before a b : Seen) → a ≡ withSeen before older → b ≡ withSeen a newer → b ≡ withSeen before (heldAt energies entry)
+  parts-seen before a b f g =
+      g ∙ ap (λ (s : Seen). withSeen s newer) f ∙ seen-append before older newer ∙ ap (withSeen before) (sym (s .held energies k))
 
   pub parts-set : (work : List Float) (at middle : ℕ) → middle ≡ at + (p .until - p .from) → sets (sets work at older) middle newer ≡ sets work at (heldAt energies entry)
   parts-set work at middle e =
@@ -275,7 +262,3 @@ none-below-held energies (entry ∷ l) s =
     one (Queue-at start queue) h r =
         let q = both (suits queue (queue .maximum)) (noneBelow (heldOf (queueAt energies start queue))) h in
         rw (none-below-append (heldOf (queueAt energies start queue)) (heldIn energies l), q .1, r)
-
-pub nan-done : (found : Bool) (l : List Float) → l ≡ [] → found || anyNan l ≡ found
-unfolding anyNan
-nan-done found l e = ap (λ (r : List Float). found || anyNan r) e ∙ or-false found

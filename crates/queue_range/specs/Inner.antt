@@ -1,6 +1,6 @@
 -- What the steps of the range over queues are stated by: where the energies of an entry stand, and how many there can be.
 use mathlib.Core.Path.{_≡_}
-use mathlib.Core.Bool.{Bool, true}
+use mathlib.Core.Bool.{Bool, true, false, _&&_, _||_}
 use mathlib.Core.List.{List, [], _++_}
 use Prim.Native.Nat.{ℕ, _+_, _-_, _*_, _≤_}
 use lib.ListN.{length, take, drop}
@@ -45,8 +45,13 @@ pub record StandIn (shape : Shape) (parts : Parts) : Type 0 where
   pub held : (energies : List Float) → storeEnd shape ≤ length energies
       → heldBy (shapeShows [] energies shape) ≡ part (parts .from) (parts .until) energies ++ part (parts .start) (parts .end) energies
 
--- what a look at energies sees: how many there are, whether none is below boundary 0, and whether one is NaN
-pub record Sees (energies : List Float) (seen : Seen) : Type 0 where
-  pub blocks-are : seen .blocks ≡ length energies
-  pub fine-is : seen .fine ≡ noneBelow energies
-  pub nan-is : seen .nan ≡ anyNan energies
+-- what was seen of energies, and then of more: how many there are, whether none is below boundary 0, and whether one is NaN
+abbrev pub withSeen : Seen → List Float → Seen
+withSeen before energies = record {
+  blocks = before .blocks + length energies;
+  fine = before .fine && noneBelow energies;
+  nan = before .nan || anyNan energies;
+}
+
+abbrev pub seenOf : List Float → Seen
+seenOf energies = withSeen (record { blocks = 0; fine = true; nan = false }) energies

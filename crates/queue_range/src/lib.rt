@@ -4,16 +4,16 @@ use history::set::MOST;
 use history::set::Shape;
 use spans::Range;
 ghost use mathlib.Core.Path.{_≡_};
-ghost use mathlib.Core.Bool.{true, false};
+ghost use mathlib.Core.Bool.{true, _&&_};
 ghost use Prim.Native.Nat.{_+_, _-_, _^_, _≤_, _<_};
 ghost use lib.Seq.{sets};
 ghost use lib.ListN.{length, take};
 ghost use Rattle.refusals.specs.Outcome.{saidBy, keptBy};
 ghost use Rattle.queue.specs.Queue.{longest};
-ghost use Rattle.history.specs.Set.{mostHistories, histories, storeEnd, storesInside, noneBelow, isSound, allSound};
+ghost use Rattle.history.specs.Set.{mostHistories, histories, storeEnd, storesInside, isSound, allSound};
 ghost use Rattle.spans.specs.Span.{said};
-ghost use Rattle.queue_range.specs.Listed.{anyNan, listedRange, queueRange};
-ghost use Rattle.queue_range.specs.Inner.{mostHeld, heldIn, heldAt, suitsAt, part, StandIn, Sees};
+ghost use Rattle.queue_range.specs.Listed.{listedRange, queueRange};
+ghost use Rattle.queue_range.specs.Inner.{mostHeld, heldIn, heldAt, suitsAt, part, StandIn, withSeen, seenOf};
 
 // Where the energies of an entry stand in the lent energies: those of a queue between its head and the end of its store, and those from its store's start.
 struct Parts {
@@ -68,29 +68,14 @@ struct Seen {
     nan: bool,
 }
 
-// Whether all energies from a place up to another reach boundary 0, which NaN does not. No turn branches, so that several are looked at in one step.
-fn all_reach(energies: &[f64], from: usize, until: usize) -> bool
-    requires { ⌜ (from ≤ until) × (until ≤ length (now energies)) ⌝ }
-    ensures { λ r. ⌜ (r ≡ true → (noneBelow (part from until (now (energies .entry))) ≡ true) × (anyNan (part from until (now (energies .entry))) ≡ false)) ⌝ }
+// A look at the energies from a place up to another, after what was seen before.
+fn look_at(before: Seen, energies: &[f64], from: usize, until: usize) -> Seen
+    requires { ⌜ (from ≤ until) × (until ≤ length (now energies)) × (before .blocks + (until - from) ≤ mostHeld) ⌝ }
+    ensures { λ r. ⌜ r ≡ withSeen before (part from until (now (energies .entry))) ⌝ }
 {
     let least = histogram_bins::lowest_boundary();
-    let mut fine = true;
-    let mut i = from;
-    while i < until {
-        fine = fine & (least <= energies[i]);
-        i += 1;
-    }
-    fine
-}
-
-// At the energies from a place up to another, where one does not reach it.
-fn look_closely(energies: &[f64], from: usize, until: usize) -> Seen
-    requires { ⌜ (from ≤ until) × (until ≤ length (now energies)) ⌝ }
-    ensures { λ r. ⌜ Sees (part from until (now (energies .entry))) r ⌝ }
-{
-    let least = histogram_bins::lowest_boundary();
-    let mut fine = true;
-    let mut nan = false;
+    let mut fine = before.fine;
+    let mut nan = before.nan;
     let mut i = from;
     while i < until {
         let energy = energies[i];
@@ -99,41 +84,22 @@ fn look_closely(energies: &[f64], from: usize, until: usize) -> Seen
         i += 1;
     }
     Seen {
-        blocks: until - from,
+        blocks: before.blocks + (until - from),
         fine,
         nan,
     }
 }
 
-// At the energies from a place up to another. One question of each is enough where all reach boundary 0.
-fn look_at(energies: &[f64], from: usize, until: usize) -> Seen
-    requires { ⌜ (from ≤ until) × (until ≤ length (now energies)) ⌝ }
-    ensures { λ r. ⌜ Sees (part from until (now (energies .entry))) r ⌝ }
-{
-    if all_reach(energies, from, until) {
-        return Seen {
-            blocks: until - from,
-            fine: true,
-            nan: false,
-        };
-    }
-    look_closely(energies, from, until)
-}
-
 // At those that an entry holds. One that does not suit its store is not fine.
-fn look_in(entry: Entry, energies: &[f64]) -> Seen
-    requires { ⌜ storeEnd (entry .shape) ≤ length (now energies) ⌝ }
-    ensures { λ r. ⌜ (r .fine ≡ isSound (now (energies .entry)) entry) × (isSound (now (energies .entry)) entry ≡ true → Sees (heldAt (now (energies .entry)) entry) r) × (r .blocks ≤ longest) ⌝ }
+fn look_in(before: Seen, entry: Entry, energies: &[f64]) -> Seen
+    requires { ⌜ (storeEnd (entry .shape) ≤ length (now energies)) × (before .blocks + longest ≤ mostHeld) ⌝ }
+    ensures { λ r. ⌜ (r .fine ≡ (before .fine && isSound (now (energies .entry)) entry))
+        × (isSound (now (energies .entry)) entry ≡ true → r ≡ withSeen before (heldAt (now (energies .entry)) entry)) × (r .blocks ≤ before .blocks + longest) ⌝ }
 {
     if suits(entry) {
         let parts = parts_of(entry);
-        let older = look_at(energies, parts.from, parts.until);
-        let newer = look_at(energies, parts.start, parts.end);
-        return Seen {
-            blocks: older.blocks + newer.blocks,
-            fine: older.fine & newer.fine,
-            nan: older.nan | newer.nan,
-        };
+        let older = look_at(before, energies, parts.from, parts.until);
+        return look_at(older, energies, parts.start, parts.end);
     }
     Seen {
         blocks: 0,
@@ -146,21 +112,20 @@ fn look_in(entry: Entry, energies: &[f64]) -> Seen
 fn look(entries: [Entry; MOST], count: usize, energies: &[f64]) -> Seen
     requires { ⌜ (count ≤ mostHistories) × (storesInside (length (now energies)) (take count entries)) ⌝ }
     ensures { λ r. ⌜ (r .fine ≡ allSound (now (energies .entry)) (take count entries))
-        × (allSound (now (energies .entry)) (take count entries) ≡ true → Sees (heldIn (now (energies .entry)) (take count entries)) r) × (r .blocks ≤ mostHeld) ⌝ }
+        × (allSound (now (energies .entry)) (take count entries) ≡ true → r ≡ seenOf (heldIn (now (energies .entry)) (take count entries))) ⌝ }
 {
-    let mut blocks = 0;
-    let mut fine = true;
-    let mut nan = false;
+    let mut seen = Seen {
+        blocks: 0,
+        fine: true,
+        nan: false,
+    };
     let mut i = 0;
     while i < count {
         let entry = entries[i];
-        let seen = look_in(entry, energies);
-        fine = fine & seen.fine;
-        nan = nan | seen.nan;
-        blocks = blocks + seen.blocks;
+        seen = look_in(seen, entry, energies);
         i += 1;
     }
-    Seen { blocks, fine, nan }
+    seen
 }
 
 // The energies from a place up to another, from a place of the work slice on.
@@ -214,7 +179,7 @@ fn in_order(
     seen: Seen,
 ) -> Range
     requires { ⌜ (count ≤ mostHistories) × (storesInside (length (now energies)) (take count entries)) × (allSound (now energies) (take count entries) ≡ true)
-        × Sees (heldIn (now energies) (take count entries)) seen ⌝ }
+        × (seen ≡ seenOf (heldIn (now energies) (take count entries))) ⌝ }
     ensures { λ r. ⌜ (said r ≡ saidBy (listedRange (heldIn (now (energies .entry)) (take count entries)) (now (work .entry))))
         × (now (work .exit) ≡ keptBy (now (work .entry)) (listedRange (heldIn (now (energies .entry)) (take count entries)) (now (work .entry)))) ⌝ }
 {

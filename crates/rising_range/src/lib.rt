@@ -23,7 +23,7 @@ fn sum_of(rising: &[f64]) -> f64
     sum
 }
 
-// How many energies are looked at before a look may stop. Within them no turn branches, so that several are looked at at once.
+// How many energies are looked at before a look may stop.
 const STRETCH: usize = 64;
 
 // Whether all from a place up to another are below the gate.
@@ -40,26 +40,14 @@ fn all_below(rising: &[f64], from: usize, until: usize, gate: f64) -> bool
     fine
 }
 
-// Leading energies below the gate, as many as whole stretches hold.
-fn stretches(rising: &[f64], gate: f64) -> usize
-    ensures { λ r. ⌜ (r ≤ length (now (rising .entry))) × (fromGate gate (drop r (now (rising .entry))) ≡ fromGate gate (now (rising .entry))) ⌝ }
-{
-    let mut i = 0;
-    while rising.len() - i > STRETCH {
-        if all_below(rising, i, i + STRETCH, gate) {
-            i += STRETCH;
-        } else {
-            return i;
-        }
-    }
-    i
-}
-
-// How many leading energies are below the gate.
+// How many leading energies are below the gate: whole stretches first, then one by one.
 fn skipped(rising: &[f64], gate: f64) -> usize
     ensures { λ r. ⌜ (r ≤ length (now (rising .entry))) × (drop r (now (rising .entry)) ≡ fromGate gate (now (rising .entry))) ⌝ }
 {
-    let mut i = stretches(rising, gate);
+    let mut i = 0;
+    while rising.len() - i > STRETCH && all_below(rising, i, i + STRETCH, gate) {
+        i += STRETCH;
+    }
     while i < rising.len() {
         if rising[i] < gate {
             i += 1;

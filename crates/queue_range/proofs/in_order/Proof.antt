@@ -10,9 +10,9 @@ use lib.ListN.{length, take, drop, length-append, length-drop}
 use lib.Seq.{length-take-le, length-sets, take-at, drop-at}
 use Rattle.refusals.specs.Outcome.{says}
 use Rattle.rising_order.specs.Order.{inOrder, allAbove, ordered}
-use Rattle.rising_order.proofs.Perms.{perm-length}
-use Rattle.rising_order.proofs.InOrder.{in-order-perm}
+use Rattle.rising_order.proofs.InOrder.{in-order-length}
 use Rattle.rising_range.specs.Rising.{listedSpan}
+use Rattle.queue_range.specs.declared.Seen.{Seen}
 use Rattle.queue_range.specs.Listed.{anyNan}
 use Rattle.queue_range.specs.Inner.{heldIn}
 use Rattle.queue_range.proofs.Looking.{above-held, none-below-held}
@@ -32,7 +32,7 @@ held k =
     heldIn (now (a .energies)) (take (a .count) (a .entries))
 
 count : (k : tie.After-slice-known) → k .before .before .args .seen .blocks ≡ length (held k)
-count k = k .before .before .pre .3 .blocks-are
+count k = omega (arith, ap (λ (s : Seen). s .blocks) (k .before .before .pre .3))
 
 -- ---- copied
 abbrev seen : tie.After-copy-all → tie.After-slice-known
@@ -48,7 +48,7 @@ fits : (p : tie.After-copy-all) → length (held (seen p)) ≤ length (work (see
 fits p = omega (arith, count (seen p), p .before .before .before .if1 .left)
 
 no-nan : (p : tie.After-copy-all) → anyNan (held (seen p)) ≡ false
-no-nan p = sym (seen p .before .before .pre .3 .nan-is) ∙ p .before .before .if2 .left
+no-nan p = sym (ap (λ (s : Seen). s .nan) (seen p .before .before .pre .3)) ∙ p .before .before .if2 .left
 
 copied-is : (p : tie.After-copy-all) → copied p ≡ held (seen p) ++ drop (length (held (seen p))) (work (seen p))
 copied-is p = p .copy-all .ensures ∙ sets-front (work (seen p)) (held (seen p)) (fits p)
@@ -81,7 +81,7 @@ in-order o =
 ordered-length : (o : tie.After-order) → length (o .order .last .0) ≡ blocks (o .before .before .before .before)
 ordered-length o =
     let k = seen (o .before .before .before .before) in
-    ap length (in-order o) ∙ sym (perm-length (in-order-perm (held k))) ∙ sym (count k)
+    ap length (in-order o) ∙ in-order-length (held k) ∙ sym (count k)
 
 first-places : (o : tie.After-order)
     → let p = o .before .before .before .before in
@@ -98,7 +98,7 @@ returns c =
 returns-2 : tie.Need-returns-2
 returns-2 c =
     let k = c .before .before in
-    rw (listed-nan (held k) (work k) (omega (arith, count k, c .before .if1 .left)) (sym (k .before .before .pre .3 .nan-is) ∙ c .if2 .taken)) (refl, refl)
+    rw (listed-nan (held k) (work k) (omega (arith, count k, c .before .if1 .left)) (sym (ap (λ (s : Seen). s .nan) (k .before .before .pre .3)) ∙ c .if2 .taken)) (refl, refl)
 
 copy-all-requires : tie.Need-copy-all-requires
 copy-all-requires c κs =

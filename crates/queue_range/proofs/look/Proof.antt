@@ -1,7 +1,7 @@
--- `queue_range::look` meets its contract. The invariant: what was seen before `i`, with what the entries from there on hold, is what all hold.
+-- `queue_range::look` meets its contract. The invariant: what was seen before `i`, and then of what the entries from there on hold, is what is seen of all.
 -- Assumes nothing.
 use mathlib.Core.Path.{_≡_, refl, sym, ap, _∙_}
-use mathlib.Core.Bool.{true, _&&_, _||_}
+use mathlib.Core.Bool.{Bool, true, _&&_}
 use Prim.Native.Nat.{_+_, _-_, _*_, _≤_, _<_}
 use native.Mathlib.Omega.{arith}
 use denote.Ref.{now}
@@ -9,27 +9,24 @@ use lib.ListN.{length, take, drop}
 use Rattle.queue.specs.Queue.{longest}
 use Rattle.history.specs.Set.{allSound}
 use Rattle.history.proofs.Entries.{sound-at}
-use Rattle.queue_range.specs.Listed.{anyNan}
-use Rattle.queue_range.specs.Inner.{heldIn}
-use Rattle.queue_range.proofs.Looking.{store-at, held-end, held-count, held-nan, sound-next, sound-end, none-below-held, nan-done}
+use Rattle.queue_range.specs.Inner.{heldIn, withSeen, seenOf}
+use Rattle.queue_range.proofs.Looking.{store-at, held-end, sound-next, sound-end, seen-next, seen-none}
 use borrow.Author.Needs.{needs}
 use Rattle.queue_range.proofs.look.Statement.{statement}
 use Rattle.queue_range.proofs.look.Tie as tie
 
 abbrev Inv-loop : tie.InvT-loop
-Inv-loop count energies entries blocks₀ fine₀ found₀ i₀ blocks fine found i =
+Inv-loop count energies entries seen₀ i₀ seen i =
     (i ≤ count)
-    × (blocks ≤ i * longest)
-    × (fine && allSound energies (drop i (take count entries)) ≡ allSound energies (take count entries))
-    × (allSound energies (take count entries) ≡ true
-    → (blocks + length (heldIn energies (drop i (take count entries))) ≡ length (heldIn energies (take count entries)))
-    × (found || anyNan (heldIn energies (drop i (take count entries))) ≡ anyNan (heldIn energies (take count entries))))
+    × (seen .blocks ≤ i * longest)
+    × (seen .fine && allSound energies (drop i (take count entries)) ≡ allSound energies (take count entries))
+    × (allSound energies (take count entries) ≡ true → withSeen seen (heldIn energies (drop i (take count entries))) ≡ seenOf (heldIn energies (take count entries)))
 
 abbrev μ-loop : tie.MeasureT-loop
-μ-loop count energies entries blocks₀ fine₀ found₀ i₀ blocks fine found i = count - i
+μ-loop count energies entries seen₀ i₀ seen i = count - i
 
 loop-holds : tie.Need-loop-holds Inv-loop μ-loop
-loop-holds c = (omega arith, omega arith, refl, λ e. (omega arith, refl))
+loop-holds c = (omega arith, omega arith, refl, λ e. refl)
 
 mul-entry : tie.Need-mul-entry Inv-loop μ-loop
 mul-entry c = search needs
@@ -41,10 +38,7 @@ look-in-requires : tie.Need-look-in-requires Inv-loop μ-loop
 look-in-requires c κs =
     let l = c .before .before in
     let s = l .before .before in
-    store-at (length (now (s .args .energies))) (s .args .t1) (s .args .count) (l .loop .i) (omega arith) (omega arith) (s .pre .1)
-
-add-blocks : tie.Need-add-blocks Inv-loop μ-loop
-add-blocks c = omega (arith, c .before .before .before .look-in .ensures .2)
+    (store-at (length (now (s .args .energies))) (s .args .t1) (s .args .count) (l .loop .i) (omega arith) (omega arith) (s .pre .1), omega arith)
 
 add-i : tie.Need-add-i Inv-loop μ-loop
 add-i c = search needs
@@ -54,21 +48,19 @@ loop-less c = search needs
 
 loop-again : tie.Need-loop-again Inv-loop μ-loop
 loop-again c =
-    let seen = c .before .before .before .look-in in
-    let l = c .before .before .before .before .before .before in
+    let here = c .look-in in
+    let l = c .before .before .before in
     let s = l .before .before in
     let energies = now (s .args .energies) in
     let i-in : l .loop .i < s .args .count = omega arith in
     let few : s .args .count ≤ length (s .args .t1) = omega arith in (
       omega arith,
-      omega (arith, seen .ensures .2),
-      sound-next energies (s .args .t1) (s .args .count) (l .loop .i) i-in few (l .loop .fine) (seen .result .fine) (seen .ensures .0) ∙ l .loop .inv .2,
+      omega (arith, here .ensures .2),
+      ap (λ (b : Bool). b && allSound energies (drop (l .loop .i + 1) (take (s .args .count) (s .args .t1)))) (here .ensures .0)
+          ∙ sound-next energies (s .args .t1) (s .args .count) (l .loop .i) i-in few (l .loop .seen .fine) ∙ l .loop .inv .2,
       λ e.
-          let here = seen .ensures .1 (sound-at energies (s .args .t1) (s .args .count) (l .loop .i) i-in few e) in
-          let kept = l .loop .inv .3 e in (
-            omega (arith, here .blocks-are, kept .0, held-count energies (s .args .t1) (s .args .count) (l .loop .i) i-in few),
-            held-nan energies (s .args .t1) (s .args .count) (l .loop .i) i-in few (l .loop .nan) (seen .result .nan) (here .nan-is) ∙ kept .1,
-          ),
+          seen-next energies (s .args .t1) (s .args .count) (l .loop .i) i-in few (l .loop .seen) (here .result)
+          (here .ensures .1 (sound-at energies (s .args .t1) (s .args .count) (l .loop .i) i-in few e)) ∙ l .loop .inv .3 e,
     )
 
 returns : tie.Need-returns Inv-loop μ-loop
@@ -77,18 +69,9 @@ returns c =
     let s = l .before .before in
     let energies = now (s .args .energies) in
     let all = take (s .args .count) (s .args .t1) in
-    let done = held-end energies (s .args .t1) (s .args .count) (l .loop .i) (omega arith) in
-    let fine-is : l .loop .fine ≡ allSound energies all =
-    sym (sound-end energies (s .args .t1) (s .args .count) (l .loop .i) (omega arith) (l .loop .fine)) ∙ l .loop .inv .2 in (
-      fine-is,
-      (λ e.
-          let kept = l .loop .inv .3 e in
-          record {
-            blocks-are = omega (arith, kept .0, ap length done);
-            fine-is = fine-is ∙ e ∙ sym (none-below-held energies all e);
-            nan-is = sym (nan-done (l .loop .nan) (heldIn energies (drop (l .loop .i) all)) done) ∙ kept .1;
-          }),
-      omega arith,
+    let done = held-end energies (s .args .t1) (s .args .count) (l .loop .i) (omega arith) in (
+      sym (sound-end energies (s .args .t1) (s .args .count) (l .loop .i) (omega arith) (l .loop .seen .fine)) ∙ l .loop .inv .2,
+      λ e. sym (seen-none (l .loop .seen)) ∙ sym (ap (withSeen (l .loop .seen)) done) ∙ l .loop .inv .3 e,
     )
 
 pub look-spec : {M : Type 1} → statement M
@@ -101,7 +84,6 @@ look-spec =
     mul-entry
     array-copy-out-entry
     look-in-requires
-    add-blocks
     add-i
     loop-less
     loop-again

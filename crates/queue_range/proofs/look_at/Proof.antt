@@ -1,34 +1,85 @@
--- `queue_range::look_at` meets its contract: energies that reach boundary 0 are fine, and none is NaN. Assumes nothing.
-use mathlib.Core.Path.{sym}
+-- `queue_range::look_at` meets its contract. The invariant: what was seen up to `i`, and then of the energies from there on, is what is seen of all.
+-- Assumes nothing.
+use mathlib.Core.Path.{_≡_, refl, sym, _∙_}
+use mathlib.Core.Bool.{_&&_, _||_}
+use Prim.Native.Nat.{_-_, _≤_}
+use native.Mathlib.Omega.{arith}
 use denote.Ref.{now}
+use lib.Ieee.{nan}
+use Rattle.history.specs.Set.{noneBelow}
 use Rattle.history.proofs.Slices.{slice-length}
+use Rattle.queue_range.specs.Listed.{anyNan}
+use Rattle.queue_range.specs.Inner.{part}
+use Rattle.queue_range.proofs.Looking.{nan-turn, nan-end, fine-turn, fine-end, seen-is}
 use borrow.Author.Needs.{needs}
 use Rattle.queue_range.proofs.look_at.Statement.{statement}
 use Rattle.queue_range.proofs.look_at.Tie as tie
 
-all-reach-requires : tie.Need-all-reach-requires
-all-reach-requires c κs = search needs
+abbrev Inv-loop : tie.InvT-loop
+Inv-loop before energies from until least fine₀ found₀ i₀ fine found i =
+    (i ≤ until)
+    × (fine && noneBelow (part i until energies) ≡ before .fine && noneBelow (part from until energies))
+    × (found || anyNan (part i until energies) ≡ before .nan || anyNan (part from until energies))
 
-sub-t5 : tie.Need-sub-t5
-sub-t5 c = search needs
+abbrev μ-loop : tie.MeasureT-loop
+μ-loop before energies from until least fine₀ found₀ i₀ fine found i = until - i
 
-returns : tie.Need-returns
+lowest-boundary-requires : tie.Need-lowest-boundary-requires Inv-loop μ-loop
+lowest-boundary-requires c κs = search needs
+
+loop-holds : tie.Need-loop-holds Inv-loop μ-loop
+loop-holds c = (omega arith, refl, refl)
+
+mul-energy : tie.Need-mul-energy Inv-loop μ-loop
+mul-energy c = search needs
+
+shared-slice-read-energy : tie.Need-shared-slice-read-energy Inv-loop μ-loop
+shared-slice-read-energy c = search needs
+
+add-i : tie.Need-add-i Inv-loop μ-loop
+add-i c = search needs
+
+loop-less : tie.Need-loop-less Inv-loop μ-loop
+loop-less c = search needs
+
+loop-again : tie.Need-loop-again Inv-loop μ-loop
+loop-again c =
+    let l = c .before .before in
+    let a = l .before .before .before .args in (
+      omega arith,
+      fine-turn (now (a .energies)) (l .loop .i) (a .until) (l .loop .fine) _ nan (l .before .lowest-boundary .ensures) (omega arith) (omega arith) ∙ l .loop .inv .1,
+      nan-turn (now (a .energies)) (l .loop .i) (a .until) (l .loop .nan) nan (omega arith) (omega arith) ∙ l .loop .inv .2,
+    )
+
+sub-t15 : tie.Need-sub-t15 Inv-loop μ-loop
+sub-t15 c = search needs
+
+add-t16 : tie.Need-add-t16 Inv-loop μ-loop
+add-t16 c = search needs
+
+returns : tie.Need-returns Inv-loop μ-loop
 returns c =
-    let call = c .before in
-    let s = call .before .before in
-    let known = call .all-reach .ensures (c .if1 .taken) in
-    record {
-      blocks-are = sym (slice-length (s .args .from) (s .args .until) (now (s .args .energies)) (s .pre .1));
-      fine-is = sym (known .0);
-      nan-is = sym (known .1);
-    }
-
-look-closely-requires : tie.Need-look-closely-requires
-look-closely-requires c κs = search needs
-
-returns-2 : tie.Need-returns-2
-returns-2 c = search needs
+    let l = c .before .before in
+    let s = l .before .before .before in
+    let energies = now (s .args .energies) in
+    seen-is (s .args .before) (part (s .args .from) (s .args .until) energies) _ _ _
+    (omega (arith, slice-length (s .args .from) (s .args .until) energies (s .pre .1)))
+    (sym (fine-end energies (l .loop .i) (s .args .until) (l .loop .fine) (omega arith)) ∙ l .loop .inv .1)
+    (sym (nan-end energies (l .loop .i) (s .args .until) (l .loop .nan) (omega arith)) ∙ l .loop .inv .2)
 
 pub look-at-spec : {M : Type 1} → statement M
 look-at-spec =
-    tie.close (tie.spec all-reach-requires sub-t5 returns look-closely-requires returns-2)
+    tie.close
+    (tie.spec
+    Inv-loop
+    μ-loop
+    lowest-boundary-requires
+    loop-holds
+    mul-energy
+    shared-slice-read-energy
+    add-i
+    loop-less
+    loop-again
+    sub-t15
+    add-t16
+    returns)

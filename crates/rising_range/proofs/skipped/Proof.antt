@@ -1,9 +1,10 @@
--- `rising_range::skipped` meets its contract. The invariant: what the energies from `i` on leave is what all leave. Assumes nothing.
-use mathlib.Core.Path.{_≡_, _∙_}
-use Prim.Native.Nat.{_-_, _≤_}
+-- `rising_range::skipped` meets its contract. The invariant of both loops: what the energies from `i` on leave is what all leave. Assumes nothing.
+use mathlib.Core.Path.{_≡_, refl, _∙_}
+use mathlib.Core.List.{List}
+use Prim.Native.Nat.{ℕ, _-_, _≤_}
 use native.Mathlib.Omega.{arith}
 use denote.Ref.{now}
-use lib.Ieee.{nan}
+use lib.Ieee.{Float, nan}
 use lib.ListN.{length, drop}
 use Rattle.rising_range.specs.Rising.{fromGate}
 use Rattle.rising_range.proofs.Skipping.{skip-on, skip-here, skip-end}
@@ -11,47 +12,74 @@ use borrow.Author.Needs.{needs}
 use Rattle.rising_range.proofs.skipped.Statement.{statement}
 use Rattle.rising_range.proofs.skipped.Tie as tie
 
+abbrev Skips : List Float → Float → ℕ → Type 0
+Skips rising gate i = (i ≤ length rising) × (fromGate gate (drop i rising) ≡ fromGate gate rising)
+
 abbrev Inv-loop : tie.InvT-loop
-Inv-loop rising gate i₀ i = (i ≤ length rising) × (fromGate gate (drop i rising) ≡ fromGate gate rising)
+Inv-loop rising gate i₀ i = Skips rising gate i
 
 abbrev μ-loop : tie.MeasureT-loop
 μ-loop rising gate i₀ i = length rising - i
 
-stretches-requires : tie.Need-stretches-requires Inv-loop μ-loop
-stretches-requires c κs = search needs
+abbrev Inv-loop2 : tie.InvT-loop2
+Inv-loop2 rising gate i₀ i = Skips rising gate i
 
-loop-holds : tie.Need-loop-holds Inv-loop μ-loop
-loop-holds c = c .stretches .ensures
+abbrev μ-loop2 : tie.MeasureT-loop2
+μ-loop2 rising gate i₀ i = length rising - i
 
-mul-if1 : tie.Need-mul-if1 Inv-loop μ-loop
-mul-if1 c = search needs
+loop-holds : tie.Need-loop-holds Inv-loop μ-loop Inv-loop2 μ-loop2
+loop-holds c = (omega arith, refl)
 
-shared-slice-read-if1 : tie.Need-shared-slice-read-if1 Inv-loop μ-loop
-shared-slice-read-if1 c = search needs
+sub-loop : tie.Need-sub-loop Inv-loop μ-loop Inv-loop2 μ-loop2
+sub-loop c = search needs
 
-add-i : tie.Need-add-i Inv-loop μ-loop
+add-all-below : tie.Need-add-all-below Inv-loop μ-loop Inv-loop2 μ-loop2
+add-all-below c = search needs
+
+all-below-requires : tie.Need-all-below-requires Inv-loop μ-loop Inv-loop2 μ-loop2
+all-below-requires c κs = omega arith
+
+add-i : tie.Need-add-i Inv-loop μ-loop Inv-loop2 μ-loop2
 add-i c = search needs
 
-loop-less : tie.Need-loop-less Inv-loop μ-loop
+loop-less : tie.Need-loop-less Inv-loop μ-loop Inv-loop2 μ-loop2
 loop-less c = search needs
 
-loop-again : tie.Need-loop-again Inv-loop μ-loop
-loop-again c =
-    let l = c .before .before .before in
-    let a = l .before .before .before .args in
-    (omega arith, skip-on (a .gate) (now (a .rising)) (l .loop .i) nan (omega arith) (c .if1 .taken) ∙ l .loop .inv .1)
+loop-again : tie.Need-loop-again Inv-loop μ-loop Inv-loop2 μ-loop2
+loop-again c = (omega arith, c .before .all-below .ensures (c .if1 .taken) ∙ c .before .before .before .loop .inv .1)
 
-returns : tie.Need-returns Inv-loop μ-loop
+loop2-holds : tie.Need-loop2-holds Inv-loop μ-loop Inv-loop2 μ-loop2
+loop2-holds c = c .before .loop .inv
+
+mul-if2 : tie.Need-mul-if2 Inv-loop μ-loop Inv-loop2 μ-loop2
+mul-if2 c = search needs
+
+shared-slice-read-if2 : tie.Need-shared-slice-read-if2 Inv-loop μ-loop Inv-loop2 μ-loop2
+shared-slice-read-if2 c = search needs
+
+add-i-2 : tie.Need-add-i-2 Inv-loop μ-loop Inv-loop2 μ-loop2
+add-i-2 c = search needs
+
+loop2-less : tie.Need-loop2-less Inv-loop μ-loop Inv-loop2 μ-loop2
+loop2-less c = search needs
+
+loop2-again : tie.Need-loop2-again Inv-loop μ-loop Inv-loop2 μ-loop2
+loop2-again c =
+    let l = c .before .before .before in
+    let a = l .before .before .before .before .args in
+    (omega arith, skip-on (a .gate) (now (a .rising)) (l .loop2 .i) nan (omega arith) (c .if2 .taken) ∙ l .loop2 .inv .1)
+
+returns : tie.Need-returns Inv-loop μ-loop Inv-loop2 μ-loop2
 returns c =
     let l = c .before .before .before in
-    let a = l .before .before .before .args in
-    (l .loop .inv .0, skip-here (a .gate) (now (a .rising)) (l .loop .i) nan (omega arith) (c .if1 .left) ∙ l .loop .inv .1)
+    let a = l .before .before .before .before .args in
+    (l .loop2 .inv .0, skip-here (a .gate) (now (a .rising)) (l .loop2 .i) nan (omega arith) (c .if2 .left) ∙ l .loop2 .inv .1)
 
-returns-2 : tie.Need-returns-2 Inv-loop μ-loop
+returns-2 : tie.Need-returns-2 Inv-loop μ-loop Inv-loop2 μ-loop2
 returns-2 c =
     let l = c .before in
-    let a = l .before .before .before .args in
-    (l .loop .inv .0, skip-end (a .gate) (now (a .rising)) (l .loop .i) (omega arith) ∙ l .loop .inv .1)
+    let a = l .before .before .before .before .args in
+    (l .loop2 .inv .0, skip-end (a .gate) (now (a .rising)) (l .loop2 .i) (omega arith) ∙ l .loop2 .inv .1)
 
 pub skipped-spec : {M : Type 1} → statement M
 skipped-spec =
@@ -59,12 +87,20 @@ skipped-spec =
     (tie.spec
     Inv-loop
     μ-loop
-    stretches-requires
+    Inv-loop2
+    μ-loop2
     loop-holds
-    mul-if1
-    shared-slice-read-if1
+    sub-loop
+    add-all-below
+    all-below-requires
     add-i
     loop-less
     loop-again
+    loop2-holds
+    mul-if2
+    shared-slice-read-if2
+    add-i-2
+    loop2-less
+    loop2-again
     returns
     returns-2)
