@@ -8,6 +8,7 @@ ghost use Rattle.queue_add.specs.Adding.{enqueued};
 ghost use Rattle.exports_histories.specs.Queues.{queueOver, afterAdd};
 use codes::number_of;
 use queue::Queue;
+use refusals::Answer;
 
 #[no_mangle]
 pub extern "C" fn xel_histogram_add(counters: &mut [u32], energy: f64) -> u8
@@ -33,6 +34,7 @@ pub extern "C" fn xel_histogram_reset(counters: &mut [u32]) -> u8
     number_of(histogram::reset(counters))
 }
 
+// A refused call stores nothing: head, held and store may be read-only, or be read meanwhile.
 #[no_mangle]
 pub extern "C" fn xel_queue_add(
     maximum: usize,
@@ -52,9 +54,14 @@ pub extern "C" fn xel_queue_add(
         held: *held,
     };
     let queued = queue_add::add(given, store, energy);
-    let after = queued.queue;
-    *head = after.head;
-    *held = after.held;
     let answer = queued.answer;
-    number_of(answer)
+    match answer {
+        Answer::Done => {
+            let after = queued.queue;
+            *head = after.head;
+            *held = after.held;
+            0
+        }
+        Answer::Refused(number) => number,
+    }
 }
