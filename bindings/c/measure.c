@@ -1,10 +1,10 @@
 /*
- * measure [--raw CHANNELS RATE] [--record OUT] FILE
+ * measure [--raw CHANNELS RATE] [--record OUT] [--range-record OUT] FILE
  *
  * A whole measurement through include/xelamphoun.h: weighs the samples of FILE (- is standard input), takes sample and true
- * peaks, makes the blocks' energies, counts them in histograms, asks gate and range, writes the histogram's record, to OUT too,
- * and reads it back. A line a reading. FILE is a WAV file of 16-bit PCM or 32-bit float samples; with --raw it is a stream of
- * 16-bit samples, low byte first.
+ * peaks, makes the blocks' energies, counts them in histograms, asks gate and range, writes each histogram's record and reads it
+ * back. --record keeps that of the gate, of 400 ms blocks, and --range-record that of the range, of 3 s blocks. A line a reading.
+ * FILE is a WAV file of 16-bit PCM or 32-bit float samples; with --raw it is a stream of 16-bit samples, low byte first.
  *
  * The library takes coefficients and energies as they are given, and answers energies. What is the caller's job stands here, after
  * the Rust crate ebur128 0.1.11: the coefficients (filter.rs, filter_coefficients), the blocks (ebur128.rs, add_frames), their energy
@@ -26,7 +26,7 @@ static const uint32_t LOWEST_RATE = 16, HIGHEST_RATE = 2822400;
 
 struct options {
     const char *file;
-    const char *record; /* NULL where none is to be kept */
+    const char *record, *range_record; /* NULL where it is not to be kept */
     bool raw;
     size_t channels; /* of a raw stream, as is the rate */
     uint32_t rate;
@@ -334,7 +334,8 @@ static void print_range(const uint32_t histogram[XEL_BINS])
     else if (answer == XEL_NOT_A_NUMBER)
         printf("range           not a number\n");
     else if (!refused("range", answer))
-        printf("range           %.2f LU  %016" PRIx64 " %016" PRIx64 "\n", loudness(high) - loudness(low), bits(low), bits(high));
+        printf("range           %.2f LU, %.2f to %.2f LUFS  %016" PRIx64 " %016" PRIx64 "\n", loudness(high) - loudness(low),
+               loudness(low), loudness(high), bits(low), bits(high));
 }
 
 static void save(const char *name, const uint8_t *bytes, size_t length)
@@ -344,8 +345,8 @@ static void save(const char *name, const uint8_t *bytes, size_t length)
         die("%s: it cannot be written", name);
 }
 
-/* The 400 ms blocks' histogram as a record, and back. */
-static void print_record(const uint32_t histogram[XEL_BINS], const char *name)
+/* A histogram as a record, and back. */
+static void print_record(const char *line, const uint32_t histogram[XEL_BINS], const char *name)
 {
     uint8_t bytes[XEL_HISTOGRAM_RECORD];
     uint32_t back[XEL_BINS];
@@ -357,10 +358,10 @@ static void print_record(const uint32_t histogram[XEL_BINS], const char *name)
     done("read", xel_histogram_read(bytes, written, back, XEL_BINS));
     if (memcmp(back, histogram, sizeof back) != 0)
         die("the record is read back as another");
-    printf("record          %zu bytes, read back the same\n", written);
+    printf("%-16s%zu bytes, read back the same\n", line, written);
 }
 
-static void print_readings(const struct measurement *m, const struct sound *sound, const char *record)
+static void print_readings(const struct measurement *m, const struct sound *sound, const struct options *options)
 {
     printf("sound           %s, channels %zu, %" PRIu32 " Hz, %" PRIu64 " frames\n", sound->kind == SOUND_I16 ? "i16" : "f32",
            m->channels, m->rate, m->frames);
@@ -369,12 +370,13 @@ static void print_readings(const struct measurement *m, const struct sound *soun
     print_loudest(m);
     print_gate(m->blocks.histogram);
     print_range(m->short_blocks.histogram);
-    print_record(m->blocks.histogram, record);
+    print_record("record", m->blocks.histogram, options->record);
+    print_record("range record", m->short_blocks.histogram, options->range_record);
 }
 
 static _Noreturn void usage(void)
 {
-    fputs("usage: measure [--raw CHANNELS RATE] [--record OUT] FILE\n", stderr);
+    fputs("usage: measure [--raw CHANNELS RATE] [--record OUT] [--range-record OUT] FILE\n", stderr);
     exit(2);
 }
 
@@ -405,6 +407,8 @@ static struct options options_of(int words, char **word)
             options.rate = (uint32_t)number_of(word[++i], UINT32_MAX);
         } else if (strcmp(word[i], "--record") == 0 && i + 1 < words) {
             options.record = word[++i];
+        } else if (strcmp(word[i], "--range-record") == 0 && i + 1 < words) {
+            options.range_record = word[++i];
         } else {
             usage();
         }
@@ -428,7 +432,7 @@ int main(int words, char **word)
 
     struct measurement *m = begin(&sound);
     measure(m, &sound);
-    print_readings(m, &sound, options.record);
+    print_readings(m, &sound, &options);
     free(m->now.any);
     free(m->ring);
     free(m);

@@ -1,9 +1,10 @@
-//! measure [--raw CHANNELS RATE] [--record OUT] FILE
+//! measure [--raw CHANNELS RATE] [--record OUT] [--range-record OUT] FILE
 //!
 //! The whole job of bindings/c/measure.c over the safe wrapper, line for line the same readings: weighs the samples of FILE (- is
 //! standard input), takes sample and true peaks, makes the blocks' energies, counts them in histograms, asks gate and range,
-//! writes the histogram's record, to OUT too, and reads it back. FILE is a WAV file of 16-bit PCM or 32-bit float samples; with
-//! --raw it is a stream of 16-bit samples, low byte first.
+//! writes each histogram's record and reads it back. --record keeps that of the gate, of 400 ms blocks, and --range-record that of
+//! the range, of 3 s blocks. FILE is a WAV file of 16-bit PCM or 32-bit float samples; with --raw it is a stream of 16-bit
+//! samples, low byte first.
 
 mod measurement;
 mod readings;
@@ -19,14 +20,15 @@ use xelamphoun::Histogram;
 #[derive(Default)]
 struct Options {
     file: String,
-    /// Where the record is to be kept.
+    /// Where the record of the gate is to be kept, and that of the range.
     record: Option<String>,
+    range_record: Option<String>,
     /// Channels and rate of a raw stream.
     raw: Option<(usize, u32)>,
 }
 
 fn usage() -> ! {
-    eprintln!("usage: measure [--raw CHANNELS RATE] [--record OUT] FILE");
+    eprintln!("usage: measure [--raw CHANNELS RATE] [--record OUT] [--range-record OUT] FILE");
     exit(2)
 }
 
@@ -51,6 +53,9 @@ fn options_of(mut words: impl Iterator<Item = String>) -> Options {
                 ));
             }
             Some(word) if word == "--record" => options.record = words.next().or_else(|| usage()),
+            Some(word) if word == "--range-record" => {
+                options.range_record = words.next().or_else(|| usage());
+            }
             Some(word) if !word.starts_with("--") && words.next().is_none() => {
                 options.file = word;
                 return options;
@@ -74,8 +79,8 @@ fn open(options: &Options) -> Result<Sound<Box<dyn Read>>, String> {
     }
 }
 
-/// The 400 ms blocks' histogram as a record, and back.
-fn record(histogram: &Histogram, name: Option<&str>) -> Result<String, String> {
+/// A histogram as a record, and back.
+fn record(line: &str, histogram: &Histogram, name: &Option<String>) -> Result<String, String> {
     let refused = |call: &str, refusal| format!("{call} is refused: {refusal}");
     let bytes = histogram
         .record()
@@ -90,7 +95,7 @@ fn record(histogram: &Histogram, name: Option<&str>) -> Result<String, String> {
         return Err("the record is read back as another".into());
     }
     Ok(format!(
-        "record          {} bytes, read back the same\n",
+        "{line:<16}{} bytes, read back the same\n",
         bytes.len()
     ))
 }
@@ -98,9 +103,16 @@ fn record(histogram: &Histogram, name: Option<&str>) -> Result<String, String> {
 fn measure(options: &Options) -> Result<String, String> {
     let mut sound = open(options)?;
     let measurement = Measurement::of(&mut sound)?;
+    let (blocks, short_blocks) = (&measurement.blocks, &measurement.short_blocks);
     let readings =
         readings::readings(&measurement, sound.kind).map_err(|error| error.to_string())?;
-    Ok(readings + &record(&measurement.blocks.histogram, options.record.as_deref())?)
+    Ok(readings
+        + &record("record", &blocks.histogram, &options.record)?
+        + &record(
+            "range record",
+            &short_blocks.histogram,
+            &options.range_record,
+        )?)
 }
 
 fn main() {

@@ -77,8 +77,12 @@ fn range(out: &mut String, histogram: &Histogram) -> Result<(), Error> {
     let range = Set::from(histogram).loudness_range(&mut []);
     let shown = range.map(|range| match range {
         Range::Found { low, high } => {
-            let low_and_range = bits(loudness(high) - loudness(low), "LU", low);
-            format!("{low_and_range} {:016x}", high.to_bits())
+            let (from, to) = (loudness(low), loudness(high));
+            let (low, high) = (low.to_bits(), high.to_bits());
+            format!(
+                "{:.2} LU, {from:.2} to {to:.2} LUFS  {low:016x} {high:016x}",
+                to - from
+            )
         }
         Range::Nothing => "nothing".into(),
         Range::NotANumber => "not a number".into(),
@@ -86,7 +90,7 @@ fn range(out: &mut String, histogram: &Histogram) -> Result<(), Error> {
     line(out, "range", shown)
 }
 
-/// All readings but the record's.
+/// All readings but the records'.
 pub fn readings(m: &Measurement, kind: Kind) -> Result<String, Error> {
     let mut out = String::new();
     let (channels, rate, frames) = (m.filter.channels, m.filter.rate, m.frames);
