@@ -59,8 +59,13 @@ pub fn run(rng: &mut Rng) {
         queues(number, name, rng);
     }
     let mut programme = Set::default();
-    programme.push_histogram(&programmes_counters(rng));
+    programme.push_histogram(&programmes_counters(0, rng));
     gate("a programme's histogram", 100, &programme, None);
+    range("a programme's histogram", 100, &programme, &[]);
+    // its gate is below -36 LUFS
+    let mut quiet = Set::default();
+    quiet.push_histogram(&programmes_counters(190, rng));
+    gate("a quiet programme's histogram", 100, &quiet, None);
 }
 
 /// The range of queues that hold so many energies in all, in four orders.
@@ -96,12 +101,13 @@ fn counters(rng: &mut Rng) -> Vec<u32> {
     (0..1000).map(|_| rng.below(1 << 16) as u32).collect()
 }
 
-/// The blocks of an hour, in a bell around -23 LUFS: each bin is the mean of six from 30 LU below it to 30 above.
-fn programmes_counters(rng: &mut Rng) -> Vec<u32> {
+/// The blocks of an hour, in a bell around -23 LUFS or so many tenths below: each bin is the mean of six from 30 LU below it
+/// to 30 above.
+fn programmes_counters(below: u64, rng: &mut Rng) -> Vec<u32> {
     let mut counters = vec![0; 1000];
     for _ in 0..LONGEST {
         let six: u64 = (0..6).map(|_| 170 + rng.below(600)).sum();
-        counters[(six / 6) as usize] += 1;
+        counters[(six / 6).saturating_sub(below) as usize] += 1;
     }
     counters
 }
