@@ -10,7 +10,7 @@ use lib.Dec.{T, eqb, ltb}
 use lib.Ieee.{Float, nan, inf, fin, up, down, below, level, lt, eq, isNan}
 use lib.Ieee.Positive.{positive}
 use Rattle.tables.proofs.Rules.{boundary-positive}
-use Rattle.threshold.specs.Relative.{unlessNan}
+use Rattle.gate.specs.Relative.{unlessNan}
 use Rattle.gate.specs.Gate.{someLeft, unlessNone}
 use Rattle.acceptance_meaning.specs.Bs1770.{
   strict,

@@ -12,8 +12,8 @@ use Rattle.tables.specs.Tables.{energyAt}
 use Rattle.histogram_bins.specs.Bin.{bins}
 use Rattle.history.specs.Set.{counted, Histories, historiesOf, refusalOf}
 use Rattle.history.proofs.Verdicts.{asked}
-use Rattle.blocks.specs.declared.Totals.{Totals}
-use Rattle.blocks.specs.Start.{startBin}
+use Rattle.gate.specs.declared.blocks.Totals.{Totals}
+use Rattle.gate.specs.Start.{startBin}
 use Rattle.gate.specs.Gate.{gatedOf, gateOver, gateOf}
 use Rattle.histogram_range.specs.Counted.{blocksIn}
 use Rattle.range.specs.Tech3342.{blocksFrom}

@@ -12,12 +12,12 @@ use Rattle.queue.specs.Queue.{over, started, heldOf}
 use Rattle.queue_add.specs.Adding.{fedTo, taken}
 use Rattle.history.specs.Set.{History, listed}
 use Rattle.queue_add.proofs.Fed.{held-of-new}
-use Rattle.blocks.specs.declared.Totals.{Totals}
-use Rattle.blocks.specs.Totals.{none, withBlocks, energiesFrom}
-use Rattle.sums.specs.Sums.{allTotals}
-use Rattle.sums.proofs.Looking.{same}
-use Rattle.threshold.specs.Relative.{thresholdOf, unlessNan}
-use Rattle.kept.specs.Kept.{keptFrom}
+use Rattle.gate.specs.declared.blocks.Totals.{Totals}
+use Rattle.gate.specs.Totals.{none, withBlocks, energiesFrom}
+use Rattle.gate.specs.Sums.{allTotals}
+use Rattle.gate.proofs.Looking.{same}
+use Rattle.gate.specs.Relative.{thresholdOf, unlessNan}
+use Rattle.gate.specs.Kept.{keptFrom}
 use Rattle.gate.specs.Gate.{allGated, someLeft, unlessNone, gateOver}
 use Rattle.acceptance_meaning.specs.Bs1770.{equalsKept, through, eachThrough, noEnergy, added, historiesAdded, inOneRun, byHistory, together, absoluteGate, relativeGate, measured, Feed, materialOf, shownBy}
 

@@ -16,8 +16,8 @@ use Rattle.tables.specs.Tables.{boundaryAt}
 use Rattle.queue.specs.Queue.{longest, over, started, heldOf}
 use Rattle.queue_add.specs.Adding.{fedTo, taken}
 use Rattle.history.specs.Set.{History, listed}
-use Rattle.blocks.specs.declared.Totals.{Totals}
-use Rattle.threshold.specs.Relative.{thresholdOf, unlessNan}
+use Rattle.gate.specs.declared.blocks.Totals.{Totals}
+use Rattle.gate.specs.Relative.{thresholdOf, unlessNan}
 use Rattle.gate.specs.Gate.{someLeft, unlessNone}
 
 -- whether a gate lets a block of an energy through

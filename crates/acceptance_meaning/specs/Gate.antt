@@ -11,8 +11,8 @@ use lib.Ieee.{Float, isNan}
 use Rattle.tables.specs.Tables.{energyAt}
 use Rattle.histogram_bins.specs.Bin.{bins}
 use Rattle.history.specs.Set.{counted, Histories, historiesOf, refusalOf, sound}
-use Rattle.blocks.specs.declared.Totals.{Totals}
-use Rattle.blocks.specs.Start.{startBin}
+use Rattle.gate.specs.declared.blocks.Totals.{Totals}
+use Rattle.gate.specs.Start.{startBin}
 use Rattle.gate.specs.Gate.{gatedOf, gateOf}
 use Rattle.acceptance_meaning.specs.Bs1770.{strict, equalsKept, through, eachThrough, absoluteGate, relativeGate, measured, noneOfEachAt, Feed, materialOf, shownBy}
 use Rattle.range.specs.Tech3342.{blocksFrom}

@@ -10,7 +10,7 @@ use lib.Ieee.{Float}
 use Rattle.refusals.specs.Outcome.{went}
 use Rattle.histogram.specs.Histogram.{empty}
 use Rattle.history.specs.Set.{Histories, historiesOf, refusalOf, sound}
-use Rattle.blocks.specs.Totals.{none, binsFrom}
+use Rattle.gate.specs.Totals.{none, binsFrom}
 use Rattle.rising_order.specs.Order.{inOrder}
 use Rattle.spans.specs.Span.{gateEnergy}
 use Rattle.histogram_range.specs.Counted.{addedTo}

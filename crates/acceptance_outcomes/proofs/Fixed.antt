@@ -13,16 +13,16 @@ use Rattle.bin_search.specs.declared.Level.{Level}
 use Rattle.bin_search.specs.declared.Level.the-variants.{Tenths, Refused as Refused-level}
 use Rattle.bin_search.specs.Reading.{said as saidLevel}
 use Rattle.queue.specs.Queue.{Stored}
-use Rattle.blocks.specs.declared.Totals.{Totals}
+use Rattle.gate.specs.declared.blocks.Totals.{Totals}
 use Rattle.gate.specs.declared.Gated.{Gated}
 use Rattle.gate.specs.declared.Gated.the-variants.{Blocks, Refused as Refused-gated}
 use Rattle.gated_energy.specs.declared.Energy.{Energy}
 use Rattle.gated_energy.specs.declared.Energy.the-variants.{Of, Refused as Refused-energy}
-use Rattle.threshold.specs.declared.Threshold.{Threshold}
-use Rattle.threshold.specs.declared.Threshold.the-variants.{Loudness, Energy as Energy-at, Refused as Refused-threshold}
+use Rattle.gate.specs.declared.threshold.Threshold.{Threshold}
+use Rattle.gate.specs.declared.threshold.Threshold.the-variants.{Loudness, Energy as Energy-at, Refused as Refused-threshold}
 use Rattle.gate.specs.Gate.{said as saidGated}
 use Rattle.gated_energy.specs.GatedEnergy.{said as saidEnergy}
-use Rattle.threshold.specs.Relative.{Level as LevelOf, loudness, energy, said as saidThreshold}
+use Rattle.gate.specs.Relative.{Level as LevelOf, loudness, energy, said as saidThreshold}
 use Rattle.spans.specs.declared.Range.{Range}
 use Rattle.spans.specs.declared.Range.the-variants.{Found, Nothing, NotANumber, Refused as Refused-range}
 use Rattle.spans.specs.Span.{Span, found, nothing, notANumber}

@@ -12,7 +12,7 @@ use Rattle.bin_search.specs.Reading.{said as saidLevel}
 use Rattle.queue.specs.Queue.{Stored}
 use Rattle.gate.specs.Gate.{said as saidGated}
 use Rattle.gated_energy.specs.GatedEnergy.{said as saidEnergy}
-use Rattle.threshold.specs.Relative.{said as saidThreshold}
+use Rattle.gate.specs.Relative.{said as saidThreshold}
 use Rattle.spans.specs.Span.{said as saidRange}
 
 -- a call's end meets its statement: this answer, where `kept` stands after the call and `given` stood before

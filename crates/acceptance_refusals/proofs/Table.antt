@@ -16,10 +16,10 @@ use Rattle.queue.specs.Queue.{Stored, over, suits}
 use Rattle.queue_add.specs.Adding.{advanced, nextPlace, enqueued}
 use Rattle.history.specs.declared.set.Entry.{Entry}
 use Rattle.history.specs.Set.{mostHistories, Histories, chosen, historiesOf, shows, anyOutside, allSound, sound, refusing, refusalOf, unlessRefused}
-use Rattle.blocks.specs.declared.Totals.{Totals}
-use Rattle.blocks.specs.Totals.{none, meanOf}
-use Rattle.sums.specs.Sums.{totalsOf, alone}
-use Rattle.threshold.specs.Relative.{thresholdOf, Level, loudness, energy as energy-of, lowest, levelOf, relativeOf}
+use Rattle.gate.specs.declared.blocks.Totals.{Totals}
+use Rattle.gate.specs.Totals.{none, meanOf}
+use Rattle.gate.specs.Sums.{totalsOf, alone}
+use Rattle.gate.specs.Relative.{thresholdOf, Level, loudness, energy as energy-of, lowest, levelOf, relativeOf}
 use Rattle.gate.specs.Gate.{allGated, gateOver, gateOf}
 use Rattle.gated_energy.specs.GatedEnergy.{meanAnswer, gatedEnergyOf}
 use Rattle.rising_order.specs.Order.{inOrder}

@@ -17,10 +17,10 @@ use Rattle.queue.specs.Queue.{Stored, suits}
 use Rattle.queue_add.specs.Adding.{enqueued}
 use Rattle.history.specs.declared.set.Entry.{Entry}
 use Rattle.history.specs.Set.{mostHistories, Histories, chosen, historiesOf, shows, anyOutside, allSound}
-use Rattle.blocks.specs.declared.Totals.{Totals}
-use Rattle.blocks.specs.Totals.{none}
-use Rattle.sums.specs.Sums.{totalsOf, allTotals, alone}
-use Rattle.threshold.specs.Relative.{thresholdOf, relativeOf}
+use Rattle.gate.specs.declared.blocks.Totals.{Totals}
+use Rattle.gate.specs.Totals.{none}
+use Rattle.gate.specs.Sums.{totalsOf, allTotals, alone}
+use Rattle.gate.specs.Relative.{thresholdOf, relativeOf}
 use Rattle.gate.specs.Gate.{allGated, gateOf}
 use Rattle.gated_energy.specs.GatedEnergy.{gatedEnergyOf}
 use Rattle.queue_range.specs.Listed.{allHeld}

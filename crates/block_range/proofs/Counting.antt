@@ -12,8 +12,8 @@ use lib.IntN.{pos}
 use lib.ListN.{length, getD, take}
 use lib.Ieee.{binary64, mul, ofInt}
 use Rattle.tables.specs.Tables.{energyAt}
-use Rattle.blocks.specs.declared.Totals.{Totals}
-use Rattle.blocks.specs.Totals.{withBlocks, binsFrom}
+use Rattle.gate.specs.declared.blocks.Totals.{Totals}
+use Rattle.gate.specs.Totals.{withBlocks, binsFrom}
 use Rattle.block_range.specs.Counted.{AtMost, blocksIn, runningFrom}
 
 -- ---- blocks below a bin

@@ -5,7 +5,7 @@ ghost use Prim.Native.Nat.{_+_, _-_, _≤_};
 ghost use lib.ListN.{length, take};
 ghost use Rattle.refusals.specs.Outcome.{says};
 ghost use Rattle.histogram_bins.specs.Bin.{bins};
-ghost use Rattle.blocks.specs.Totals.{mostBlocks};
+ghost use Rattle.gate.specs.Totals.{mostBlocks};
 ghost use Rattle.spans.specs.Span.{said};
 ghost use Rattle.block_range.specs.Counted.{blocksIn, runningFrom, firstPast, leftIn, spanAt, Short};
 
@@ -98,12 +98,12 @@ fn ranked(block: &[u32], count: u64, start: usize) -> Range
 pub fn of_block(counters: &[u32], start: usize) -> Range
     ensures { λ r. ⌜ said r ≡ says (spanAt (now (counters .entry)) start) ⌝ }
 {
-    let totals = blocks::of_counters(counters, start);
+    let totals = gate::blocks::of_counters(counters, start);
     let count = totals.count;
     if count == 0 {
         return Range::Nothing;
     }
-    let gate = blocks::start_bin(spans::gate_energy(totals));
+    let gate = gate::blocks::start_bin(spans::gate_energy(totals));
     let end = start + histogram_bins::BINS;
     ranked(&counters[start..end], count, gate)
 }

@@ -5,7 +5,7 @@ use Prim.Native.Nat.{ℕ, _/_}
 use lib.ListN.{length}
 use lib.Ieee.{Float}
 use Rattle.history.specs.Set.{histories, refusalOf, mostHistories}
-use Rattle.sums.specs.Sums.{alone}
+use Rattle.gate.specs.Sums.{alone}
 use Rattle.gate.specs.Gate.{gateOf}
 use Rattle.entries.specs.Sets.{numbersAnEntry, entryAt, entriesFrom, setOf}
 

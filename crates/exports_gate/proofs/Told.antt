@@ -3,7 +3,7 @@ use mathlib.Core.Path.{_≡_, ap}
 use Prim.Native.Nat.{ℕ}
 use lib.Ieee.{Float}
 use Rattle.refusals.specs.Outcome.{says, refusal, saidBy, Question}
-use Rattle.blocks.specs.declared.Totals.{Totals}
+use Rattle.gate.specs.declared.blocks.Totals.{Totals}
 use Rattle.codes.specs.Codes.{code, valueOr}
 use Rattle.codes.proofs.Told.{values-told, refusal-told}
 use Rattle.exports_gate.specs.Measures.{totalsOver}

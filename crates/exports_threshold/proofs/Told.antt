@@ -4,7 +4,7 @@ use Prim.Native.Nat.{ℕ}
 use native.Mathlib.Omega.{arith}
 use lib.Ieee.{Float}
 use Rattle.refusals.specs.Outcome.{went, refused, says, refusal, saidBy, Question}
-use Rattle.threshold.specs.Relative.{Level}
+use Rattle.gate.specs.Relative.{Level}
 use Rattle.codes.specs.Codes.{code}
 use Rattle.exports_threshold.specs.Levels.{floatOf, floatOr}
 

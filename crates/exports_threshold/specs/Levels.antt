@@ -1,7 +1,7 @@
 -- How the C interface tells a relative threshold: as one float, through a pointer.
 use lib.Ieee.{Float}
 use Rattle.refusals.specs.Outcome.{went, refused, Question}
-use Rattle.threshold.specs.Relative.{Level, loudness, energy as levelEnergy}
+use Rattle.gate.specs.Relative.{Level, loudness, energy as levelEnergy}
 
 -- a threshold as one float: an energy is never below 0, so -70.0 is told from it
 abbrev pub floatOf : Level → Float

@@ -1,10 +1,10 @@
 // The C interface of the relative threshold. include/xelamphoun.h declares it.
 ghost use mathlib.Core.Path.{_≡_};
-ghost use Rattle.threshold.specs.Relative.{relativeOf};
+ghost use Rattle.gate.specs.Relative.{relativeOf};
 ghost use Rattle.codes.specs.Codes.{code};
 ghost use Rattle.entries.specs.Sets.{askedAlone};
 ghost use Rattle.exports_threshold.specs.Levels.{floatOr};
-use threshold::Threshold;
+use gate::threshold::Threshold;
 
 #[no_mangle]
 pub extern "C" fn xel_relative_threshold(
@@ -19,7 +19,7 @@ pub extern "C" fn xel_relative_threshold(
     if entry.len() != entries::NUMBERS {
         return refusals::SET;
     }
-    match threshold::relative_threshold(entries::first_of(entry), counters, energies) {
+    match gate::threshold::relative_threshold(entries::first_of(entry), counters, energies) {
         Threshold::Loudness(loudness) => {
             *value = loudness;
             0

@@ -27,13 +27,13 @@ use Rattle.history.specs.Set.{
 }
 use Rattle.history.proofs.Entries.{sound-at}
 use Rattle.history.proofs.Verdicts.{kept}
-use Rattle.blocks.specs.declared.Totals.{Totals}
-use Rattle.blocks.specs.Totals.{none, withBlocks, energiesFrom}
-use Rattle.blocks.specs.Inner.{Steady}
-use Rattle.blocks.proofs.Nothing.{to-nothing, nothing-steady, steady-added, bins-steady}
-use Rattle.sums.specs.Sums.{totalsOf, allTotals, alone, ofHistory, ofSet}
-use Rattle.sums.proofs.Looking.{same}
-use Rattle.kept.proofs.Keeping.{no-minus, others-sound}
+use Rattle.gate.specs.declared.blocks.Totals.{Totals}
+use Rattle.gate.specs.Totals.{none, withBlocks, energiesFrom}
+use Rattle.gate.specs.Inner.{Steady}
+use Rattle.gate.proofs.Nothing.{to-nothing, nothing-steady, steady-added, bins-steady}
+use Rattle.gate.specs.Sums.{totalsOf, allTotals, alone, ofHistory, ofSet}
+use Rattle.gate.proofs.Looking.{same}
+use Rattle.gate.proofs.Keeping.{no-minus, others-sound}
 
 -- ---- the sum of a sound history has no minus
 energies-steady : (totals : Totals) (l : List Float) → Steady (totals .sum) → noneBelow l ≡ true → Steady (energiesFrom totals l .sum)

@@ -10,11 +10,11 @@ use lib.ListN.{drop}
 use lib.Ieee.{Float, binary64, mul, ofInt}
 use Rattle.tables.specs.Tables.{energyAt}
 use Rattle.history.specs.Set.{History, counted, listed}
-use Rattle.blocks.specs.declared.Totals.{Totals}
-use Rattle.blocks.specs.Totals.{onTopOf, withBlocks, binsFrom}
-use Rattle.blocks.specs.Start.{startBin, counts}
-use Rattle.sums.proofs.Looking.{same}
-use Rattle.kept.specs.Kept.{keptFrom}
+use Rattle.gate.specs.declared.blocks.Totals.{Totals}
+use Rattle.gate.specs.Totals.{onTopOf, withBlocks, binsFrom}
+use Rattle.gate.specs.Start.{startBin, counts}
+use Rattle.gate.proofs.Looking.{same}
+use Rattle.gate.specs.Kept.{keptFrom}
 use Rattle.gate.specs.Gate.{gatedOf}
 
 module _ (before : ℕ) where

@@ -1,4 +1,13 @@
-mod Passes
-mod Gating
-mod Questions
-mod Alone
+pub mod Running
+pub mod Nothing
+pub mod Stretches
+pub mod Start
+pub mod Looking
+pub mod Answering
+pub mod Adding
+pub mod Levels
+pub mod Keeping
+pub mod Passes
+pub mod Gating
+pub mod Questions
+pub mod Alone

@@ -8,7 +8,7 @@ use lib.Ieee.{Float}
 use Rattle.history.specs.declared.set.Entry.{Entry}
 use Rattle.history.specs.Set.{shows, allShow}
 use Rattle.history.proofs.Entries.{past-the-last, shows-next, shows-end}
-use Rattle.blocks.specs.declared.Totals.{Totals}
+use Rattle.gate.specs.declared.blocks.Totals.{Totals}
 use Rattle.gate.specs.Gate.{gatedOf, allGated}
 
 module _ (counters : List ℕ) (energies : List Float) (l : List Entry) (count i : ℕ) (totals : Totals) where

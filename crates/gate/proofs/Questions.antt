@@ -8,10 +8,10 @@ use lib.Ieee.{Float, isNan}
 use Rattle.refusals.specs.Refusal.{NONE, NAN, number}
 use Rattle.refusals.specs.Outcome.{Question, refused, answers, Said, says, refusal, saidBy}
 use Rattle.history.specs.Set.{Histories, historiesOf, Verdict, sound, refusing, refusalOf, unlessRefused}
-use Rattle.blocks.specs.declared.Totals.{Totals}
-use Rattle.blocks.specs.Totals.{none}
-use Rattle.sums.specs.Sums.{allTotals, ofSet}
-use Rattle.threshold.specs.Relative.{thresholdOf, unlessNan, Level, loudness, energy, lowest, levelOf, levelSaid}
+use Rattle.gate.specs.declared.blocks.Totals.{Totals}
+use Rattle.gate.specs.Totals.{none}
+use Rattle.gate.specs.Sums.{allTotals, ofSet}
+use Rattle.gate.specs.Relative.{thresholdOf, unlessNan, Level, loudness, energy, lowest, levelOf, levelSaid}
 use Rattle.gate.specs.Gate.{allGated, someLeft, unlessNone, gateOver, gateOf}
 
 -- what is left at or above an energy, NONE where the threshold is a loudness, or its refusal

@@ -11,12 +11,12 @@ use lib.Ieee.{Float}
 use Rattle.refusals.specs.Refusal.{NONE}
 use Rattle.refusals.specs.Outcome.{Question, answers, refused, Said, says, refusal}
 use Rattle.history.specs.Set.{History, counted, listed, Histories, historiesOf, refusalOf, unlessRefused}
-use Rattle.blocks.specs.declared.Totals.{Totals}
-use Rattle.blocks.specs.Totals.{none, binsFrom}
-use Rattle.blocks.specs.Start.{startBin}
-use Rattle.sums.specs.Sums.{allTotals}
-use Rattle.threshold.specs.Relative.{thresholdOf, unlessNan}
-use Rattle.kept.specs.Kept.{keptFrom}
+use Rattle.gate.specs.declared.blocks.Totals.{Totals}
+use Rattle.gate.specs.Totals.{none, binsFrom}
+use Rattle.gate.specs.Start.{startBin}
+use Rattle.gate.specs.Sums.{allTotals}
+use Rattle.gate.specs.Relative.{thresholdOf, unlessNan}
+use Rattle.gate.specs.Kept.{keptFrom}
 use Rattle.gate.specs.declared.Gated.{Gated}
 use Rattle.gate.specs.declared.Gated.the-variants.{Blocks, Refused}
 

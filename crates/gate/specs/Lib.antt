@@ -1,1 +1,7 @@
+pub mod Totals
+pub mod Start
+pub mod Sums
+pub mod Relative
+pub mod Kept
 pub mod Gate
+pub mod Inner

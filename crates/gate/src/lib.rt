@@ -1,4 +1,5 @@
 // The relative gate over a set of histories: the blocks at or above it and the sum of their energies.
+// A question takes the table of the bins' energies once, and lends it to all that it asks.
 use blocks::Totals;
 use history::set::Entry;
 use history::set::MOST;
@@ -11,11 +12,16 @@ ghost use lib.ListN.{length};
 ghost use Rattle.refusals.specs.Outcome.{saidBy};
 ghost use Rattle.history.specs.Set.{histories, isOutside, isSound, shows, historiesOf, refusalOf, sound};
 ghost use Rattle.tables.specs.Tables.{energies as binEnergies};
-ghost use Rattle.blocks.specs.Totals.{mostBlocks, onTopOf, none};
-ghost use Rattle.blocks.specs.Inner.{Steady};
-ghost use Rattle.blocks.specs.Start.{startBin};
-ghost use Rattle.sums.specs.Sums.{alone};
+ghost use Rattle.gate.specs.Totals.{mostBlocks, onTopOf, none};
+ghost use Rattle.gate.specs.Inner.{Steady};
+ghost use Rattle.gate.specs.Start.{startBin};
+ghost use Rattle.gate.specs.Sums.{alone};
 ghost use Rattle.gate.specs.Gate.{gatedOf, allGated, someLeft, gateOf, said};
+
+pub mod blocks;
+mod kept;
+mod sums;
+pub mod threshold;
 
 // The answer: the blocks at or above the gate and the sum of their energies.
 pub enum Gated {

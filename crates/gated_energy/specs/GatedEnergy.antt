@@ -2,8 +2,8 @@
 use lib.Ieee.{Float}
 use Rattle.refusals.specs.Outcome.{went, refused, Question, answers, Said, says, refusal}
 use Rattle.history.specs.Set.{Histories}
-use Rattle.blocks.specs.declared.Totals.{Totals}
-use Rattle.blocks.specs.Totals.{meanOf}
+use Rattle.gate.specs.declared.blocks.Totals.{Totals}
+use Rattle.gate.specs.Totals.{meanOf}
 use Rattle.gated_energy.specs.declared.Energy.{Energy}
 use Rattle.gated_energy.specs.declared.Energy.the-variants.{Of, Refused}
 use Rattle.gate.specs.Gate.{gateOf}

@@ -5,7 +5,7 @@ use history::set::MOST;
 ghost use mathlib.Core.Path.{_≡_};
 ghost use Rattle.refusals.specs.Outcome.{saidBy};
 ghost use Rattle.history.specs.Set.{histories};
-ghost use Rattle.sums.specs.Sums.{alone};
+ghost use Rattle.gate.specs.Sums.{alone};
 ghost use Rattle.gate.specs.Gate.{said as saidGated};
 ghost use Rattle.gated_energy.specs.GatedEnergy.{meanSaid, gatedEnergyOf, said};
 

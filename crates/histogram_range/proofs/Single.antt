@@ -10,7 +10,7 @@ use Rattle.histogram.specs.Histogram.{empty, sums}
 use Rattle.history.specs.declared.set.Entry.{Entry}
 use Rattle.history.specs.Set.{blockAt, shows, allShow}
 use Rattle.history.proofs.Entries.{past-the-last}
-use Rattle.blocks.specs.Totals.{none}
+use Rattle.gate.specs.Totals.{none}
 use Rattle.spans.specs.Span.{nothing}
 use Rattle.histogram_range.specs.Counted.{withHistory, addedTo, blocksIn, countedSpan}
 use Rattle.histogram_range.proofs.Counting.{count-is}

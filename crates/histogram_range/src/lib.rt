@@ -1,5 +1,5 @@
 // The loudness range over the histograms of a set: their counters added bin by bin, and the bins of the two ranks among the blocks that the gate leaves.
-use blocks::Totals;
+use gate::blocks::Totals;
 use history::set::Entry;
 use history::set::MOST;
 use history::set::Shape;
@@ -14,7 +14,7 @@ ghost use Rattle.refusals.specs.Outcome.{says, saidBy};
 ghost use Rattle.histogram_bins.specs.Bin.{bins};
 ghost use Rattle.histogram.specs.Histogram.{largestCount, empty, sums};
 ghost use Rattle.history.specs.Set.{mostHistories, histories, blockEnd, blocksInside, shows, allShow};
-ghost use Rattle.blocks.specs.Totals.{none, binsFrom};
+ghost use Rattle.gate.specs.Totals.{none, binsFrom};
 ghost use Rattle.spans.specs.Span.{said};
 ghost use Rattle.histogram_range.specs.Counted.{
   mostInBin,
@@ -166,7 +166,7 @@ fn span_of(counters: &mut [u64]) -> Range
     if count == 0 {
         return Range::Nothing;
     }
-    let start = blocks::start_bin(spans::gate_energy(totals));
+    let start = gate::blocks::start_bin(spans::gate_energy(totals));
     run_up(counters);
     ranked(counters, count, start)
 }

@@ -11,7 +11,7 @@ use lib.Ieee.{Float, nan}
 use Rattle.refusals.specs.Outcome.{went}
 use Rattle.history.specs.Set.{Histories, historiesOf, chosen, refusalOf, sound, noneBelow}
 use Rattle.history.proofs.Verdicts.{kept}
-use Rattle.blocks.specs.Totals.{none, energiesFrom}
+use Rattle.gate.specs.Totals.{none, energiesFrom}
 use Rattle.ranks.specs.Ranks.{lowRank, highRank}
 use Rattle.rising_order.specs.Order.{inOrder}
 use Rattle.rising_order.proofs.Perms.{perm-length, all-perm}

@@ -18,9 +18,9 @@ use Rattle.tables.specs.Tables.{energyAt}
 use Rattle.histogram_bins.specs.Bin.{bins}
 use Rattle.histogram.specs.Histogram.{empty}
 use Rattle.history.specs.Set.{Histories, historiesOf, chosen, refusalOf, sound}
-use Rattle.blocks.specs.Totals.{none, binsFrom}
-use Rattle.blocks.specs.Start.{startBin}
-use Rattle.blocks.proofs.Start.{start-most}
+use Rattle.gate.specs.Totals.{none, binsFrom}
+use Rattle.gate.specs.Start.{startBin}
+use Rattle.gate.proofs.Start.{start-most}
 use Rattle.ranks.specs.Ranks.{lowRank, highRank}
 use Rattle.rising_order.specs.Order.{inOrder}
 use Rattle.rising_order.specs.Arrangement.{All, Rising}

@@ -15,8 +15,8 @@ use Rattle.tables.specs.Tables.{boundaryAt, energyAt}
 use Rattle.histogram_bins.specs.Bin.{bins, binOf}
 use Rattle.tables.proofs.Rules.{boundary-positive, boundaries-rise, boundary-below-energy, energy-below-next}
 use Rattle.histogram_bins.proofs.Bins.{bin-below, bins-rise, bin-of-energy, bin-of-nan}
-use Rattle.blocks.specs.Start.{startBin}
-use Rattle.blocks.proofs.Start.{start-below, start-next, start-here}
+use Rattle.gate.specs.Start.{startBin}
+use Rattle.gate.proofs.Start.{start-below, start-next, start-here}
 use Rattle.rising_order.proofs.Energies.{not-below, above-up, same-at-most}
 use Rattle.queue_range.proofs.Looking.{above-one}
 

@@ -10,7 +10,7 @@ use lib.Dec.{eqb}
 use lib.ListN.{length, getD, replicate}
 use lib.Ieee.{Float, nan, lt}
 use Rattle.tables.specs.Tables.{boundaryAt, energyAt}
-use Rattle.blocks.specs.Totals.{none, energiesFrom}
+use Rattle.gate.specs.Totals.{none, energiesFrom}
 use Rattle.rising_order.specs.Order.{inOrder}
 use Rattle.spans.specs.Span.{Span, found, nothing, gateEnergy}
 

@@ -10,8 +10,8 @@ use borrow.Author.Tests.{eq-eqb, ne-eqb}
 use lib.ListN.{length, getD, drop, drop-of-length-le}
 use lib.Seq.{drop-cons, getD-drop}
 use lib.Ieee.{Float, nan, lt}
-use Rattle.blocks.specs.declared.Totals.{Totals}
-use Rattle.blocks.specs.Totals.{withBlocks, none, energiesFrom}
+use Rattle.gate.specs.declared.blocks.Totals.{Totals}
+use Rattle.gate.specs.Totals.{withBlocks, none, energiesFrom}
 use Rattle.ranks.specs.Ranks.{lowRank, highRank}
 use Rattle.spans.specs.Span.{found, nothing, gateEnergy}
 use Rattle.rising_range.specs.Rising.{fromGate, atRanks}

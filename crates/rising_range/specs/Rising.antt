@@ -6,8 +6,8 @@ use mathlib.Core.List.{List, [], _∷_}
 use lib.Dec.{eqb}
 use lib.ListN.{length, getD}
 use lib.Ieee.{Float, nan}
-use Rattle.blocks.specs.Totals.{none, energiesFrom}
-use Rattle.blocks.specs.Start.{counts}
+use Rattle.gate.specs.Totals.{none, energiesFrom}
+use Rattle.gate.specs.Start.{counts}
 use Rattle.ranks.specs.Ranks.{lowRank, highRank}
 use Rattle.spans.specs.Span.{Span, found, nothing, gateEnergy}
 

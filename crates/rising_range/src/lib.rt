@@ -1,12 +1,12 @@
 // The loudness range of energies in rising order: the energies at the two ranks among those that the gate leaves.
-use blocks::Totals;
+use gate::blocks::Totals;
 use spans::Range;
 ghost use mathlib.Core.Path.{_≡_};
 ghost use mathlib.Core.Bool.{true};
 ghost use Prim.Native.Nat.{_≤_};
 ghost use lib.ListN.{length, drop};
 ghost use Rattle.refusals.specs.Outcome.{says};
-ghost use Rattle.blocks.specs.Totals.{none, energiesFrom};
+ghost use Rattle.gate.specs.Totals.{none, energiesFrom};
 ghost use Rattle.spans.specs.Span.{said};
 ghost use Rattle.rising_range.specs.Rising.{fromGate, listedSpan};
 

@@ -2,8 +2,8 @@
 use mathlib.Core.Bool.{false}
 use lib.Ieee.{Float, binary64, mul, round}
 use Rattle.refusals.specs.Outcome.{Said, says, refusal}
-use Rattle.blocks.specs.declared.Totals.{Totals}
-use Rattle.blocks.specs.Totals.{meanOf}
+use Rattle.gate.specs.declared.blocks.Totals.{Totals}
+use Rattle.gate.specs.Totals.{meanOf}
 use Rattle.spans.specs.declared.Range.{Range}
 use Rattle.spans.specs.declared.Range.the-variants.{Found, Nothing, NotANumber, Refused}
 

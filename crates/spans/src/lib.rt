@@ -1,5 +1,5 @@
 // What a loudness range answers, and the gate that it is taken above.
-use blocks::Totals;
+use gate::blocks::Totals;
 ghost use mathlib.Core.Path.{_≡_};
 ghost use Rattle.spans.specs.Span.{gateEnergy};
 

@@ -10,9 +10,9 @@ use lib.Dec.{eqb, ltb}
 use lib.ListN.{length, take}
 use Rattle.histogram_bins.specs.Bin.{bins, binOf}
 use Rattle.histogram_bins.proofs.Bins.{bin-of-energy}
-use Rattle.blocks.specs.declared.Totals.{Totals}
-use Rattle.blocks.specs.Totals.{none, binsFrom}
-use Rattle.blocks.specs.Start.{startBin}
+use Rattle.gate.specs.declared.blocks.Totals.{Totals}
+use Rattle.gate.specs.Totals.{none, binsFrom}
+use Rattle.gate.specs.Start.{startBin}
 use Rattle.ranks.specs.Ranks.{lowRank, highRank}
 use Rattle.spans.specs.Span.{Span, found, nothing, notANumber, gateEnergy}
 use Rattle.histogram_range.specs.Counted.{blocksIn, runningFrom, firstPast, rankedIn, leftIn, gatedBlocks, countedSpan}

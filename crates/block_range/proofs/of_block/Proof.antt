@@ -10,11 +10,11 @@ use Rattle.refusals.specs.Outcome.{says}
 use Rattle.histogram_bins.specs.Bin.{bins}
 use Rattle.history.specs.Set.{blockAt}
 use Rattle.history.proofs.Slices.{block-slice, slice-length}
-use Rattle.blocks.specs.declared.Totals.{Totals}
-use Rattle.blocks.specs.Totals.{none, binsFrom}
-use Rattle.blocks.specs.Start.{startBin}
-use Rattle.blocks.proofs.Running.{there}
-use Rattle.blocks.proofs.Start.{start-most}
+use Rattle.gate.specs.declared.blocks.Totals.{Totals}
+use Rattle.gate.specs.Totals.{none, binsFrom}
+use Rattle.gate.specs.Start.{startBin}
+use Rattle.gate.proofs.Running.{there}
+use Rattle.gate.proofs.Start.{start-most}
 use Rattle.spans.specs.Span.{gateEnergy}
 use Rattle.block_range.specs.Counted.{blocksIn, leftIn}
 use Rattle.block_range.proofs.Counting.{count-is}

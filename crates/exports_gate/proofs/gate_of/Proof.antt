@@ -7,7 +7,7 @@ use lib.ListN.{length}
 use Rattle.refusals.specs.Outcome.{saidBy}
 use Rattle.history.specs.declared.set.Entry.{Entry}
 use Rattle.history.specs.Set.{histories}
-use Rattle.sums.specs.Sums.{alone}
+use Rattle.gate.specs.Sums.{alone}
 use Rattle.gate.specs.Gate.{gateOf}
 use Rattle.entries.specs.Sets.{numbersAnEntry}
 use Rattle.exports_gate.proofs.Alone.{set-of-one}

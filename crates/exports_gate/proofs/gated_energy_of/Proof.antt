@@ -7,8 +7,8 @@ use lib.ListN.{length}
 use Rattle.refusals.specs.Outcome.{Question, saidBy}
 use Rattle.history.specs.declared.set.Entry.{Entry}
 use Rattle.history.specs.Set.{histories}
-use Rattle.blocks.specs.declared.Totals.{Totals}
-use Rattle.sums.specs.Sums.{alone}
+use Rattle.gate.specs.declared.blocks.Totals.{Totals}
+use Rattle.gate.specs.Sums.{alone}
 use Rattle.gated_energy.specs.GatedEnergy.{meanAnswer, gatedEnergyOf}
 use Rattle.entries.specs.Sets.{numbersAnEntry}
 use Rattle.exports_gate.proofs.Alone.{set-of-one}

@@ -4,7 +4,7 @@ use mathlib.Core.Path.{_≡_, sym, ap, _∙_}
 use denote.Ref.{now}
 use Rattle.refusals.specs.Outcome.{saidBy}
 use Rattle.history.specs.declared.set.Entry.{Entry}
-use Rattle.threshold.specs.Relative.{relativeOf, said, loudness, energy}
+use Rattle.gate.specs.Relative.{relativeOf, said, loudness, energy}
 use Rattle.entries.specs.Sets.{askedAlone}
 use Rattle.entries.proofs.Asked.{alone-part, alone-whole}
 use Rattle.exports_threshold.proofs.Told.{level-told, no-level-told}

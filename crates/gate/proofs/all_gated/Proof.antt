@@ -8,10 +8,10 @@ use lib.ListN.{length, getD, take, drop}
 use Rattle.history.specs.Set.{Histories, histories, shows, allShow}
 use Rattle.history.proofs.Entries.{past-the-last, inside-at, sound-at}
 use Rattle.history.proofs.Verdicts.{Kept, kept}
-use Rattle.blocks.specs.declared.Totals.{Totals}
-use Rattle.blocks.specs.Totals.{mostBlocks, none}
-use Rattle.blocks.specs.Inner.{Steady}
-use Rattle.blocks.proofs.Nothing.{nothing-steady}
+use Rattle.gate.specs.declared.blocks.Totals.{Totals}
+use Rattle.gate.specs.Totals.{mostBlocks, none}
+use Rattle.gate.specs.Inner.{Steady}
+use Rattle.gate.proofs.Nothing.{nothing-steady}
 use Rattle.gate.specs.Gate.{allGated}
 use Rattle.gate.proofs.Gating.{gated-on}
 use Rattle.gate.proofs.Passes.{gated-turn, gated-end}

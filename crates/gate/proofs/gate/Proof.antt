@@ -4,11 +4,11 @@ use borrow.Author.Needs.{needs}
 use denote.Ref.{now}
 use Rattle.refusals.specs.Outcome.{saidBy}
 use Rattle.history.specs.Set.{Histories, histories, historiesOf}
-use Rattle.blocks.specs.declared.Totals.{Totals}
-use Rattle.blocks.specs.Totals.{none}
-use Rattle.sums.specs.Sums.{ofSet}
-use Rattle.threshold.specs.declared.Threshold.{Threshold}
-use Rattle.threshold.specs.Relative.{levelSaid, said}
+use Rattle.gate.specs.declared.blocks.Totals.{Totals}
+use Rattle.gate.specs.Totals.{none}
+use Rattle.gate.specs.Sums.{ofSet}
+use Rattle.gate.specs.declared.threshold.Threshold.{Threshold}
+use Rattle.gate.specs.Relative.{levelSaid, said}
 use Rattle.gate.specs.Gate.{allGated, someLeft, gateOf}
 use Rattle.gate.proofs.Questions.{answeredAt, leftAt, gate-at, nothing-refuses}
 use Rattle.gate.proofs.gate.Statement.{statement}

@@ -9,12 +9,12 @@ use Rattle.refusals.specs.Outcome.{saidBy}
 use Rattle.history.specs.Set.{Histories, historiesOf, allShow}
 use Rattle.history.proofs.Entries.{inside-at, sound-at}
 use Rattle.history.proofs.Verdicts.{kept}
-use Rattle.blocks.specs.declared.Totals.{Totals}
-use Rattle.blocks.specs.Totals.{none}
-use Rattle.blocks.proofs.Nothing.{nothing-steady}
-use Rattle.sums.specs.Sums.{alone, ofSet}
-use Rattle.threshold.specs.declared.Threshold.{Threshold}
-use Rattle.threshold.specs.Relative.{levelSaid, said}
+use Rattle.gate.specs.declared.blocks.Totals.{Totals}
+use Rattle.gate.specs.Totals.{none}
+use Rattle.gate.proofs.Nothing.{nothing-steady}
+use Rattle.gate.specs.Sums.{alone, ofSet}
+use Rattle.gate.specs.declared.threshold.Threshold.{Threshold}
+use Rattle.gate.specs.Relative.{levelSaid, said}
 use Rattle.gate.specs.Gate.{allGated, someLeft, gateOf}
 use Rattle.gate.proofs.Questions.{answeredAt, leftAt, gate-at, nothing-refuses}
 use Rattle.gate.proofs.Alone.{alone-same}

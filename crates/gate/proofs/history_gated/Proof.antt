@@ -7,12 +7,12 @@ use lib.ListN.{length, drop}
 use Rattle.history.specs.declared.set.Shape.{Shape}
 use Rattle.history.specs.Set.{blockEnd, storeEnd, blockAt, shapeShows}
 use Rattle.history.proofs.Entries.{block-inside, store-inside, sound-queue}
-use Rattle.blocks.specs.declared.Totals.{Totals}
-use Rattle.blocks.specs.Totals.{onTopOf, binsFrom}
-use Rattle.blocks.specs.Inner.{Steady}
-use Rattle.blocks.proofs.Nothing.{bins-steady}
-use Rattle.blocks.proofs.Running.{there}
-use Rattle.kept.proofs.Keeping.{queue-keeps}
+use Rattle.gate.specs.declared.blocks.Totals.{Totals}
+use Rattle.gate.specs.Totals.{onTopOf, binsFrom}
+use Rattle.gate.specs.Inner.{Steady}
+use Rattle.gate.proofs.Nothing.{bins-steady}
+use Rattle.gate.proofs.Running.{there}
+use Rattle.gate.proofs.Keeping.{queue-keeps}
 use Rattle.gate.specs.Gate.{gatedOf}
 use Rattle.gate.proofs.history_gated.Statement.{statement}
 use Rattle.gate.proofs.history_gated.Tie as tie

@@ -2,7 +2,7 @@
 use mathlib.Core.Path.{_∙_}
 use borrow.Author.Needs.{needs}
 use denote.Ref.{now}
-use Rattle.sums.specs.Sums.{alone}
+use Rattle.gate.specs.Sums.{alone}
 use Rattle.gate.specs.Gate.{gateOf, said}
 use Rattle.gated_energy.proofs.Means.{mean-said}
 use Rattle.gated_energy.proofs.gated_energy_of_history.Statement.{statement}

@@ -7,10 +7,10 @@ use denote.Ref.{now}
 use lib.ListN.{length, take}
 use Rattle.refusals.specs.Outcome.{says}
 use Rattle.histogram_bins.specs.Bin.{bins}
-use Rattle.blocks.specs.declared.Totals.{Totals}
-use Rattle.blocks.specs.Totals.{none}
-use Rattle.blocks.specs.Start.{startBin}
-use Rattle.blocks.proofs.Start.{start-most}
+use Rattle.gate.specs.declared.blocks.Totals.{Totals}
+use Rattle.gate.specs.Totals.{none}
+use Rattle.gate.specs.Start.{startBin}
+use Rattle.gate.proofs.Start.{start-most}
 use Rattle.spans.specs.Span.{gateEnergy}
 use Rattle.histogram_range.specs.Counted.{blocksIn}
 use Rattle.histogram_range.proofs.Counting.{blocks-all-most, count-is, running-length, running-most}

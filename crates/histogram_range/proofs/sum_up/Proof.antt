@@ -9,9 +9,9 @@ use lib.Ieee.{Float, nan, binary64, add, mul, ofInt}
 use lib.ListN.{getD, drop}
 use Rattle.histogram_bins.specs.Bin.{bins}
 use Rattle.tables.proofs.Taken.{energy-entry}
-use Rattle.blocks.specs.declared.Totals.{Totals}
-use Rattle.blocks.specs.Totals.{none, binsFrom}
-use Rattle.blocks.proofs.Running.{bins-turn, bins-end}
+use Rattle.gate.specs.declared.blocks.Totals.{Totals}
+use Rattle.gate.specs.Totals.{none, binsFrom}
+use Rattle.gate.proofs.Running.{bins-turn, bins-end}
 use Rattle.histogram_range.specs.Counted.{mostInBin}
 use Rattle.histogram_range.proofs.sum_up.Statement.{statement}
 use Rattle.histogram_range.proofs.sum_up.Tie as tie

@@ -7,7 +7,7 @@ use denote.Ref.{now}
 use lib.Ieee.{Float}
 use lib.ListN.{length, drop, length-drop}
 use Rattle.refusals.specs.Outcome.{says}
-use Rattle.blocks.specs.Totals.{none, energiesFrom}
+use Rattle.gate.specs.Totals.{none, energiesFrom}
 use Rattle.spans.specs.Span.{gateEnergy}
 use Rattle.rising_range.specs.Rising.{fromGate, atRanks}
 use Rattle.rising_range.proofs.Skipping.{ranks-none, span-found, gate-of}

@@ -5,9 +5,9 @@ use native.Mathlib.Omega.{arith}
 use denote.Ref.{now}
 use lib.Ieee.{nan}
 use lib.ListN.{length, drop}
-use Rattle.blocks.specs.declared.Totals.{Totals}
-use Rattle.blocks.specs.Totals.{none, energiesFrom}
-use Rattle.blocks.proofs.Running.{energies-turn, energies-end}
+use Rattle.gate.specs.declared.blocks.Totals.{Totals}
+use Rattle.gate.specs.Totals.{none, energiesFrom}
+use Rattle.gate.proofs.Running.{energies-turn, energies-end}
 use borrow.Author.Needs.{needs}
 use Rattle.rising_range.proofs.sum_of.Statement.{statement}
 use Rattle.rising_range.proofs.sum_of.Tie as tie

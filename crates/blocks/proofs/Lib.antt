@@ -1,4 +1,0 @@
-pub mod Running
-pub mod Nothing
-pub mod Stretches
-pub mod Start

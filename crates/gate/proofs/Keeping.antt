@@ -1,0 +1,179 @@
+-- What energies add to running totals at a gate. A turn takes the first of those left; what a queue holds is two parts, one after the other; and where no energy
+-- has a minus, adding 0 for one below the threshold is passing it over. Assumes nothing.
+use mathlib.Core.Path.{_≡_, refl, sym, ap, _∙_, subst}
+use mathlib.Core.Bool.{Bool, true, false, not, _&&_, cond, true≢false}
+use mathlib.Core.List.{List, [], _∷_, _++_}
+use Prim.Native.Nat.{ℕ, suc, _+_, _-_, _≤_, _<_}
+use native.Mathlib.Omega.{arith}
+use borrow.Author.Tests.{not-true, lt-ltb, le-ltb, ltb-false}
+use lib.Dec.{T, ltb}
+use lib.ListN.{length, getD}
+use lib.Ieee.{Float, binary64, add}
+use Rattle.tables.specs.Tables.{boundaryAt}
+use Rattle.tables.proofs.Rules.{boundary-positive}
+use Rattle.histogram_bins.specs.Energy.{dropped}
+use Rattle.queue.specs.declared.Queue.{Queue}
+use Rattle.queue.specs.Queue.{suits, heldOf, firstPart}
+use Rattle.queue.proofs.Ring.{suited}
+use Rattle.queue.proofs.Held.{held-count}
+use Rattle.history.specs.Set.{queueAt, noneBelow}
+use Rattle.history.proofs.Slices.{held-slices}
+use Rattle.gate.specs.declared.blocks.Totals.{Totals}
+use Rattle.gate.specs.Totals.{mostBlocks, onTopOf, none, withBlocks}
+use Rattle.gate.specs.Inner.{unsigned, Steady}
+use Rattle.gate.specs.Start.{counts}
+use Rattle.gate.proofs.Nothing.{nothing-added, steady-added, not-below-unsigned}
+use Rattle.gate.proofs.Looking.{part, part-next, part-end, same}
+use Rattle.gate.specs.Kept.{keptFrom, energyKept, blocksKept, carried, countedFrom, summedFrom, addedFrom, stands, ofQueue}
+
+-- ---- a turn
+module _ {A : Type 0} (step : A → Float → A) (a : A) (energies : List Float) (i until : ℕ) where
+  pub carried-turn : (d : Float) → i < until → until ≤ length energies → (next : A) → next ≡ step a (getD energies i d)
+      → carried step next (part (i + 1) until energies) ≡ carried step a (part i until energies)
+  unfolding carried
+  carried-turn d h g next e =
+      ap (λ (b : A). carried step b (part (i + 1) until energies)) e ∙ sym (ap (carried step a) (part-next energies i until d h g))
+
+  pub carried-end : until ≤ i → carried step a (part i until energies) ≡ a
+  unfolding carried
+  carried-end h = ap (carried step a) (part-end energies i until h)
+
+-- what is counted and what is summed, both at once
+pub together : (threshold : Float) (count : ℕ) (sum : Float) (l : List Float)
+    → addedFrom threshold (record { count = count; sum = sum }) l ≡ record { count = countedFrom threshold count l; sum = summedFrom threshold sum l }
+unfolding addedFrom carried
+together threshold count sum [] = refl
+together threshold count sum (energy ∷ rest) = together threshold (count + blocksKept threshold energy) (add binary64 sum (energyKept threshold energy)) rest
+
+-- a block at most
+pub one-more : (threshold energy : Float) (blocks : ℕ) → blocks ≡ blocksKept threshold energy → blocks ≤ 1
+one-more threshold energy blocks e = subst (λ (n : ℕ). n ≤ 1) (sym e) (go (counts threshold energy))
+  where
+    go : (b : Bool) → cond b 1 0 ≤ 1
+    go true = omega arith
+    go false = omega arith
+
+-- ---- first one list, then another
+added-append : (threshold : Float) (totals : Totals) (a b : List Float)
+    → addedFrom threshold totals (a ++ b) ≡ addedFrom threshold (addedFrom threshold totals a) b
+unfolding addedFrom
+added-append threshold totals [] b = refl
+added-append threshold totals (x ∷ a) b = added-append threshold (withBlocks totals (blocksKept threshold x) (energyKept threshold x)) a b
+
+-- ---- a sum without a minus stays as it is where 0 is added
+both-true : (a b : Bool) → a && b ≡ true → (a ≡ true) × (b ≡ true)
+both-true true b h = (refl, h)
+both-true false b h = absurd (true≢false (sym h))
+
+module _ (energy : Float) (rest : List Float) (sound : noneBelow (energy ∷ rest) ≡ true) where
+  seen : (not (dropped energy) ≡ true) × (noneBelow rest ≡ true)
+  unfolding noneBelow
+  seen = both-true (not (dropped energy)) (noneBelow rest) sound
+
+  pub no-minus : T (unsigned energy)
+  no-minus = not-below-unsigned (boundaryAt 0) energy (boundary-positive 0 (omega arith)) (not-true (dropped energy) (seen .0))
+
+  pub others-sound : noneBelow rest ≡ true
+  others-sound = seen .1
+
+added-kept : (threshold : Float) (totals : Totals) (l : List Float) → Steady (totals .sum) → noneBelow l ≡ true
+    → addedFrom threshold totals l ≡ keptFrom threshold totals l
+unfolding addedFrom keptFrom
+added-kept threshold totals [] s sound = refl
+added-kept threshold totals (energy ∷ rest) s sound =
+    go (counts threshold energy)
+    (added-kept threshold (withBlocks totals 1 energy) rest (steady-added (totals .sum) energy s (no-minus energy rest sound)) (others-sound energy rest sound))
+    (added-kept threshold totals rest s (others-sound energy rest sound))
+  where
+    go : (b : Bool) → addedFrom threshold (withBlocks totals 1 energy) rest ≡ keptFrom threshold (withBlocks totals 1 energy) rest
+        → addedFrom threshold totals rest ≡ keptFrom threshold totals rest
+        → addedFrom threshold (withBlocks totals (cond b 1 0) (cond b energy (none .sum))) rest ≡ keptFrom threshold (cond b (withBlocks totals 1 energy) totals) rest
+    go true kept passed = kept
+    go false kept passed =
+        ap (λ (t : Totals). addedFrom threshold t rest) (same {count′ = totals .count} (omega arith) (nothing-added (totals .sum) s)) ∙ passed
+
+kept-steady : (threshold : Float) (totals : Totals) (l : List Float) → Steady (totals .sum) → noneBelow l ≡ true → Steady (keptFrom threshold totals l .sum)
+unfolding keptFrom
+kept-steady threshold totals [] s sound = s
+kept-steady threshold totals (energy ∷ rest) s sound =
+    go (counts threshold energy)
+    (kept-steady threshold (withBlocks totals 1 energy) rest (steady-added (totals .sum) energy s (no-minus energy rest sound)) (others-sound energy rest sound))
+    (kept-steady threshold totals rest s (others-sound energy rest sound))
+  where
+    go : (b : Bool) → Steady (keptFrom threshold (withBlocks totals 1 energy) rest .sum) → Steady (keptFrom threshold totals rest .sum)
+        → Steady (keptFrom threshold (cond b (withBlocks totals 1 energy) totals) rest .sum)
+    go true kept passed = kept
+    go false kept passed = passed
+
+-- no more blocks than energies
+kept-few : (threshold : Float) (totals : Totals) (l : List Float) → keptFrom threshold totals l .count ≤ totals .count + length l
+unfolding keptFrom
+kept-few threshold totals [] = omega arith
+kept-few threshold totals (energy ∷ rest) = go (counts threshold energy) (kept-few threshold (withBlocks totals 1 energy) rest) (kept-few threshold totals rest)
+  where
+    go : (b : Bool) → keptFrom threshold (withBlocks totals 1 energy) rest .count ≤ totals .count + 1 + length rest
+        → keptFrom threshold totals rest .count ≤ totals .count + length rest
+        → keptFrom threshold (cond b (withBlocks totals 1 energy) totals) rest .count ≤ totals .count + suc (length rest)
+    go true kept passed = omega (arith, kept)
+    go false kept passed = omega (arith, passed)
+
+-- ---- a queue
+-- whether its store is there and suits it
+module _ (queue : Queue) (start places : ℕ) where
+  pub outside : places < start + queue .maximum → stands queue start places ≡ false
+  outside h = rw (lt-ltb places (start + queue .maximum) h)
+
+  pub inside : start + queue .maximum ≤ places → stands queue start places ≡ suits queue (queue .maximum)
+  inside h = rw (le-ltb places (start + queue .maximum) h)
+
+  pub stands-well : stands queue start places ≡ true → (start + queue .maximum ≤ places) × (suits queue (queue .maximum) ≡ true)
+  stands-well h =
+      let w = both-true (not (ltb places (start + queue .maximum))) (suits queue (queue .maximum)) h in
+      (ltb-false places (start + queue .maximum) (not-true (ltb places (start + queue .maximum)) (w .0)), w .1)
+
+module _ (threshold sum : Float) (energies : List Float) (start : ℕ) (queue : Queue) where
+  abbrev held : List Float
+  held = heldOf (queueAt energies start queue)
+
+  pub not-there : stands queue start (length energies) ≡ false → ofQueue threshold sum energies start queue ≡ onTopOf sum
+  unfolding ofQueue
+  not-there h = rw h
+
+  there : stands queue start (length energies) ≡ true → ofQueue threshold sum energies start queue ≡ addedFrom threshold (onTopOf sum) held
+  unfolding ofQueue
+  there h = rw h
+
+  -- the two parts, one after the other
+  pub queue-parts : stands queue start (length energies) ≡ true → (first : ℕ) → first ≡ firstPart queue → (older newer : Totals)
+      → older ≡ addedFrom threshold (onTopOf sum) (part (start + queue .head) (start + queue .head + first) energies)
+      → newer ≡ addedFrom threshold older (part start (start + (queue .held - first)) energies)
+      → newer ≡ ofQueue threshold sum energies start queue
+  queue-parts h first e older newer p q =
+      let w = stands-well queue start (length energies) h in
+      let one = part (start + queue .head) (start + queue .head + first) energies in
+      let two = part start (start + (queue .held - first)) energies in
+      q
+      ∙ ap (λ (t : Totals). addedFrom threshold t two) p
+      ∙ sym (added-append threshold (onTopOf sum) one two)
+      ∙ ap (addedFrom threshold (onTopOf sum)) (sym (held-slices energies start queue (w .0) (w .1) first e))
+      ∙ sym (there h)
+
+  -- what the queue of a sound store keeps
+  pub queue-keeps : start + queue .maximum ≤ length energies → suits queue (queue .maximum) ≡ true → noneBelow held ≡ true → Steady sum
+      → (kept : Totals) → kept ≡ ofQueue threshold sum energies start queue
+      → (kept ≡ keptFrom threshold (onTopOf sum) held) × (kept .count ≤ mostBlocks) × Steady (kept .sum)
+  queue-keeps within fits sound steady kept e =
+      let f = suited queue (queue .maximum) fits in
+      let is : kept ≡ keptFrom threshold (onTopOf sum) held
+      = e ∙ there (inside queue start (length energies) within ∙ fits) ∙ added-kept threshold (onTopOf sum) held steady sound in (
+        is,
+        omega (
+          arith,
+          ap (λ (t : Totals). t .count) is,
+          kept-few threshold (onTopOf sum) held,
+          held-count (queueAt energies start queue .store) (queue .maximum) (queue .head) (queue .held),
+          f .full,
+          f .most,
+        ),
+        subst (λ (t : Totals). Steady (t .sum)) (sym is) (kept-steady threshold (onTopOf sum) held steady sound),
+      )

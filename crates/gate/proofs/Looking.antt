@@ -1,0 +1,132 @@
+-- Energies looked at and added in one pass, from a place up to another: a turn takes the first of those left. What is added does not ask how many there are.
+-- Assumes nothing.
+use mathlib.Core.Path.{_≡_, refl, sym, ap, _∙_}
+use mathlib.Core.Bool.{Bool, true, false, not, _&&_}
+use mathlib.Core.List.{List, [], _∷_, _++_}
+use Prim.Native.Nat.{ℕ, suc, _+_, _-_, _≤_, _<_}
+use native.Mathlib.Numerals.{add-one}
+use native.Mathlib.Omega.{arith}
+use lib.ListN.{length, getD, take, drop}
+use lib.Seq.{drop-cons}
+use lib.Ieee.{Float, binary64, add}
+use Rattle.histogram_bins.specs.Energy.{dropped}
+use Rattle.queue.specs.declared.Queue.{Queue}
+use Rattle.queue.specs.Queue.{suits, heldOf, firstPart}
+use Rattle.history.specs.Set.{queueAt, noneBelow}
+use Rattle.queue.proofs.Ring.{suited}
+use Rattle.queue.proofs.Held.{held-count}
+use Rattle.history.proofs.Slices.{held-slices}
+use Rattle.history.proofs.Entries.{none-below-append}
+use Rattle.gate.specs.declared.blocks.Totals.{Totals}
+use Rattle.gate.specs.Totals.{mostBlocks, onTopOf, none, withBlocks, energiesFrom}
+use Rattle.gate.proofs.Running.{energies-append}
+
+-- from a place up to another
+abbrev pub part : ℕ → ℕ → List Float → List Float
+part from until l = take (until - from) (drop from l)
+
+pub part-next : (l : List Float) (i until : ℕ) (d : Float) → i < until → until ≤ length l → part i until l ≡ getD l i d ∷ part (i + 1) until l
+part-next l i until d h g =
+    ap (λ (n : ℕ). take n (drop i l)) {x = until - i} {y = suc (until - (i + 1))} (omega arith)
+    ∙ ap (take (suc (until - (i + 1)))) (drop-cons l i d (omega arith))
+    ∙ ap {B = List Float} (λ (n : ℕ). getD l i d ∷ take (until - (i + 1)) (drop n l)) (sym (add-one i))
+
+pub part-end : (l : List Float) (i until : ℕ) → until ≤ i → part i until l ≡ []
+part-end l i until h = ap (λ (n : ℕ). take n (drop i l)) {x = until - i} {y = 0} (omega arith)
+
+-- ---- none is below boundary 0
+and-assoc : (a b c : Bool) → (a && b) && c ≡ a && (b && c)
+and-assoc true b c = refl
+and-assoc false b c = refl
+
+and-true : (a : Bool) → a && true ≡ a
+and-true true = refl
+and-true false = refl
+
+module _ (l : List Float) (i until : ℕ) where
+  pub sound-turn : (sound : Bool) (d : Float) → i < until → until ≤ length l
+      → (sound && not (dropped (getD l i d))) && noneBelow (part (i + 1) until l) ≡ sound && noneBelow (part i until l)
+  unfolding noneBelow
+  sound-turn sound d h g = and-assoc sound (not (dropped (getD l i d))) (noneBelow (part (i + 1) until l)) ∙ sym (ap (λ (k : List Float). sound && noneBelow k) (part-next l i until d h g))
+
+  pub sound-end : (sound : Bool) → until ≤ i → sound && noneBelow (part i until l) ≡ sound
+  unfolding noneBelow
+  sound-end sound h = ap (λ (k : List Float). sound && noneBelow k) (part-end l i until h) ∙ and-true sound
+
+both : (a b : Bool) → a && b ≡ true → a ≡ true
+both true b h = refl
+both false b h = h
+
+-- ---- sums
+-- how many blocks there are plays no part in the sum
+pub any-count : (sum : Float) (count : ℕ) (l : List Float) → energiesFrom (record { count = count; sum = sum }) l .sum ≡ energiesFrom (onTopOf sum) l .sum
+unfolding energiesFrom
+any-count sum count [] = refl
+any-count sum count (energy ∷ l) = any-count (add binary64 sum energy) (count + 1) l ∙ sym (any-count (add binary64 sum energy) (0 + 1) l)
+
+module _ (l : List Float) (i until : ℕ) where
+  pub sum-turn : (sum d : Float) → i < until → until ≤ length l
+      → energiesFrom (onTopOf (add binary64 sum (getD l i d))) (part (i + 1) until l) .sum ≡ energiesFrom (onTopOf sum) (part i until l) .sum
+  unfolding energiesFrom
+  sum-turn sum d h g =
+      sym (any-count (add binary64 sum (getD l i d)) (0 + 1) (part (i + 1) until l)) ∙ sym (ap (λ (k : List Float). energiesFrom (onTopOf sum) k .sum) (part-next l i until d h g))
+
+  pub sum-end : (sum : Float) → until ≤ i → energiesFrom (onTopOf sum) (part i until l) .sum ≡ sum
+  unfolding energiesFrom
+  sum-end sum h = ap (λ (k : List Float). energiesFrom (onTopOf sum) k .sum) (part-end l i until h)
+
+-- the sum of one list, and then of another
+pub sum-append : (sum : Float) (a b : List Float) → energiesFrom (onTopOf sum) (a ++ b) .sum ≡ energiesFrom (onTopOf (energiesFrom (onTopOf sum) a .sum)) b .sum
+sum-append sum a b =
+    ap (λ (t : Totals). t .sum) (energies-append (onTopOf sum) a b) ∙ any-count (energiesFrom (onTopOf sum) a .sum) (energiesFrom (onTopOf sum) a .count) b
+
+-- as many blocks as energies
+count-is : (totals : Totals) (l : List Float) → energiesFrom totals l .count ≡ totals .count + length l
+unfolding energiesFrom
+count-is totals [] = omega arith
+count-is totals (energy ∷ l) = count-is (withBlocks totals 1 energy) l ∙ omega arith
+
+-- totals are equal where their counts and sums are
+pub same : {count count′ : ℕ} {sum sum′ : Float} → count ≡ count′ → sum ≡ sum′
+    → _≡_ {A = Totals} (record { count = count; sum = sum }) (record { count = count′; sum = sum′ })
+same p q = cc
+
+-- energies that are so many and have this sum
+pub totals-are : (l : List Float) (held : ℕ) (sum : Float) → held ≡ length l → sum ≡ energiesFrom none l .sum
+    → _≡_ {A = Totals} (record { count = held; sum = sum }) (energiesFrom none l)
+totals-are l held sum h s =
+    same {count′ = energiesFrom none l .count} {sum′ = energiesFrom none l .sum} (omega (arith, count-is none l, h)) s
+
+-- ---- the energies that a queue holds: they are two parts, one after the other, and so is what is seen of them
+module _ (energies : List Float) (start : ℕ) (queue : Queue) where
+  abbrev held : List Float
+  held = heldOf (queueAt energies start queue)
+
+  module _ (inside : start + queue .maximum ≤ length energies) (fits : suits queue (queue .maximum) ≡ true) (first : ℕ) (e : first ≡ firstPart queue) where
+    abbrev older : List Float
+    older = part (start + queue .head) (start + queue .head + first) energies
+
+    abbrev newer : List Float
+    newer = part start (start + (queue .held - first)) energies
+
+    pub sound-seen : (one two : Bool) → one ≡ noneBelow older → two ≡ one && noneBelow newer → two ≡ suits queue (queue .maximum) && noneBelow held
+    sound-seen one two p q =
+        q
+        ∙ ap (λ (b : Bool). b && noneBelow newer) p
+        ∙ sym (none-below-append older newer)
+        ∙ ap noneBelow (sym (held-slices energies start queue inside fits first e))
+        ∙ ap (λ (b : Bool). b && noneBelow held) (sym fits)
+
+    pub sum-seen : (one two : Float) → one ≡ energiesFrom none older .sum → two ≡ energiesFrom (onTopOf one) newer .sum → two ≡ energiesFrom none held .sum
+    sum-seen one two p q =
+        q
+        ∙ ap (λ (x : Float). energiesFrom (onTopOf x) newer .sum) p
+        ∙ sym (sum-append (none .sum) older newer)
+        ∙ ap (λ (l : List Float). energiesFrom none l .sum) (sym (held-slices energies start queue inside fits first e))
+
+  -- a sound queue has as many blocks as it holds energies
+  pub queue-totals : (sum : Float) → suits queue (queue .maximum) && noneBelow held ≡ true → sum ≡ energiesFrom none held .sum
+      → (_≡_ {A = Totals} (record { count = queue .held; sum = sum }) (energiesFrom none held)) × (queue .held ≤ mostBlocks)
+  queue-totals sum s h =
+      let f = suited queue (queue .maximum) (both (suits queue (queue .maximum)) (noneBelow held) s) in
+      (totals-are held (queue .held) sum (sym (held-count (take (queue .maximum) (drop start energies)) (queue .maximum) (queue .head) (queue .held))) h, omega (arith, f .full, f .most))

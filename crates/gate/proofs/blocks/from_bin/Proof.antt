@@ -1,0 +1,60 @@
+-- `blocks::from_bin` meets its contract: the slice that is handed on is the histogram's block. Assumes nothing.
+use mathlib.Core.Path.{sym, ap, _∙_}
+use mathlib.Core.List.{List}
+use Prim.Native.Nat.{ℕ}
+use native.Mathlib.Omega.{arith}
+use borrow.Author.Needs.{needs}
+use denote.Ref.{now}
+use lib.ListN.{drop}
+use Rattle.history.proofs.Slices.{block-slice}
+use Rattle.gate.specs.Totals.{onTopOf, binsFrom}
+use Rattle.gate.proofs.Running.{not-there, there}
+use Rattle.gate.proofs.blocks.from_bin.Statement.{statement}
+use Rattle.gate.proofs.blocks.from_bin.Tie as tie
+
+returns : tie.Need-returns
+returns c = let a = c .before .before .args in (sym (not-there (a .sum) (now (a .counters)) (a .start) (a .bin) (omega arith)), omega arith)
+
+returns-2 : tie.Need-returns-2
+returns-2 c = let a = c .before .before .before .args in (sym (not-there (a .sum) (now (a .counters)) (a .start) (a .bin) (omega arith)), omega arith)
+
+add-end : tie.Need-add-end
+add-end c = search needs
+
+mul-bins-from : tie.Need-mul-bins-from
+mul-bins-from c = search needs
+
+sub-bins-from : tie.Need-sub-bins-from
+sub-bins-from c = search needs
+
+part-bins-from-start : tie.Need-part-bins-from-start
+part-bins-from-start c = search needs
+
+part-bins-from-end : tie.Need-part-bins-from-end
+part-bins-from-end c = search needs
+
+bins-from-requires : tie.Need-bins-from-requires
+bins-from-requires c κs = search needs
+
+returns-3 : tie.Need-returns-3
+returns-3 c =
+    let a = c .before .before .before .before .before .args in (
+      c .bins-from .ensures .0
+          ∙ ap (λ (l : List ℕ). binsFrom (onTopOf (a .sum)) (a .bin) (drop (a .bin) l)) (sym (block-slice (now (a .counters)) (a .start)))
+          ∙ sym (there (a .sum) (now (a .counters)) (a .start) (a .bin) (omega arith)),
+      c .bins-from .ensures .1,
+    )
+
+pub from-bin-spec : {M : Type 1} → statement M
+from-bin-spec =
+    tie.close
+    (tie.spec
+    returns
+    returns-2
+    add-end
+    mul-bins-from
+    sub-bins-from
+    part-bins-from-start
+    part-bins-from-end
+    bins-from-requires
+    returns-3)

@@ -1,0 +1,77 @@
+-- `sums::look` meets its contract. The invariant: what was seen before `i`, with what the energies from there on give, is what all give. Assumes nothing.
+use Prim.Native.Nat.{_+_, _-_, _≤_}
+use native.Mathlib.Omega.{arith}
+use mathlib.Core.Path.{_≡_, refl, sym, ap, _∙_}
+use mathlib.Core.Bool.{not, _&&_}
+use borrow.Author.Needs.{needs}
+use denote.Ref.{now}
+use lib.Ieee.{Float, nan, lt}
+use lib.ListN.{getD}
+use Rattle.history.specs.Set.{noneBelow}
+use Rattle.gate.specs.Totals.{onTopOf, energiesFrom}
+use Rattle.gate.proofs.Looking.{part, sound-turn, sound-end, sum-turn, sum-end}
+use Rattle.gate.proofs.sums.look.Statement.{statement}
+use Rattle.gate.proofs.sums.look.Tie as tie
+
+abbrev Inv-loop : tie.InvT-loop
+Inv-loop energies from until least sound₀ sum₀ i₀ sound sum i =
+    (i ≤ until)
+    × (sound && noneBelow (part i until energies) ≡ sound₀ && noneBelow (part from until energies))
+    × (energiesFrom (onTopOf sum) (part i until energies) .sum ≡ energiesFrom (onTopOf sum₀) (part from until energies) .sum)
+
+abbrev μ-loop : tie.MeasureT-loop
+μ-loop energies from until least sound₀ sum₀ i₀ sound sum i = until - i
+
+lowest-boundary-requires : tie.Need-lowest-boundary-requires Inv-loop μ-loop
+lowest-boundary-requires c κs = search needs
+
+loop-holds : tie.Need-loop-holds Inv-loop μ-loop
+loop-holds c = (omega arith, refl, refl)
+
+mul-energy : tie.Need-mul-energy Inv-loop μ-loop
+mul-energy c = search needs
+
+shared-slice-read-energy : tie.Need-shared-slice-read-energy Inv-loop μ-loop
+shared-slice-read-energy c = search needs
+
+add-i : tie.Need-add-i Inv-loop μ-loop
+add-i c = search needs
+
+loop-less : tie.Need-loop-less Inv-loop μ-loop
+loop-less c = search needs
+
+loop-again : tie.Need-loop-again Inv-loop μ-loop
+loop-again c =
+    let l = c .before .before in
+    let a = l .before .before .before .args in
+    let energies = now (a .energies) in
+    let i = l .loop .i in (
+      omega arith,
+      ap (λ (least : Float). (l .loop .sound && not (lt (getD energies i nan) least)) && noneBelow (part (i + 1) (a .until) energies)) (l .before .lowest-boundary .ensures)
+          ∙ sound-turn energies i (a .until) (l .loop .sound) nan (omega arith) (omega arith)
+          ∙ l .loop .inv .1,
+      sum-turn energies i (a .until) (l .loop .sum) nan (omega arith) (omega arith) ∙ l .loop .inv .2,
+    )
+
+returns : tie.Need-returns Inv-loop μ-loop
+returns c =
+    let l = c .before in
+    let a = l .before .before .before .args in (
+      sym (sound-end (now (a .energies)) (l .loop .i) (a .until) (l .loop .sound) (omega arith)) ∙ l .loop .inv .1,
+      sym (sum-end (now (a .energies)) (l .loop .i) (a .until) (l .loop .sum) (omega arith)) ∙ l .loop .inv .2,
+    )
+
+pub look-spec : {M : Type 1} → statement M
+look-spec =
+    tie.close
+    (tie.spec
+    Inv-loop
+    μ-loop
+    lowest-boundary-requires
+    loop-holds
+    mul-energy
+    shared-slice-read-energy
+    add-i
+    loop-less
+    loop-again
+    returns)

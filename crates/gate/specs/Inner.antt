@@ -1,0 +1,50 @@
+-- Inner definitions: what the loops over stretches of bins go by, and the search for the bin where a gate starts.
+use Prim.Native.Nat.{ℕ, suc, _-_, _<_}
+use mathlib.Core.Path.{_≡_}
+use mathlib.Core.Logic.{_⊎_}
+use mathlib.Core.Bool.{Bool, true, not}
+use mathlib.Core.List.{List, [], _∷_}
+use lib.Dec.{T}
+use lib.IntN.{pos}
+use lib.ListN.{drop}
+use lib.Ieee.{Float, nan, inf, fin, binary64, add, mul, ofInt, fits, lt}
+use Rattle.tables.specs.Tables.{energyAt}
+use Rattle.gate.specs.declared.blocks.Totals.{Totals}
+use Rattle.gate.specs.Totals.{binsFrom, blocksIn}
+
+-- so many bins are passed over at once where none of them has a block
+abbrev pub stretch : ℕ
+stretch = 20
+
+-- what the counters from a bin on come to, on top of running totals
+abbrev pub onwards : Totals → ℕ → List ℕ → Totals
+onwards totals bin counters = binsFrom totals bin (drop bin counters)
+
+-- ---- its two parts
+-- the sum, from a bin upward
+unfoldable pub sumFrom : Float → ℕ → List ℕ → Float
+sumFrom sum bin [] = sum
+sumFrom sum bin (count ∷ rest) = sumFrom (add binary64 sum (mul binary64 (ofInt binary64 (pos count)) (energyAt bin))) (suc bin) rest
+
+-- those of the counters from a bin on
+abbrev pub blocksAbove : ℕ → List ℕ → ℕ
+blocksAbove bin counters = blocksIn (drop bin counters)
+
+abbrev pub sumAbove : Float → ℕ → List ℕ → Float
+sumAbove sum bin counters = sumFrom sum bin (drop bin counters)
+
+-- ---- sums that stay as they are where 0 is added
+-- no minus: NaN, or a number without one, so not -0
+unfoldable pub unsigned : Float → Bool
+unsigned nan = true
+unsigned (inf minus) = not minus
+unsigned (fin minus m e) = not minus
+
+-- a sum that stays as it is where 0 is added
+abbrev pub Steady : Float → Type 0
+Steady sum = T (fits binary64 sum) × T (unsigned sum)
+
+-- ---- where a gate starts
+-- the bins up to here are past: the energy of the last of them is below the threshold
+abbrev pub Past : Float → ℕ → Type 0
+Past threshold bin = (bin ≡ 0) ⊎ ((0 < bin) × (lt (energyAt (bin - 1)) threshold ≡ true))

@@ -1,0 +1,52 @@
+-- The relative threshold (01, step 8): "Threshold = (sum / count) times the f64 nearest 1/10." Of a single history: "-70.0 when empty, otherwise the threshold
+-- energy or NAN." -70.0 is a loudness, in LUFS; the other answer is an energy.
+use Prim.Native.Nat.{ℕ}
+use mathlib.Core.Bool.{true, false, cond}
+use mathlib.Core.List.{List}
+use lib.Dec.{eqb}
+use lib.Ieee.{Float, binary64, mul, round, isNan}
+use Rattle.refusals.specs.Refusal.{NAN}
+use Rattle.refusals.specs.Outcome.{Question, answers, refused, Said, says, refusal, saidBy}
+use Rattle.history.specs.declared.set.Entry.{Entry}
+use Rattle.history.specs.Set.{shows, refusalOf, unlessRefused}
+use Rattle.gate.specs.declared.blocks.Totals.{Totals}
+use Rattle.gate.specs.Totals.{meanOf}
+use Rattle.gate.specs.Sums.{totalsOf, alone}
+use Rattle.gate.specs.declared.threshold.Threshold.{Threshold}
+use Rattle.gate.specs.declared.threshold.Threshold.the-variants.{Loudness, Energy, Refused}
+
+-- the f64 nearest 1/10: 10 LU down
+unfoldable pub tenth : Float
+tenth = round binary64 false 1 10
+
+abbrev pub thresholdOf : Totals → Float
+thresholdOf totals = mul binary64 (meanOf totals) tenth
+
+-- NAN where the sum of blocks is NaN, and else what follows
+abbrev pub unlessNan : {Values : Type 0} → Totals → Question Values → Question Values
+unlessNan totals question = cond (isNan (totals .sum)) (refused NAN) question
+
+pub data Level : Type 0 where
+  loudness : Float → Level
+  energy : Float → Level
+
+-- the loudness of the absolute gate, -70.0
+unfoldable pub lowest : Float
+lowest = round binary64 true 70 1
+
+unfoldable pub levelOf : Totals → Question Level
+levelOf totals = cond (eqb (totals .count) 0) (answers (loudness lowest)) (unlessNan totals (answers (energy (thresholdOf totals))))
+
+-- the same of what was said of the blocks
+abbrev pub levelSaid : Said Totals → Said Level
+levelSaid (says totals) = saidBy (levelOf totals)
+levelSaid (refusal n) = refusal n
+
+unfoldable pub relativeOf : Entry → List ℕ → List Float → Question Level
+relativeOf entry counters energies = unlessRefused (refusalOf (alone entry counters energies)) (levelOf (totalsOf (shows counters energies entry)))
+
+-- what each case of `Threshold` says
+abbrev pub said : Threshold → Said Level
+said (Loudness l) = says (loudness l)
+said (Energy e) = says (energy e)
+said (Refused n) = refusal n

@@ -1,0 +1,163 @@
+// The blocks of a histogram from a bin upward, how many they are and the sum of their energies, and the bin where a gate starts.
+ghost use mathlib.Core.Path.{_≡_};
+ghost use Prim.Native.Nat.{_+_, _*_, _%_, _≤_};
+ghost use lib.ListN.{length};
+ghost use Rattle.histogram_bins.specs.Bin.{bins};
+ghost use Rattle.tables.specs.Tables.{energies};
+ghost use Rattle.histogram.specs.Histogram.{largestCount};
+ghost use Rattle.gate.specs.Totals.{mostBlocks, onTopOf, none, fromBin};
+ghost use Rattle.gate.specs.Inner.{stretch, blocksAbove, sumAbove, onwards, Steady};
+ghost use Rattle.gate.specs.Start.{startBin};
+
+// A running count of blocks and the sum of their energies.
+pub struct Totals {
+    pub count: u64,
+    pub sum: f64,
+}
+
+// So many bins are passed over at once where none of them has a block.
+const STRETCH: usize = 20;
+
+fn wide(x: u32) -> u64
+    ensures { λ r. ⌜ r ≡ x ⌝ }
+{
+    x as u64
+}
+
+// How many blocks the bins of a stretch have, from a place of it on.
+fn count_stretch(counters: &[u32], first: usize, place: usize) -> u64
+    requires { ⌜ (length (now counters) ≡ bins) × (first + stretch ≤ bins) × (place ≤ stretch) ⌝ }
+    ensures { λ r. ⌜ (r + blocksAbove (first + stretch) (now (counters .entry)) ≡ blocksAbove (first + place) (now (counters .entry))) × (r ≤ stretch * largestCount) ⌝ }
+{
+    let mut count: u64 = 0;
+    let mut i = place;
+    while i < STRETCH {
+        count = count + wide(counters[first + i]);
+        i += 1;
+    }
+    count
+}
+
+// Their energies on top of a sum.
+fn add_stretch(table: &[f64; 1000], sum: f64, counters: &[u32], first: usize, place: usize) -> f64
+    requires { ⌜ (now table ≡ energies) × (length (now counters) ≡ bins) × (first + stretch ≤ bins) × (place ≤ stretch) × Steady sum ⌝ }
+    ensures { λ r. ⌜ (sumAbove r (first + stretch) (now (counters .entry)) ≡ sumAbove sum (first + place) (now (counters .entry))) × Steady r ⌝ }
+{
+    let mut sum = sum;
+    let mut i = place;
+    while i < STRETCH {
+        sum = sum + (counters[first + i] as f64) * table[first + i];
+        i += 1;
+    }
+    sum
+}
+
+// What the bins of a stretch add to running totals, from a place of it on: nothing where they have no block.
+fn with_stretch(
+    table: &[f64; 1000],
+    totals: Totals,
+    counters: &[u32],
+    first: usize,
+    place: usize,
+) -> Totals
+    requires { ⌜ (now table ≡ energies) × (length (now counters) ≡ bins) × (first + stretch ≤ bins) × (place ≤ stretch)
+        × (totals .count ≤ first * largestCount) × Steady (totals .sum) ⌝ }
+    ensures { λ r. ⌜ (onwards r (first + stretch) (now (counters .entry)) ≡ onwards totals (first + place) (now (counters .entry)))
+        × (r .count ≤ (first + stretch) * largestCount) × Steady (r .sum) ⌝ }
+{
+    let blocks = count_stretch(counters, first, place);
+    if blocks == 0 {
+        return totals;
+    }
+    Totals {
+        count: totals.count + blocks,
+        sum: add_stretch(table, totals.sum, counters, first, place),
+    }
+}
+
+// The blocks of whole stretches, from one upward, on top of running totals.
+fn stretches_from(table: &[f64; 1000], totals: Totals, counters: &[u32], first: usize) -> Totals
+    requires { ⌜ (now table ≡ energies) × (length (now counters) ≡ bins) × (first ≤ bins) × (first % stretch ≡ 0)
+        × (totals .count ≤ first * largestCount) × Steady (totals .sum) ⌝ }
+    ensures { λ r. ⌜ (r ≡ onwards totals first (now (counters .entry))) × (r .count ≤ mostBlocks) ⌝ }
+{
+    let mut totals = totals;
+    let mut first = first;
+    while first < histogram_bins::BINS {
+        totals = with_stretch(table, totals, counters, first, 0);
+        first += STRETCH;
+    }
+    totals
+}
+
+// The blocks of a histogram from a bin upward: the rest of its stretch, and the stretches above.
+fn bins_from(table: &[f64; 1000], sum: f64, counters: &[u32], start: usize) -> Totals
+    requires { ⌜ (now table ≡ energies) × (length (now counters) ≡ bins) × Steady sum ⌝ }
+    ensures { λ r. ⌜ (r ≡ onwards (onTopOf sum) start (now (counters .entry))) × (r .count ≤ mostBlocks) ⌝ }
+{
+    let none = Totals { count: 0, sum };
+    if start >= histogram_bins::BINS {
+        return none;
+    }
+    let place = start % STRETCH;
+    let first = start - place;
+    let rest = with_stretch(table, none, counters, first, place);
+    stretches_from(table, rest, counters, first + STRETCH)
+}
+
+// The blocks of the histogram whose counters start at a place, from a bin upward: their number, and their energies on top of a running sum.
+// Where there are not 1,000 counters from that place on, there is no block.
+pub(crate) fn from_bin(
+    table: &[f64; 1000],
+    sum: f64,
+    counters: &[u32],
+    start: usize,
+    bin: usize,
+) -> Totals
+    requires { ⌜ (now table ≡ energies) × Steady sum ⌝ }
+    ensures { λ r. ⌜ (r ≡ fromBin sum (now (counters .entry)) start bin) × (r .count ≤ mostBlocks) ⌝ }
+{
+    let places = counters.len();
+    if places < histogram_bins::BINS {
+        return Totals { count: 0, sum };
+    }
+    if places - histogram_bins::BINS < start {
+        return Totals { count: 0, sum };
+    }
+    let end = start + histogram_bins::BINS;
+    bins_from(table, sum, &counters[start..end], bin)
+}
+
+// All blocks of such a histogram.
+pub fn of_counters(counters: &[u32], start: usize) -> Totals
+    ensures { λ r. ⌜ (r ≡ fromBin (none .sum) (now (counters .entry)) start 0) × (r .count ≤ mostBlocks) ⌝ }
+{
+    let table = tables::all_energies();
+    from_bin(&table, 0.0, counters, start, 0)
+}
+
+// Where a gate starts in a histogram: the first bin whose energy is not below the threshold, by halving. It may be past the last bin.
+pub(crate) fn start_in(table: &[f64; 1000], threshold: f64) -> usize
+    requires { ⌜ now table ≡ energies ⌝ }
+    ensures { λ r. ⌜ r ≡ startBin threshold ⌝ }
+{
+    let mut low = 0;
+    let mut high = histogram_bins::BINS;
+    while low < high {
+        let middle = (low + high) / 2;
+        if table[middle] < threshold {
+            low = middle + 1;
+        } else {
+            high = middle;
+        }
+    }
+    low
+}
+
+// The same by a table of its own.
+pub fn start_bin(threshold: f64) -> usize
+    ensures { λ r. ⌜ r ≡ startBin threshold ⌝ }
+{
+    let table = tables::all_energies();
+    start_in(&table, threshold)
+}

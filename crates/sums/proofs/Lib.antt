@@ -1,3 +1,0 @@
-pub mod Passes
-pub mod Looking
-pub mod Answering
