@@ -1,13 +1,10 @@
 -- Counts of blocks over bins: how many stand below a bin, one bin more, and the running counts. Assumes nothing.
 use mathlib.Core.Path.{_≡_, refl, ap, _∙_}
-use mathlib.Core.Bool.{Bool, true, false}
 use mathlib.Core.List.{List, [], _∷_}
 use Prim.Native.Nat.{ℕ, zero, suc, _+_, _*_, _≤_, _<_, zero-le}
 use native.Mathlib.Nat.{le-of-suc-le-suc, not-suc-le-zero}
 use native.Mathlib.Numerals.{add-one}
 use native.Mathlib.Omega.{arith}
-use borrow.Author.Tests.{ltb-true, ltb-false}
-use lib.Dec.{ltb}
 use lib.IntN.{pos}
 use lib.ListN.{length, getD, take}
 use lib.Ieee.{binary64, mul, ofInt}
@@ -67,14 +64,3 @@ unfolding runningFrom blocksIn
 running-at before [] n h = absurd (not-suc-le-zero h)
 running-at before (x ∷ l) zero h = omega arith
 running-at before (x ∷ l) (suc n) h = omega (arith, running-at (before + x) l n (le-of-suc-le-suc h))
-
--- no running count is above the count of all
-pub running-most : (running counters : List ℕ) → running ≡ runningFrom 0 counters → AtMost (blocksIn counters) running
-running-most running counters e bin = rest (ltb bin (length counters)) refl
-  where
-    read : getD running bin 0 ≡ getD (runningFrom 0 counters) bin 0
-    read = ap (λ (l : List ℕ). getD l bin 0) e
-
-    rest : (b : Bool) → ltb bin (length counters) ≡ b → getD running bin 0 ≤ blocksIn counters
-    rest true h = omega (arith, read, running-at 0 counters bin (ltb-true bin (length counters) h), blocks-part counters (suc bin))
-    rest false h = omega (arith, read, getD-past (runningFrom 0 counters) bin (omega (arith, ltb-false bin (length counters) h, running-length 0 counters)))

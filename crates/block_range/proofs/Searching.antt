@@ -48,28 +48,22 @@ pub search-from : (rank : ℕ) (l : List ℕ) (k : ℕ) → k ≤ length l → b
 search-from rank l k h g =
     ap (λ (n : ℕ). firstPast rank n (drop k (runningFrom 0 l))) {x = k} {y = 0 + k} (omega arith) ∙ skip rank 0 0 l k h (omega arith)
 
--- ---- a search by halving: too few blocks stand below `low`, and `high` passes
-module _ (rank : ℕ) (running counters : List ℕ) (e : running ≡ runningFrom 0 counters) where
-  -- a bin that does not pass has too few blocks below the next
-  pub not-past : (middle : ℕ) → middle < length running → getD running middle 0 ≤ rank → blocksIn (take (middle + 1) counters) ≤ rank
-  not-past middle h g =
-      omega (arith, ap (λ (n : ℕ). blocksIn (take n counters)) (add-one middle), ap (λ (l : List ℕ). getD l middle 0) e, running-at 0 counters middle (omega (arith, ap length e, running-length 0 counters)))
-
-  pub halved : (low : ℕ) → low ≤ length running → blocksIn (take low counters) ≤ rank → (low < length running → rank < getD running low 0)
-      → low ≡ firstPast rank 0 (runningFrom 0 counters)
-  halved low h few past = go (ltb low (length running)) refl
-    where
-      from : firstPast rank low (drop low running) ≡ firstPast rank 0 (runningFrom 0 counters)
-      from = ap (λ (l : List ℕ). firstPast rank low (drop low l)) e ∙ search-from rank counters low (omega (arith, ap length e, running-length 0 counters)) few
-
-      go : (b : Bool) → ltb low (length running) ≡ b → low ≡ firstPast rank 0 (runningFrom 0 counters)
-      go true k = sym (past-here running rank low (ltb-true low (length running) k) (past (ltb-true low (length running) k))) ∙ from
-      go false k = sym (past-end running rank low (ltb-false low (length running) k)) ∙ from
-
--- ---- a search bin by bin: too few blocks stand below a bin, and with it there are enough, or it is the last
+-- ---- too few blocks stand below a bin, and with it there are enough, or it is past the last
 pub found-at : (rank : ℕ) (block : List ℕ) (bin : ℕ) → bin ≤ length block → blocksIn (take bin block) ≤ rank
     → (bin < length block → rank < blocksIn (take bin block) + getD block bin 0) → bin ≡ firstPast rank 0 (runningFrom 0 block)
-found-at rank block bin h few past =
-    let long = running-length 0 block in
-    halved rank (runningFrom 0 block) block refl bin (omega (arith, h, long)) few
-    (λ k. omega (arith, past (omega (arith, k, long)), running-at 0 block bin (omega (arith, k, long)), blocks-suc block bin (omega (arith, k, long))))
+found-at rank block bin h few past = go (ltb bin (length block)) refl
+  where
+    running : List ℕ
+    running = runningFrom 0 block
+
+    long : length running ≡ length block
+    long = running-length 0 block
+
+    from : firstPast rank bin (drop bin running) ≡ firstPast rank 0 running
+    from = search-from rank block bin h few
+
+    go : (b : Bool) → ltb bin (length block) ≡ b → bin ≡ firstPast rank 0 running
+    go true k =
+        let inside = ltb-true bin (length block) k in
+        sym (past-here running rank bin (omega (arith, inside, long)) (omega (arith, past inside, running-at 0 block bin inside, blocks-suc block bin inside))) ∙ from
+    go false k = sym (past-end running rank bin (omega (arith, ltb-false bin (length block) k, long))) ∙ from

@@ -13,9 +13,9 @@ ghost use Rattle.block_range.specs.Counted.{blocksIn, runningFrom, first
 const GROUP: usize = 20;
 
 // A bin, and how many blocks stand below it.
-struct Place {
-    bin: usize,
-    before: u64,
+pub struct Place {
+    pub bin: usize,
+    pub before: u64,
 }
 
 fn wide(x: u32) -> u64
@@ -88,22 +88,19 @@ fn ranked(block: &[u32], count: u64, start: usize) -> Range
     let gate = Place { bin: start, before };
     let low = first_past(block, gate, ranks::low_rank(left - 1) + before);
     let high = first_past(block, low, ranks::high_rank(left - 1) + before);
-    Range::Found(
-        histogram_bins::energy(low.bin),
-        histogram_bins::energy(high.bin),
-    )
+    spans::of_bins(low.bin, high.bin)
 }
 
 // The range of the histogram whose counters start at a place. There is none where 1,000 counters do not stand there.
 pub fn of_block(counters: &[u32], start: usize) -> Range
     ensures { λ r. ⌜ said r ≡ says (spanAt (now (counters .entry)) start) ⌝ }
 {
-    let totals = gate::blocks::of_counters(counters, start);
+    let started = gate::blocks::started(counters, start, spans::gate_share());
+    let totals = started.totals;
     let count = totals.count;
     if count == 0 {
         return Range::Nothing;
     }
-    let gate = gate::blocks::start_bin(spans::gate_energy(totals));
     let end = start + histogram_bins::BINS;
-    ranked(&counters[start..end], count, gate)
+    ranked(&counters[start..end], count, started.bin)
 }

@@ -1,8 +1,8 @@
 -- Running totals over counters and over energies, a turn at a time: the first of what is left is added, and the rest goes on from there.
 -- The definitions go by recursion on the list, so each law is one step of it. Assumes nothing.
-use mathlib.Core.Path.{_≡_, refl, sym, ap, _∙_}
+use mathlib.Core.Path.{_≡_, refl, ap, _∙_}
 use mathlib.Core.List.{List, [], _∷_, _++_}
-use Prim.Native.Nat.{ℕ, suc, _+_, _*_, _≤_, _<_}
+use Prim.Native.Nat.{ℕ, suc, _+_, _≤_, _<_}
 use native.Mathlib.Numerals.{add-one}
 use native.Mathlib.Omega.{arith}
 use borrow.Author.Tests.{lt-ltb, le-ltb}
@@ -42,14 +42,6 @@ module _ (counters : List ℕ) where
   pub blocks-turn : (bin : ℕ) → bin < length counters → blocksAbove bin counters ≡ getD counters bin 0 + blocksAbove (bin + 1) counters
   unfolding blocksIn
   blocks-turn bin h = rw (add-one bin, drop-cons counters bin 0 h)
-
-  pub blocks-end : (bin : ℕ) → length counters ≤ bin → blocksAbove bin counters ≡ 0
-  unfolding blocksIn
-  blocks-end bin h = rw (drop-of-length-le counters h)
-
-  pub sum-end : (sum : Float) (bin : ℕ) → length counters ≤ bin → sumAbove sum bin counters ≡ sum
-  unfolding sumFrom
-  sum-end sum bin h = rw (drop-of-length-le counters h)
 
   -- a bin's energy added
   abbrev pub plus : Float → ℕ → Float → Float

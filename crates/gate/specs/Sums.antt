@@ -1,21 +1,17 @@
 -- The blocks of histories and the sum of their energies (01, step 8): "Each history gives count and sum (histogram: count times energy, bins upward; queue:
 -- oldest first), added history by history from 0."
-use Prim.Native.Nat.{ℕ, _*_}
+use Prim.Native.Nat.{ℕ}
 use mathlib.Core.Bool.{Bool, cond}
 use mathlib.Core.List.{List, [], _∷_}
 use lib.Ieee.{Float}
 use Rattle.refusals.specs.Refusal.{STORE}
 use Rattle.refusals.specs.Outcome.{Question, refused, answers, Said, says, refusal}
 use Rattle.history.specs.declared.set.Entry.{Entry}
-use Rattle.history.specs.Set.{mostHistories, History, counted, listed, Histories, histories, historiesOf, shows, refusalOf, unlessRefused}
+use Rattle.history.specs.Set.{History, counted, listed, Histories, histories, historiesOf, shows, refusalOf, unlessRefused}
 use Rattle.gate.specs.declared.blocks.Totals.{Totals}
-use Rattle.gate.specs.Totals.{mostBlocks, none, withBlocks, binsFrom, energiesFrom}
+use Rattle.gate.specs.Totals.{none, withBlocks, binsFrom, energiesFrom}
 use Rattle.gate.specs.declared.sums.Sums.{Sums}
 use Rattle.gate.specs.declared.sums.Sums.the-variants.{Blocks, Refused}
-
--- the most blocks of a set
-abbrev pub mostOfSet : ℕ
-mostOfSet = mostHistories * mostBlocks
 
 -- what each history gives, and all of them, history by history
 abbrev pub totalsOf : History → Totals

@@ -2,10 +2,11 @@
 ghost use mathlib.Core.Path.{_≡_};
 ghost use Prim.Native.Nat.{_+_, _*_, _%_, _≤_};
 ghost use lib.ListN.{length};
+ghost use lib.Ieee.{binary64, mul};
 ghost use Rattle.histogram_bins.specs.Bin.{bins};
 ghost use Rattle.tables.specs.Tables.{energies};
 ghost use Rattle.histogram.specs.Histogram.{largestCount};
-ghost use Rattle.gate.specs.Totals.{mostBlocks, onTopOf, none, fromBin};
+ghost use Rattle.gate.specs.Totals.{mostBlocks, onTopOf, none, meanOf, fromBin};
 ghost use Rattle.gate.specs.Inner.{stretch, blocksAbove, sumAbove, onwards, Steady};
 ghost use Rattle.gate.specs.Start.{startBin};
 
@@ -128,14 +129,6 @@ pub(crate) fn from_bin(
     bins_from(table, sum, &counters[start..end], bin)
 }
 
-// All blocks of such a histogram.
-pub fn of_counters(counters: &[u32], start: usize) -> Totals
-    ensures { λ r. ⌜ (r ≡ fromBin (none .sum) (now (counters .entry)) start 0) × (r .count ≤ mostBlocks) ⌝ }
-{
-    let table = tables::all_energies();
-    from_bin(&table, 0.0, counters, start, 0)
-}
-
 // Where a gate starts in a histogram: the first bin whose energy is not below the threshold, by halving. It may be past the last bin.
 pub(crate) fn start_in(table: &[f64; 1000], threshold: f64) -> usize
     requires { ⌜ now table ≡ energies ⌝ }
@@ -160,4 +153,24 @@ pub fn start_bin(threshold: f64) -> usize
 {
     let table = tables::all_energies();
     start_in(&table, threshold)
+}
+
+// The blocks of a histogram, and the bin where a gate starts.
+pub struct Start {
+    pub totals: Totals,
+    pub bin: usize,
+}
+
+// All blocks of the histogram whose counters start at a place, and the bin where a gate starts that is this share of their mean energy.
+pub fn started(counters: &[u32], start: usize, share: f64) -> Start
+    ensures { λ r. ⌜ (r .totals ≡ fromBin (none .sum) (now (counters .entry)) start 0) × (r .totals .count ≤ mostBlocks)
+        × (r .bin ≡ startBin (mul binary64 share (meanOf (r .totals)))) ⌝ }
+{
+    let table = tables::all_energies();
+    let totals = from_bin(&table, 0.0, counters, start, 0);
+    let threshold = share * (totals.sum / std::num::nearest_u64_to_f64(totals.count));
+    Start {
+        totals,
+        bin: start_in(&table, threshold),
+    }
 }

@@ -1,11 +1,12 @@
 // The loudness range over the histograms of a set: their counters added bin by bin, and the bins of the two ranks among the blocks that the gate leaves.
+use block_range::Place;
 use gate::blocks::Totals;
 use history::set::Entry;
 use history::set::MOST;
 use history::set::Shape;
 use spans::Range;
 ghost use mathlib.Core.Path.{_≡_};
-ghost use mathlib.Core.List.{List, []};
+ghost use mathlib.Core.List.{[]};
 ghost use Prim.Native.Nat.{ℕ, _+_, _-_, _*_, _≤_};
 ghost use lib.IntN.{pos};
 ghost use lib.ListN.{length, take};
@@ -28,6 +29,7 @@ ghost use Rattle.histogram_range.specs.Counted.{
   countedSpan,
   histogramRange,
 };
+ghost use Rattle.block_range.specs.Counted.{Short};
 
 fn wide(x: u32) -> u64
     ensures { λ r. ⌜ r ≡ x ⌝ }
@@ -100,64 +102,56 @@ fn sum_up(counters: &[u64]) -> Totals
     Totals { count, sum }
 }
 
-// Each counter becomes the running count, so that the bin of a rank is found by halving.
-fn run_up(counters: &mut [u64])
-    requires { ⌜ (length (now counters) ≡ bins) × AtMost mostInBin (now counters) ⌝ }
-    ensures { λ _. ⌜ now (counters .exit) ≡ runningFrom 0 (now (counters .entry)) ⌝ }
-{
-    let mut count: u64 = 0;
-    let mut bin = 0;
-    while bin < histogram_bins::BINS {
-        count = count + counters[bin];
-        counters[bin] = count;
-        bin += 1;
-    }
-}
-
 // How many blocks stand below a bin.
-fn below(running: &[u64], bin: usize) -> u64
-    requires { ⌜ bin ≤ length (now running) ⌝ }
-    ensures { λ r. ⌜ ((counters : List ℕ) → now (running .entry) ≡ runningFrom 0 counters → r ≡ blocksIn (take bin counters))
-        × ((most : ℕ) → AtMost most (now (running .entry)) → r ≤ most) ⌝ }
+fn below(counters: &[u64], bin: usize) -> u64
+    requires { ⌜ (length (now counters) ≡ bins) × AtMost mostInBin (now counters) × (bin ≤ bins) ⌝ }
+    ensures { λ r. ⌜ r ≡ blocksIn (take bin (now (counters .entry))) ⌝ }
 {
-    if bin == 0 { 0 } else { running[bin - 1] }
+    let mut blocks: u64 = 0;
+    let mut i = 0;
+    while i < bin {
+        blocks = blocks + counters[i];
+        i += 1;
+    }
+    blocks
 }
 
 // The first bin whose running count passes the rank.
-fn first_past(running: &[u64], rank: u64) -> usize
-    ensures { λ r. ⌜ ((counters : List ℕ) → now (running .entry) ≡ runningFrom 0 counters → r ≡ firstPast rank 0 (runningFrom 0 counters)) ⌝ }
+fn first_past(counters: &[u64], from: Place, rank: u64) -> Place
+    requires { ⌜ (length (now counters) ≡ bins) × AtMost mostInBin (now counters) × Short (now counters) rank from ⌝ }
+    ensures { λ r. ⌜ (r .bin ≡ firstPast rank 0 (runningFrom 0 (now (counters .entry)))) × Short (now (counters .entry)) rank r ⌝ }
 {
-    let mut low = 0;
-    let mut high = running.len();
-    while low < high {
-        let middle = low + (high - low) / 2;
-        if rank < running[middle] {
-            high = middle;
-        } else {
-            low = middle + 1;
+    let mut bin = from.bin;
+    let mut before = from.before;
+    while bin < histogram_bins::BINS {
+        let next = before + counters[bin];
+        if rank < next {
+            return Place { bin, before };
         }
+        before = next;
+        bin += 1;
     }
-    low
+    Place { bin, before }
 }
 
-// The energies at the two ranks among the blocks from a bin on.
-fn ranked(running: &[u64], count: u64, start: usize) -> Range
-    requires { ⌜ (start ≤ length (now running)) × AtMost count (now running) × (count ≤ bins * mostInBin) ⌝ }
-    ensures { λ r. ⌜ ((counters : List ℕ) → now (running .entry) ≡ runningFrom 0 counters
-        → said r ≡ says (leftIn counters (blocksIn (take start counters)) (count - blocksIn (take start counters)))) ⌝ }
+// The energies at the two ranks among the blocks from a bin on. The low rank is not above the high one, whose search goes on from there.
+fn ranked(counters: &[u64], count: u64, start: usize) -> Range
+    requires { ⌜ (length (now counters) ≡ bins) × AtMost mostInBin (now counters) × (start ≤ bins) × (count ≡ blocksIn (now counters)) ⌝ }
+    ensures { λ r. ⌜ said r ≡ says (leftIn (now (counters .entry)) (blocksIn (take start (now (counters .entry)))) (count - blocksIn (take start (now (counters .entry))))) ⌝ }
 {
-    let before = below(running, start);
+    let before = below(counters, start);
     let left = count - before;
     if left == 0 {
         return Range::Nothing;
     }
-    let low = first_past(running, ranks::low_rank(left - 1) + before);
-    let high = first_past(running, ranks::high_rank(left - 1) + before);
-    Range::Found(histogram_bins::energy(low), histogram_bins::energy(high))
+    let gate = Place { bin: start, before };
+    let low = first_past(counters, gate, ranks::low_rank(left - 1) + before);
+    let high = first_past(counters, low, ranks::high_rank(left - 1) + before);
+    spans::of_bins(low.bin, high.bin)
 }
 
-// The range of added counters. They are running counts afterwards.
-fn span_of(counters: &mut [u64]) -> Range
+// The range of added counters.
+fn span_of(counters: &[u64]) -> Range
     requires { ⌜ (length (now counters) ≡ bins) × AtMost mostInBin (now counters) ⌝ }
     ensures { λ r. ⌜ said r ≡ says (countedSpan (now (counters .entry))) ⌝ }
 {
@@ -167,7 +161,6 @@ fn span_of(counters: &mut [u64]) -> Range
         return Range::Nothing;
     }
     let start = gate::blocks::start_bin(spans::gate_energy(totals));
-    run_up(counters);
     ranked(counters, count, start)
 }
 
@@ -210,5 +203,5 @@ pub fn of_histograms(
     }
     let mut added = [0u64; histogram_bins::BINS];
     add_histories(&mut added, entries, count, counters);
-    span_of(&mut added)
+    span_of(&added)
 }

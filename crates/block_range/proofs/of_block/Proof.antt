@@ -11,7 +11,8 @@ use Rattle.histogram_bins.specs.Bin.{bins}
 use Rattle.history.specs.Set.{blockAt}
 use Rattle.history.proofs.Slices.{block-slice, slice-length}
 use Rattle.gate.specs.declared.blocks.Totals.{Totals}
-use Rattle.gate.specs.Totals.{none, binsFrom}
+use lib.Ieee.{Float, binary64, mul}
+use Rattle.gate.specs.Totals.{none, meanOf, binsFrom}
 use Rattle.gate.specs.Start.{startBin}
 use Rattle.gate.proofs.Running.{there}
 use Rattle.gate.proofs.Start.{start-most}
@@ -23,47 +24,44 @@ use Rattle.block_range.proofs.of_block.Statement.{statement}
 use Rattle.block_range.proofs.of_block.Tie as tie
 
 -- the counters, and the block
-abbrev counters : tie.After-of-counters → List ℕ
-counters t = now (t .before .before .args .counters)
+abbrev counters : tie.After-started → List ℕ
+counters t = now (t .before .before .before .args .counters)
 
-abbrev start : tie.After-of-counters → ℕ
-start t = t .before .before .args .start
+abbrev start : tie.After-started → ℕ
+start t = t .before .before .before .args .start
 
-abbrev block : tie.After-of-counters → List ℕ
+abbrev block : tie.After-started → List ℕ
 block t = blockAt (counters t) (start t)
 
 -- there are 1,000 counters, and the totals are theirs
-inside : (e : tie.Else1) → start (e .before) + bins ≤ length (counters (e .before))
+inside : (e : tie.Else1) → start (e .before .before) + bins ≤ length (counters (e .before .before))
 inside e =
-    let t = e .before in
-    blocks-there (counters t) (start t) (λ z. e .if1 .left (ap (λ (totals : Totals). totals .count) (t .of-counters .ensures .0) ∙ z))
+    let t = e .before .before in
+    blocks-there (counters t) (start t) (λ z. e .if1 .left (ap (λ (totals : Totals). totals .count) (t .started .ensures .0) ∙ z))
 
-totals-are : (e : tie.Else1) → e .before .of-counters .result ≡ binsFrom none 0 (block (e .before))
-totals-are e = let t = e .before in t .of-counters .ensures .0 ∙ there (none .sum) (counters t) (start t) 0 (inside e)
+totals-are : (e : tie.Else1) → e .before .before .started .result .totals ≡ binsFrom none 0 (block (e .before .before))
+totals-are e = let t = e .before .before in t .started .ensures .0 ∙ there (none .sum) (counters t) (start t) 0 (inside e)
 
 -- the gate's bin
-gate-is : (b : tie.After-start-bin) → b .start-bin .result ≡ startBin (gateEnergy (b .before .before .before .of-counters .result))
-gate-is b = b .start-bin .ensures ∙ ap startBin (b .before .gate-energy .ensures)
+gate-is : (t : tie.After-started) → t .started .result .bin ≡ startBin (gateEnergy (t .started .result .totals))
+gate-is t = t .started .ensures .2 ∙ ap (λ (share : Float). startBin (mul binary64 share (meanOf (t .started .result .totals)))) (t .before .gate-share .ensures)
 
-of-counters-requires : tie.Need-of-counters-requires
-of-counters-requires c κs = search needs
+gate-share-requires : tie.Need-gate-share-requires
+gate-share-requires c κs = search needs
+
+started-requires : tie.Need-started-requires
+started-requires c κs = search needs
 
 returns : tie.Need-returns
 returns c =
-    let t = c .before in
-    ap says (sym (span-none (counters t) (start t) (ap (λ (totals : Totals). totals .count) (sym (t .of-counters .ensures .0)) ∙ c .if1 .taken)))
-
-gate-energy-requires : tie.Need-gate-energy-requires
-gate-energy-requires c κs = search needs
-
-start-bin-requires : tie.Need-start-bin-requires
-start-bin-requires c κs = search needs
+    let t = c .before .before in
+    ap says (sym (span-none (counters t) (start t) (ap (λ (totals : Totals). totals .count) (sym (t .started .ensures .0)) ∙ c .if1 .taken)))
 
 add-end : tie.Need-add-end
-add-end c = omega (arith, inside (c .before .before))
+add-end c = omega (arith, inside c)
 
 mul-ranked : tie.Need-mul-ranked
-mul-ranked c = search (needs, inside (c .before .before))
+mul-ranked c = search (needs, inside c)
 
 sub-ranked : tie.Need-sub-ranked
 sub-ranked c = search needs
@@ -72,41 +70,38 @@ part-ranked-start : tie.Need-part-ranked-start
 part-ranked-start c = search needs
 
 part-ranked-end : tie.Need-part-ranked-end
-part-ranked-end c = omega (arith, inside (c .before .before))
+part-ranked-end c = omega (arith, inside c)
 
 ranked-requires : tie.Need-ranked-requires
 ranked-requires c κs =
-    let b = c .before in
-    let e = b .before .before in
-    let t = e .before in
+    let e = c .before in
+    let t = e .before .before in
     let part = block-slice (counters t) (start t) in (
       slice-length (start t) (start t + bins) (counters t) (inside e) ∙ omega arith,
-      omega (arith, gate-is b, start-most (gateEnergy (t .of-counters .result))),
+      omega (arith, gate-is t, start-most (gateEnergy (t .started .result .totals))),
       ap (λ (totals : Totals). totals .count) (totals-are e) ∙ count-is none 0 (block t) ∙ omega (arith, ap blocksIn part),
-      t .of-counters .ensures .1,
+      t .started .ensures .1,
     )
 
 returns-2 : tie.Need-returns-2
 returns-2 c =
-    let b = c .before .before in
-    let e = b .before .before in
-    let t = e .before in
-    let count = t .of-counters .result .count in
-    let gate = b .start-bin .result in
+    let e = c .before .before in
+    let t = e .before .before in
+    let count = t .started .result .totals .count in
+    let gate = t .started .result .bin in
     c .ranked .ensures
     ∙ ap says (
     ap (λ (l : List ℕ). leftIn l (blocksIn (take gate l)) (count - blocksIn (take gate l))) (sym (block-slice (counters t) (start t)))
-    ∙ sym (counted-some (block t) (t .of-counters .result) (blocksIn (take gate (block t))) (totals-are e) (e .if1 .left) (ap (λ (n : ℕ). blocksIn (take n (block t))) (gate-is b)))
+    ∙ sym (counted-some (block t) (t .started .result .totals) (blocksIn (take gate (block t))) (totals-are e) (e .if1 .left) (ap (λ (n : ℕ). blocksIn (take n (block t))) (gate-is t)))
     ∙ sym (span-there (counters t) (start t) (inside e)))
 
 pub of-block-spec : {M : Type 1} → statement M
 of-block-spec =
     tie.close
     (tie.spec
-    of-counters-requires
+    gate-share-requires
+    started-requires
     returns
-    gate-energy-requires
-    start-bin-requires
     add-end
     mul-ranked
     sub-ranked

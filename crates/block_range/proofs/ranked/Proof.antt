@@ -5,10 +5,8 @@ use native.Mathlib.Omega.{arith}
 use borrow.Author.Needs.{needs}
 use denote.Ref.{now}
 use lib.ListN.{take}
-use lib.Ieee.{Float}
 use Rattle.refusals.specs.Outcome.{Said, says}
-use Rattle.tables.specs.Tables.{energyAt}
-use Rattle.spans.specs.Span.{Span, found}
+use Rattle.spans.specs.Span.{Span}
 use Rattle.block_range.specs.Counted.{blocksIn, leftIn}
 use Rattle.block_range.proofs.Counting.{blocks-none, blocks-part}
 use Rattle.block_range.proofs.Answers.{left-none, left-read}
@@ -61,24 +59,20 @@ first-past-requires-2 c κs =
     let few = low .first-past .ensures .1 in
     (omega arith, (few .0, few .1, omega (arith, few .2, low .before .low-rank .ensures, c .high-rank .ensures)))
 
-energy-requires : tie.Need-energy-requires
-energy-requires c κs = search needs
-
-energy-requires-2 : tie.Need-energy-requires-2
-energy-requires-2 c κs = search needs
+of-bins-requires : tie.Need-of-bins-requires
+of-bins-requires c κs = search needs
 
 returns-2 : tie.Need-returns-2
 returns-2 c =
-    let high = c .before .before in
+    let high = c .before in
     let low = high .before .before in
     let e = low .before .before in
     let b = e .before in
     let a = b .before .before .args in
     let before = b .blocks-of .result in
-    ap {B = Said Span} says (
-    ap (λ (x : Float). found x (c .energy2 .result)) (c .before .energy .ensures)
-    ∙ ap (λ (x : Float). found (energyAt (low .first-past .result .bin)) x) (c .energy2 .ensures)
-    ∙ left-read (now (a .block)) before (a .count - before) (low .before .low-rank .result) (high .before .high-rank .result) (low .first-past .result .bin) (high .first-past2 .result .bin)
+    c .of-bins .ensures
+    ∙ ap {B = Said Span} says (
+    left-read (now (a .block)) before (a .count - before) (low .before .low-rank .result) (high .before .high-rank .result) (low .first-past .result .bin) (high .first-past2 .result .bin)
     (e .if1 .left) (low .before .low-rank .ensures) (high .before .high-rank .ensures) (low .first-past .ensures .0) (high .first-past2 .ensures .0)
     ∙ ap (λ (n : ℕ). leftIn (now (a .block)) n (a .count - n)) (before-is b))
 
@@ -97,6 +91,5 @@ ranked-spec =
     high-rank-requires
     add-first-past-2
     first-past-requires-2
-    energy-requires
-    energy-requires-2
+    of-bins-requires
     returns-2)

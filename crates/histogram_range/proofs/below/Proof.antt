@@ -1,31 +1,51 @@
--- `histogram_range::below` meets its contract: below bin 0 there is none, else the running count of the bin before. Assumes nothing.
-use Prim.Native.Nat.{ℕ, _-_}
+-- `histogram_range::below` meets its contract. The invariant: the sum is that of the bins passed. Assumes nothing.
+use mathlib.Core.Path.{_≡_, ap, _∙_}
+use Prim.Native.Nat.{ℕ, _-_, _≤_}
 use native.Mathlib.Omega.{arith}
-use mathlib.Core.List.{List}
-use denote.Ref.{now}
-use Rattle.histogram_range.proofs.Counting.{none-below, some-below}
 use borrow.Author.Needs.{needs}
+use denote.Ref.{now}
+use lib.ListN.{take}
+use Rattle.histogram_range.specs.Counted.{blocksIn}
+use Rattle.histogram_range.proofs.Counting.{blocks-more, blocks-none, blocks-most}
 use Rattle.histogram_range.proofs.below.Statement.{statement}
 use Rattle.histogram_range.proofs.below.Tie as tie
 
-sub-result : tie.Need-sub-result
-sub-result c = search needs
+abbrev Inv-loop : tie.InvT-loop
+Inv-loop counters bin blocks₀ i₀ blocks i = (i ≤ bin) × (blocks ≡ blocksIn (take i counters))
 
-mul-result : tie.Need-mul-result
-mul-result c = search needs
+abbrev μ-loop : tie.MeasureT-loop
+μ-loop counters bin blocks₀ i₀ blocks i = bin - i
 
-shared-slice-read-result : tie.Need-shared-slice-read-result
-shared-slice-read-result c = search needs
+loop-holds : tie.Need-loop-holds Inv-loop μ-loop
+loop-holds c = (omega arith, blocks-none (now (c .args .counters)))
 
-returns : tie.Need-returns
-returns c = (λ (counters : List ℕ) e. none-below counters (c .before .args .bin) (c .if1 .taken), λ (most : ℕ) b. omega arith)
+mul-blocks : tie.Need-mul-blocks Inv-loop μ-loop
+mul-blocks c = search needs
 
-returns-2 : tie.Need-returns-2
-returns-2 c =
-    let s = c .before .before in (
-      λ (counters : List ℕ) e. some-below (now (s .args .running)) counters (s .args .bin) e (s .pre) (c .before .if1 .left),
-      λ (most : ℕ) b. b (s .args .bin - 1),
-    )
+shared-slice-read-blocks : tie.Need-shared-slice-read-blocks Inv-loop μ-loop
+shared-slice-read-blocks c = search needs
+
+add-blocks : tie.Need-add-blocks Inv-loop μ-loop
+add-blocks c =
+    let l = c .before .before in
+    let s = l .before in
+    omega (arith, l .loop .inv .1, blocks-most (now (s .args .counters)) (s .pre .1) (l .loop .i), s .pre .1 (l .loop .i))
+
+add-i : tie.Need-add-i Inv-loop μ-loop
+add-i c = search needs
+
+loop-less : tie.Need-loop-less Inv-loop μ-loop
+loop-less c = search needs
+
+loop-again : tie.Need-loop-again Inv-loop μ-loop
+loop-again c =
+    let l = c .before .before in
+    (omega arith, omega (arith, l .loop .inv .1, blocks-more (now (l .before .args .counters)) (l .loop .i) (omega arith)))
+
+returns : tie.Need-returns Inv-loop μ-loop
+returns c =
+    let l = c .before in
+    l .loop .inv .1 ∙ ap (λ (n : ℕ). blocksIn (take n (now (l .before .args .counters)))) {x = l .loop .i} {y = l .before .args .bin} (omega arith)
 
 pub below-spec : {M : Type 1} → statement M
-below-spec = tie.close (tie.spec sub-result mul-result shared-slice-read-result returns returns-2)
+below-spec = tie.close (tie.spec Inv-loop μ-loop loop-holds mul-blocks shared-slice-read-blocks add-blocks add-i loop-less loop-again returns)

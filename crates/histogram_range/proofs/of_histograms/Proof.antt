@@ -75,10 +75,10 @@ span-of-requires c κs = (added-length (c .before .before), c .before .before .a
 
 returns-3 : tie.Need-returns-3
 returns-3 c =
-    let a = c .before .before .before .before in
+    let a = c .before .before .before in
     let e = a .before .before .before in
     let h = given (e .before) in
-    c .before .span-of .ensures
+    c .span-of .ensures
     ∙ ap (λ (l : List ℕ). says (countedSpan l))
     (a .add-histories .ensures .0
     ∙ ap (λ (l : List ℕ). addedTo l (allShow (h .counters) [] (chosen h))) empty-is

@@ -1,7 +1,7 @@
 -- `blocks::bins_from` meets its contract: the rest of a stretch and the stretches above it are the bins from `start` on. Assumes nothing.
 use Prim.Native.Nat.{ℕ, _+_, _-_, _%_}
 use native.Mathlib.Omega.{arith}
-use mathlib.Core.Path.{_≡_, sym, ap, _∙_}
+use mathlib.Core.Path.{sym, ap, _∙_}
 use borrow.Author.Needs.{needs}
 use denote.Ref.{now}
 use Rattle.gate.specs.Totals.{onTopOf}
