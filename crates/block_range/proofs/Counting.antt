@@ -54,11 +54,6 @@ unfolding runningFrom
 running-length before [] = refl
 running-length before (x ∷ l) = ap suc (running-length (before + x) l)
 
-getD-past : (l : List ℕ) (n : ℕ) → length l ≤ n → getD l n 0 ≡ 0
-getD-past [] n h = refl
-getD-past (x ∷ l) zero h = absurd (not-suc-le-zero h)
-getD-past (x ∷ l) (suc n) h = getD-past l n (le-of-suc-le-suc h)
-
 pub running-at : (before : ℕ) (l : List ℕ) (n : ℕ) → n < length l → getD (runningFrom before l) n 0 ≡ before + blocksIn (take (suc n) l)
 unfolding runningFrom blocksIn
 running-at before [] n h = absurd (not-suc-le-zero h)
