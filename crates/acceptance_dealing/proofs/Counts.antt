@@ -12,8 +12,9 @@ use lib.Ieee.{Float}
 use Rattle.histogram_bins.specs.Bin.{binOf}
 use Rattle.histogram_bins.proofs.Bins.{bin-below}
 use Rattle.histogram_bins.specs.Energy.{dropped}
+use Rattle.rising_order.specs.Arrangement.{Reordered, unmoved, under, swap, after}
 use Rattle.histogram_range.specs.Counted.{blocksIn}
-use Rattle.acceptance_dealing.specs.Dealing.{countIn, isIn, tally, countersOf, droppedOf, Reordered, same, under, swap, after, inOneRun}
+use Rattle.acceptance_dealing.specs.Dealing.{countIn, isIn, tally, countersOf, droppedOf, inOneRun}
 use Rattle.acceptance_dealing.proofs.Tallies.{tally-blocks-zero, tally-blocks-sum, tally-blocks-one, tally-same}
 
 -- one energy's share of a bin
@@ -39,9 +40,9 @@ module _ (bin : ℕ) where
   count-append (x ∷ l) k = ap (λ (n : ℕ). one bin x + n) (count-append l k) ∙ sym (add-assoc (one bin x) (countIn bin l) (countIn bin k))
 
   pub count-reordered : (l k : List Float) → Reordered l k → countIn bin l ≡ countIn bin k
-  count-reordered l k same = refl
-  count-reordered l k (under {x} {l = l′} {k = k′} p) = ap (λ (n : ℕ). one bin x + n) (count-reordered l′ k′ p)
-  count-reordered l k (swap {x} {y} {l = l′}) = omega arith
+  count-reordered l k (unmoved j) = refl
+  count-reordered l k (under x {l = l′} {k = k′} p) = ap (λ (n : ℕ). one bin x + n) (count-reordered l′ k′ p)
+  count-reordered l k (swap x y l′) = omega arith
   count-reordered l k (after {k = j} p q) = count-reordered l j p ∙ count-reordered j k q
 
   pub run-append : (l k : List (List Float)) → countIn bin (inOneRun (l ++ k)) ≡ countIn bin (inOneRun l) + countIn bin (inOneRun k)
@@ -49,10 +50,10 @@ module _ (bin : ℕ) where
   run-append (part ∷ l) k = omega (arith, count-append part (inOneRun (l ++ k)), run-append l k, count-append part (inOneRun l))
 
   pub run-reordered : (l k : List (List Float)) → Reordered l k → countIn bin (inOneRun l) ≡ countIn bin (inOneRun k)
-  run-reordered l k same = refl
-  run-reordered l k (under {x} {l = l′} {k = k′} p) =
+  run-reordered l k (unmoved j) = refl
+  run-reordered l k (under x {l = l′} {k = k′} p) =
       count-append x (inOneRun l′) ∙ ap (λ (n : ℕ). countIn bin x + n) (run-reordered l′ k′ p) ∙ sym (count-append x (inOneRun k′))
-  run-reordered l k (swap {x} {y} {l = l′}) =
+  run-reordered l k (swap x y l′) =
       omega (arith, count-append x (y ++ inOneRun l′), count-append y (inOneRun l′), count-append y (x ++ inOneRun l′), count-append x (inOneRun l′))
   run-reordered l k (after {k = j} p q) = run-reordered l j p ∙ run-reordered j k q
 

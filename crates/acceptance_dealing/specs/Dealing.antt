@@ -19,6 +19,7 @@ use Rattle.histogram_merge.specs.Merge.{mergeInto}
 use Rattle.history.specs.declared.set.Entry.{Entry}
 use Rattle.history.specs.declared.set.Shape.the-variants.{Histogram}
 use Rattle.history.specs.Set.{mostHistories, Histories, chosen}
+use Rattle.rising_order.specs.Arrangement.{Reordered}
 use Rattle.spans.specs.Span.{Span}
 use Rattle.histogram_range.specs.Counted.{countedSpan, blocksIn}
 use Rattle.range.specs.Range.{rangeOf}
@@ -84,13 +85,6 @@ partsOf (filled part) = part ∷ []
 partsOf (merged into from) = partsOf into ++ partsOf from
 
 -- ---- the premises
--- one list is the other in some order
-pub data Reordered {A : Type 0} : List A → List A → Type 0 where
-  same : {l : List A} → Reordered l l
-  under : {x : A} {l k : List A} → Reordered l k → Reordered (x ∷ l) (x ∷ k)
-  swap : {x y : A} {l : List A} → Reordered (x ∷ y ∷ l) (y ∷ x ∷ l)
-  after : {l k j : List A} → Reordered l k → Reordered k j → Reordered l j
-
 -- the energies of all the parts
 abbrev pub inOneRun : List (List Float) → List Float
 inOneRun [] = []

@@ -16,9 +16,9 @@ use Rattle.gate.specs.declared.blocks.Totals.{Totals}
 use Rattle.gate.specs.Start.{startBin}
 use Rattle.gate.specs.Gate.{gatedOf, gateOver, gateOf}
 use Rattle.histogram_range.specs.Counted.{blocksIn}
-use Rattle.range.specs.Tech3342.{blocksFrom}
+use Rattle.acceptance_meaning.specs.Tech3342.{blocksFrom}
 use Rattle.histogram_range.proofs.Counting.{count-is}
-use Rattle.range.proofs.Starting.{from-start, below-start}
+use Rattle.acceptance_meaning.proofs.Starting.{from-start, below-start}
 use Rattle.acceptance_meaning.specs.Bs1770.{equalsKept, through, measured, Feed, materialOf}
 use Rattle.acceptance_meaning.specs.Gate.{Fed, GateIsBs1770}
 use Rattle.acceptance_meaning.proofs.Meaning.{gate-is-bs1770}

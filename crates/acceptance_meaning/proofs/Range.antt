@@ -1,6 +1,6 @@
 -- Demand 2, the range, proved: "Tech 3342 [decides] the meaning of .. range". crates/range carries the proof. Assumes nothing.
-use Rattle.range.proofs.Meaning.{range-of-queues}
-use Rattle.range.proofs.Spreading.{range-of-histograms}
+use Rattle.acceptance_meaning.proofs.OverQueues.{range-of-queues}
+use Rattle.acceptance_meaning.proofs.OverHistograms.{range-of-histograms}
 use Rattle.acceptance_meaning.specs.Range.{RangeIsTech3342}
 
 pub range-is-tech3342's : RangeIsTech3342

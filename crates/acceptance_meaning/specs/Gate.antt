@@ -15,7 +15,7 @@ use Rattle.gate.specs.declared.blocks.Totals.{Totals}
 use Rattle.gate.specs.Start.{startBin}
 use Rattle.gate.specs.Gate.{gatedOf, gateOf}
 use Rattle.acceptance_meaning.specs.Bs1770.{strict, equalsKept, through, eachThrough, absoluteGate, relativeGate, measured, noneOfEachAt, Feed, materialOf, shownBy}
-use Rattle.range.specs.Tech3342.{blocksFrom}
+use Rattle.acceptance_meaning.specs.Tech3342.{blocksFrom}
 
 -- the question asks over queues, each filled from its own part of the material, with room for it
 pub record Fed (feeds : List Feed) (question : Histories) : Type 0 where

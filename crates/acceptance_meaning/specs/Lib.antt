@@ -1,4 +1,5 @@
-pub mod Ranks
 pub mod Bs1770
+pub mod Tech3342
 pub mod Gate
 pub mod Range
+pub mod Ranks

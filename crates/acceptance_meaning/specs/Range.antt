@@ -1,5 +1,5 @@
 -- Demand 2, the range: "ITU-R BS.1770 and EBU Tech 3342 decide the meaning of gating and range." `loudnessRange` is Tech 3342's over blocks: its two gates, then its
--- two percentiles; crates/range/specs/Tech3342.antt says what it rests on. Departures: blocks at a gate are kept; a histogram's block stands at the energy of
+-- two percentiles; Tech3342.antt says what it rests on. Departures: blocks at a gate are kept; a histogram's block stands at the energy of
 -- its bin, and the mean of its gate is from count times energy, bins upward (`binsGate`). proofs/Range.antt proves `RangeIsTech3342`.
 use Prim.Native.Nat.{ℕ, _≤_}
 use mathlib.Core.Path.{_≡_}
@@ -16,7 +16,7 @@ use Rattle.spans.specs.Span.{gateEnergy}
 use Rattle.histogram_range.specs.Counted.{addedTo}
 use Rattle.queue_range.specs.Listed.{allHeld, anyNan}
 use Rattle.range.specs.Range.{queuesIn, rangeOf}
-use Rattle.range.specs.Tech3342.{loudnessRange, rangeAbove, blocksFrom}
+use Rattle.acceptance_meaning.specs.Tech3342.{loudnessRange, rangeAbove, blocksFrom}
 
 -- the question asks over queues only: one or more, none of them NaN's, and the work slice has room for what they hold
 pub record OverQueues (question : Histories) (work : List Float) : Type 0 where

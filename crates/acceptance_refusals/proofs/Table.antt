@@ -6,14 +6,15 @@ use Prim.Native.Nat.{ℕ}
 use lib.Dec.{eqb, ltb}
 use lib.ListN.{length, drop, set}
 use lib.Ieee.{Float, isNan}
-use Rattle.refusals.specs.Refusal.{STORE, FULL, SET, MODE, NONE, NAN, ROOM}
-use Rattle.refusals.specs.Outcome.{Outcome, went, refused, Question, answers, NoValues, done}
-use Rattle.bin_search.specs.Reading.{offScale, readingOf, tenthsOf}
-use Rattle.histogram_bins.specs.Energy.{dropped}
-use Rattle.histogram.specs.Histogram.{isHistogram, takesOne, oneMore, empty, sums, addTo, cleared}
-use Rattle.histogram_merge.specs.Merge.{room, mergeInto}
-use Rattle.queue.specs.Queue.{Stored, over, suits}
-use Rattle.queue_add.specs.Adding.{advanced, nextPlace, enqueued}
+use Rattle.refusals.specs.Refusal.{STORE, SET, MODE, NONE, NAN, ROOM}
+use Rattle.refusals.specs.Outcome.{Outcome, went, refused, Question, answers, done}
+use Rattle.refusals.specs.Rows.{Row}
+use Rattle.refusals.proofs.Rows.{refused-by}
+use Rattle.bin_search.specs.Reading.{readingRows, readingOf, tenthsOf}
+use Rattle.histogram_bins.specs.Energy.{received}
+use Rattle.histogram.specs.Histogram.{oneMore, empty, sums, addRows, addTo, resetRows, cleared}
+use Rattle.histogram_merge.specs.Merge.{mergeRows, mergeInto}
+use Rattle.queue_add.specs.Adding.{queueRows, withEnergy, enqueued}
 use Rattle.history.specs.declared.set.Entry.{Entry}
 use Rattle.history.specs.Set.{mostHistories, Histories, chosen, historiesOf, shows, anyOutside, allSound, sound, refusing, refusalOf, unlessRefused}
 use Rattle.gate.specs.declared.blocks.Totals.{Totals}
@@ -28,58 +29,8 @@ use Rattle.histogram_range.specs.Counted.{addedTo, countedSpan}
 use Rattle.queue_range.specs.Listed.{allHeld, anyNan, listedRange}
 use Rattle.rising_range.specs.Rising.{listedSpan}
 use Rattle.range.specs.Range.{queuesIn, rangeOver, rangeOf}
-use Rattle.acceptance_refusals.specs.Rows.{Row, row}
-use Rattle.acceptance_refusals.specs.Table.{readingRows, addRows, mergeRows, resetRows, queueRows, allOf, gateRows, relativeRows, someQueue, rangeRows, Demand1}
+use Rattle.acceptance_refusals.specs.Table.{allOf, gateRows, relativeRows, someQueue, rangeRows, Demand1}
 use Rattle.acceptance_refusals.proofs.Rows.{downRows, by-rows}
-
-reads : (energy : Float) → readingOf energy ≡ downRows (readingRows energy) tt (tenthsOf energy)
-unfolding readingOf offScale
-reads energy = refl
-
-adds : (counters : List ℕ) (energy : Float)
-    → addTo counters energy ≡ downRows (addRows counters energy) (cond (dropped energy) counters (oneMore counters energy)) done
-unfolding addTo
-adds counters energy = go (isHistogram counters) (dropped energy) (takesOne counters energy)
-  where
-    go : (a d t : Bool)
-        → cond a (cond d (went counters done) (cond t (went (oneMore counters energy) done) (refused FULL))) (refused STORE)
-        ≡ cond (not a) (refused STORE) (cond (not d && not t) (refused FULL) (went (cond d counters (oneMore counters energy)) done))
-    go false d t = refl
-    go true true t = refl
-    go true false true = refl
-    go true false false = refl
-
-merges : (into from : List ℕ) → mergeInto into from ≡ downRows (mergeRows into from) (sums into from) done
-unfolding mergeInto
-merges into from = go (isHistogram into) (isHistogram from) (room into from)
-  where
-    go : (a b r : Bool)
-        → cond (a && b) (cond r (went (sums into from) done) (refused FULL)) (refused STORE)
-        ≡ cond (not a || not b) (refused STORE) (cond (not r) (refused FULL) (went (sums into from) done))
-    go false b r = refl
-    go true false r = refl
-    go true true true = refl
-    go true true false = refl
-
-clears : (counters : List ℕ) → cleared counters ≡ downRows (resetRows counters) empty done
-unfolding cleared
-clears counters = go (isHistogram counters)
-  where
-    go : (a : Bool) → _≡_ {A = Outcome (List ℕ) NoValues} (cond a (went empty done) (refused STORE)) (cond (not a) (refused STORE) (went empty done))
-    go true = refl
-    go false = refl
-
-enqueues : (s : Stored) (energy : Float) →
-    let added = over (advanced (s .queue)) (set (s .store) (nextPlace (s .queue)) energy) in
-    enqueued s energy ≡ downRows (queueRows s) (cond (dropped energy) s added) done
-unfolding enqueued
-enqueues s energy = go (suits (s .queue) (length (s .store))) (dropped energy) (over (advanced (s .queue)) (set (s .store) (nextPlace (s .queue)) energy))
-  where
-    go : (a d : Bool) (added : Stored)
-        → cond a (cond d (went s done) (went added done)) (refused STORE) ≡ cond (not a) (refused STORE) (went (cond d s added) done)
-    go false d added = refl
-    go true true added = refl
-    go true false added = refl
 
 -- ---- a set's rows come first
 outside : Histories → Bool
@@ -208,13 +159,11 @@ module _ (h : Histories) (work : List Float) where
 -- ---- the demand
 pub demand-1 : Demand1
 demand-1 = record {
-  reading = λ x. by-rows (readingRows x) (readingOf x) tt (tenthsOf x) (reads x);
-  histogramAdd = λ counters x. by-rows (addRows counters x) (addTo counters x) (cond (dropped x) counters (oneMore counters x)) done (adds counters x);
-  histogramMerge = λ into from. by-rows (mergeRows into from) (mergeInto into from) (sums into from) done (merges into from);
-  histogramReset = λ counters. by-rows (resetRows counters) (cleared counters) empty done (clears counters);
-  queueAdd =
-      λ s x.
-      by-rows (queueRows s) (enqueued s x) (cond (dropped x) s (over (advanced (s .queue)) (set (s .store) (nextPlace (s .queue)) x))) done (enqueues s x);
+  reading = λ x. unfold readingOf in refused-by (readingRows x) tt (tenthsOf x);
+  histogramAdd = λ counters x. unfold addTo in refused-by (addRows counters x) (received counters x (oneMore counters x)) done;
+  histogramMerge = λ into from. unfold mergeInto in refused-by (mergeRows into from) (sums into from) done;
+  histogramReset = λ counters. unfold cleared in refused-by (resetRows counters) empty done;
+  queueAdd = λ s x. unfold enqueued in refused-by (queueRows s) (received s x (withEnergy s x)) done;
   gate = λ h. by-rows (gateRows h) (gateOf h) tt (leftOf h) (gates h);
   gatedEnergy = λ h. by-rows (gateRows h) (gatedEnergyOf h) tt (meanOf (leftOf h)) (means h);
   relativeThreshold =

@@ -5,16 +5,14 @@ use mathlib.Core.Bool.{Bool, not, _&&_, _||_}
 use mathlib.Core.List.{List, [], _∷_, _++_}
 use lib.Dec.{eqb, ltb}
 use lib.ListN.{length}
-use lib.Ieee.{Float, isNan, lt, le}
-use Rattle.refusals.specs.Refusal.{STORE, FULL, SET, MODE, NONE, NAN, SCALE, ROOM}
-use Rattle.tables.specs.Tables.{boundaryAt}
-use Rattle.histogram_bins.specs.Bin.{bins}
-use Rattle.bin_search.specs.Reading.{readingOf}
-use Rattle.histogram_bins.specs.Energy.{dropped}
-use Rattle.histogram.specs.Histogram.{isHistogram, takesOne, addTo, cleared}
-use Rattle.histogram_merge.specs.Merge.{room, mergeInto}
-use Rattle.queue.specs.Queue.{Stored, suits}
-use Rattle.queue_add.specs.Adding.{enqueued}
+use lib.Ieee.{Float, isNan}
+use Rattle.refusals.specs.Refusal.{STORE, SET, MODE, NONE, NAN, ROOM}
+use Rattle.refusals.specs.Rows.{Row, row, RefusedBy}
+use Rattle.bin_search.specs.Reading.{readingRows, readingOf}
+use Rattle.histogram.specs.Histogram.{addRows, addTo, resetRows, cleared}
+use Rattle.histogram_merge.specs.Merge.{mergeRows, mergeInto}
+use Rattle.queue.specs.Queue.{Stored}
+use Rattle.queue_add.specs.Adding.{queueRows, enqueued}
 use Rattle.history.specs.declared.set.Entry.{Entry}
 use Rattle.history.specs.Set.{mostHistories, Histories, chosen, historiesOf, shows, anyOutside, allSound}
 use Rattle.gate.specs.declared.blocks.Totals.{Totals}
@@ -25,25 +23,6 @@ use Rattle.gate.specs.Gate.{allGated, gateOf}
 use Rattle.gated_energy.specs.GatedEnergy.{gatedEnergyOf}
 use Rattle.queue_range.specs.Listed.{allHeld}
 use Rattle.range.specs.Range.{queuesIn, rangeOf}
-use Rattle.acceptance_refusals.specs.Rows.{Row, row, RefusedBy}
-
--- ---- reading of an energy. SCALE: "reading of NaN, below boundary 0, or at or above boundary 1000"
-abbrev pub readingRows : Float → List Row
-readingRows energy = row SCALE (isNan energy || (lt energy (boundaryAt 0) || le (boundaryAt bins) energy)) ∷ []
-
--- ---- histograms. STORE: "not 1,000 counters". FULL: "in add or merge, a counter would pass 4,294,967,295"
-abbrev pub addRows : List ℕ → Float → List Row
-addRows counters energy = row STORE (not (isHistogram counters)) ∷ row FULL (not (dropped energy) && not (takesOne counters energy)) ∷ []
-
-abbrev pub mergeRows : List ℕ → List ℕ → List Row
-mergeRows into from = row STORE (not (isHistogram into) || not (isHistogram from)) ∷ row FULL (not (room into from)) ∷ []
-
-abbrev pub resetRows : List ℕ → List Row
-resetRows counters = row STORE (not (isHistogram counters)) ∷ []
-
--- ---- a queue. STORE: "queue maximum outside 1..36,000 or unlike its store; head not below maximum; held above maximum"
-abbrev pub queueRows : Stored → List Row
-queueRows s = row STORE (not (suits (s .queue) (length (s .store)))) ∷ []
 
 -- ---- a set. SET: "more than 16 histories, or an entry reaching outside its lent slice". STORE: a queue as above, "in a question or writer, a held energy below boundary 0"
 abbrev pub setRows : Histories → List Row

@@ -1,9 +1,11 @@
 -- The reading of an energy (01, 'Added by us'): "-700 + its bin, in tenths", and SCALE "of NaN, below boundary 0, or at or above boundary 1000".
-use mathlib.Core.Bool.{Bool, _||_, cond}
+use mathlib.Core.Bool.{Bool, _||_}
+use mathlib.Core.List.{List, [], _∷_}
 use lib.IntN.{ℤ, pos, negℤ, _+ℤ_}
 use lib.Ieee.{Float, lt, le, isNan}
 use Rattle.refusals.specs.Refusal.{SCALE}
-use Rattle.refusals.specs.Outcome.{Question, answers, refused, Said, says, refusal}
+use Rattle.refusals.specs.Outcome.{Question, answers, Said, says, refusal}
+use Rattle.refusals.specs.Rows.{Row, row, byRows}
 use Rattle.bin_search.specs.declared.Level.{Level}
 use Rattle.bin_search.specs.declared.Level.the-variants.{Tenths, Refused}
 use Rattle.tables.specs.Tables.{boundaryAt}
@@ -20,8 +22,11 @@ offScale energy = isNan energy || (lt energy (boundaryAt 0) || le (boundaryAt bi
 abbrev pub tenthsOf : Float → ℤ
 tenthsOf energy = lowest +ℤ pos (binOf energy)
 
+abbrev pub readingRows : Float → List Row
+readingRows energy = row SCALE (offScale energy) ∷ []
+
 unfoldable pub readingOf : Float → Question ℤ
-readingOf energy = cond (offScale energy) (refused SCALE) (answers (tenthsOf energy))
+readingOf energy = byRows (readingRows energy) (answers (tenthsOf energy))
 
 -- what each case of `Level` says
 abbrev pub said : Level → Said ℤ

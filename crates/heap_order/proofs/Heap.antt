@@ -13,9 +13,9 @@ use lib.Ieee.{Float, nan, le, lt}
 use mathlib.Core.Bool.{true, false}
 use Rattle.floats.proofs.Order.{float-le-trans, lt→le}
 use lib.Ieee.Positive.{above}
-use Rattle.rising_order.specs.Arrangement.{Perm, both, All, Above, Ordered, at, exchanged}
+use Rattle.rising_order.specs.Arrangement.{Reordered, unmoved, after, All, Above, Ordered, at, exchanged}
 use Rattle.heap_order.specs.Inner.{Child, Larger, HeapFrom, Heaped}
-use Rattle.rising_order.proofs.Perms.{perm-refl, perm-length, front-perm, exchange-perm, all-perm, all-at, all-of, all-take}
+use Rattle.rising_order.proofs.Perms.{perm-length, front-perm, exchange-perm, all-perm, all-at, all-of, all-take}
 use Rattle.rising_order.proofs.Energies.{same-at-most, not-below, not-at-most}
 use Rattle.rising_order.proofs.Places.{le-by, same-or-other, exchanged-length, exchanged-first, exchanged-second, exchanged-other, front-at, back-at, rising-of}
 
@@ -59,7 +59,7 @@ module _ (l : List Float) (a : Above l) (p : ℕ) (inside : 2 * p + 1 < length l
 
 -- ---- an energy sinks: only the children of its place may be above it, and those are not above its parent
 pub record Sinking (from place : ℕ) (old new : List Float) : Type 0 where
-  pub same : Perm old new
+  pub same : Reordered old new
   pub above : Above new
   pub reach : from ≤ place
   pub heap : (p k : ℕ) → from ≤ p → (p ≡ place → ⊥) → Child p k → k < length new → T (le (at new k) (at new p))
@@ -67,7 +67,7 @@ pub record Sinking (from place : ℕ) (old new : List Float) : Type 0 where
 
 pub sink-start : (from : ℕ) (l : List Float) → Above l → HeapFrom (from + 1) l → Sinking from from l l
 sink-start from l a h = record {
-  same = perm-refl l;
+  same = unmoved l;
   above = a;
   reach = omega arith;
   heap = λ p k f n c g. h p k (above-from p f n) c g;
@@ -160,9 +160,9 @@ module _ {from place : ℕ} {old new : List Float} (s : Sinking from place old n
     unfolding moved
     sink-on e =
         let over : T (le (at new place) (at new child)) = not-at-most (at new child) (at new place) (fine child inside) (fine place place-inside) e in
-        let turn : Perm new (exchanged new place child) = exchange-perm new place child place-inside inside in
+        let turn : Reordered new (exchanged new place child) = exchange-perm new place child place-inside inside in
         record {
-          same = both (s .same) turn;
+          same = after (s .same) turn;
           above = all-perm (λ x. T (above x)) turn (s .above);
           reach = omega (arith, s .reach);
           heap = λ p k f m d g. kept over p k f m d (subst (λ (n : ℕ). k < n) moved-length g) (same-or-other p place);
@@ -196,7 +196,7 @@ top l a h k g = top-most l a h k k (omega arith) g
 
 -- ---- the top is taken away: before the place `left` stands a heap, and from there on each energy is at least all before it
 pub record Draining (left : ℕ) (old new : List Float) : Type 0 where
-  pub same : Perm old new
+  pub same : Reordered old new
   pub above : Above new
   pub inside : left ≤ length new
   pub heap : HeapFrom 0 (take left new)
@@ -204,7 +204,7 @@ pub record Draining (left : ℕ) (old new : List Float) : Type 0 where
 
 pub drain-start : (l : List Float) → Above l → HeapFrom 0 l → Draining (length l) l l
 drain-start l a h = record {
-  same = perm-refl l;
+  same = unmoved l;
   above = a;
   inside = omega arith;
   heap = rw (take-length l) h;
@@ -247,7 +247,7 @@ module _ (left : ℕ) (old new : List Float) (d : Draining left old new) (more :
   unfolding taken
   taken-length = exchanged-length new 0 m
 
-  turn : Perm new taken
+  turn : Reordered new taken
   unfolding taken
   turn = exchange-perm new 0 m none-taken short
 
@@ -285,8 +285,8 @@ module _ (left : ℕ) (old new : List Float) (d : Draining left old new) (more :
       go (inr o) (inl z) = le-by (ap (at taken) z ∙ at-first) (at-rest j (λ q. omega arith) o) (d .tail m j (omega arith) (omega (arith, m-is)) b)
       go (inr o) (inr n) = le-by (at-rest k n (λ q. omega arith)) (at-rest j (λ q. omega arith) o) (d .tail k j (omega arith) (omega (arith, m-is)) b)
 
-  after : (i j : ℕ) → i < j → m ≤ i → j < length new → T (le (at taken i) (at taken j))
-  after i j h a b = go (same-or-other i m)
+  beyond : (i j : ℕ) → i < j → m ≤ i → j < length new → T (le (at taken i) (at taken j))
+  beyond i j h a b = go (same-or-other i m)
     where
       go : (i ≡ m) ⊎ (i ≡ m → ⊥) → T (le (at taken i) (at taken j))
       go (inl e) =
@@ -303,7 +303,7 @@ module _ (left : ℕ) (old new : List Float) (d : Draining left old new) (more :
     part-is : length part ≡ m
     part-is = sym (perm-length (h .same)) ∙ part-length
 
-    moved-on : Perm taken whole
+    moved-on : Reordered taken whole
     unfolding whole
     moved-on = front-perm m taken part (h .same)
 
@@ -327,13 +327,13 @@ module _ (left : ℕ) (old new : List Float) (d : Draining left old new) (more :
     new-tail : (i j : ℕ) → i < j → m ≤ j → j < length new → Dec (i < m) → T (le (at whole i) (at whole j))
     new-tail i j g a b (yes l) =
         le-by (front i l) (back j a) (all-at (λ x. T (le x (at taken j))) part (under-all j a b) i (omega (arith, part-is)))
-    new-tail i j g a b (no n) = let l : m ≤ i = omega arith in le-by (back i l) (back j a) (after i j g l b)
+    new-tail i j g a b (no n) = let l : m ≤ i = omega arith in le-by (back i l) (back j a) (beyond i j g l b)
 
     drained : Draining m old whole
     unfolding whole
     drained = record {
-      same = both (d .same) (both turn moved-on);
-      above = all-perm (λ x. T (above x)) (both turn moved-on) (d .above);
+      same = after (d .same) (after turn moved-on);
+      above = all-perm (λ x. T (above x)) (after turn moved-on) (d .above);
       inside = omega (arith, short, whole-length);
       heap = rw (take-at part (drop m taken) m part-is) (h .heap);
       tail = λ i j g a b. new-tail i j g a (subst (λ (n : ℕ). j < n) whole-length b) (decLt i m);

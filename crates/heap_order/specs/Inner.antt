@@ -4,7 +4,7 @@ use Prim.Native.Nat.{ℕ, _+_, _*_, _≤_, _<_}
 use lib.Dec.{T}
 use lib.ListN.{length}
 use lib.Ieee.{Float, le}
-use Rattle.rising_order.specs.Arrangement.{Perm, at}
+use Rattle.rising_order.specs.Arrangement.{Reordered, at}
 
 -- the children of p in a heap are 2p + 1 and 2p + 2
 abbrev pub Child : ℕ → ℕ → Type 0
@@ -21,5 +21,5 @@ pub record Larger (p : ℕ) (l : List Float) (r : ℕ) : Type 0 where
   pub largest : (k : ℕ) → Child p k → k < length l → T (le (at l k) (at l r))
 
 pub record Heaped (from : ℕ) (old new : List Float) : Type 0 where
-  pub same : Perm old new
+  pub same : Reordered old new
   pub heap : HeapFrom from new

@@ -1,20 +1,20 @@
 -- The histogram, 1,000 counters (01, step 7): what adding an energy comes to, and clearing one; and the sums of two histograms.
 use Prim.Native.Nat.{ℕ, _+_}
-use mathlib.Core.Bool.{Bool, cond}
+use mathlib.Core.Bool.{Bool, not, _&&_}
 use mathlib.Core.List.{List, [], _∷_}
 use lib.Dec.{eqb, leb}
 use lib.ListN.{length, getD, set, replicate}
 use lib.Ieee.{Float}
 use Rattle.refusals.specs.Refusal.{STORE, FULL}
-use Rattle.refusals.specs.Outcome.{Outcome, went, refused, NoValues, done}
+use Rattle.refusals.specs.Outcome.{Outcome, went, NoValues, done}
+use Rattle.refusals.specs.Rows.{Row, row, byRows}
 use Rattle.histogram_bins.specs.Bin.{bins, binOf}
-use Rattle.histogram_bins.specs.Energy.{received}
+use Rattle.histogram_bins.specs.Energy.{dropped, received}
 
 -- the largest count of a bin
 abbrev pub largestCount : ℕ
 largestCount = 4294967295
 
--- STORE: "not 1,000 counters"
 abbrev pub isHistogram : List ℕ → Bool
 isHistogram counters = eqb (length counters) bins
 
@@ -30,11 +30,15 @@ oneMore counters energy = set counters (binOf energy) (getD counters (binOf ener
 abbrev pub takesOne : List ℕ → Float → Bool
 takesOne counters energy = leb (getD counters (binOf energy) 0 + 1) largestCount
 
+-- STORE: "not 1,000 counters". FULL: "in add or merge, a counter would pass 4,294,967,295"
+abbrev pub addRows : List ℕ → Float → List Row
+addRows counters energy =
+    row STORE (not (isHistogram counters))
+    ∷ row FULL (not (dropped energy) && not (takesOne counters energy))
+    ∷ []
+
 unfoldable pub addTo : List ℕ → Float → Outcome (List ℕ) NoValues
-addTo counters energy =
-    cond (isHistogram counters)
-    (received counters energy (cond (takesOne counters energy) (went (oneMore counters energy) done) (refused FULL)))
-    (refused STORE)
+addTo counters energy = byRows (addRows counters energy) (went (received counters energy (oneMore counters energy)) done)
 
 -- counters added bin by bin
 abbrev pub sums : List ℕ → List ℕ → List ℕ
@@ -42,5 +46,8 @@ sums [] from = []
 sums (x ∷ into) [] = x ∷ into
 sums (x ∷ into) (y ∷ from) = (x + y) ∷ sums into from
 
+abbrev pub resetRows : List ℕ → List Row
+resetRows counters = row STORE (not (isHistogram counters)) ∷ []
+
 unfoldable pub cleared : List ℕ → Outcome (List ℕ) NoValues
-cleared counters = cond (isHistogram counters) (went empty done) (refused STORE)
+cleared counters = byRows (resetRows counters) (went empty done)

@@ -1,10 +1,11 @@
 -- One histogram merged into another (01, 'Merge'): what it comes to.
 use Prim.Native.Nat.{ℕ, _+_}
-use mathlib.Core.Bool.{Bool, true, _&&_, cond}
+use mathlib.Core.Bool.{Bool, true, not, _&&_, _||_}
 use mathlib.Core.List.{List, [], _∷_}
 use lib.Dec.{leb}
 use Rattle.refusals.specs.Refusal.{STORE, FULL}
-use Rattle.refusals.specs.Outcome.{Outcome, went, refused, NoValues, done}
+use Rattle.refusals.specs.Outcome.{Outcome, went, NoValues, done}
+use Rattle.refusals.specs.Rows.{Row, row, byRows}
 use Rattle.histogram.specs.Histogram.{largestCount, isHistogram, sums}
 
 -- no sum passes the largest count
@@ -13,6 +14,12 @@ room [] from = true
 room (x ∷ into) [] = true
 room (x ∷ into) (y ∷ from) = leb (x + y) largestCount && room into from
 
+-- STORE: "not 1,000 counters". FULL: "in add or merge, a counter would pass 4,294,967,295"
+abbrev pub mergeRows : List ℕ → List ℕ → List Row
+mergeRows into from =
+    row STORE (not (isHistogram into) || not (isHistogram from))
+    ∷ row FULL (not (room into from))
+    ∷ []
+
 unfoldable pub mergeInto : List ℕ → List ℕ → Outcome (List ℕ) NoValues
-mergeInto into from =
-    cond (isHistogram into && isHistogram from) (cond (room into from) (went (sums into from) done) (refused FULL)) (refused STORE)
+mergeInto into from = byRows (mergeRows into from) (went (sums into from) done)

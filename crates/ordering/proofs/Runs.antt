@@ -14,9 +14,9 @@ use lib.Seq.{set-comm}
 use lib.Ieee.{Float, binary64, ofBits, le, lt}
 use lib.Ieee.Positive.{above}
 use Rattle.floats.proofs.Order.{float-le-trans}
-use Rattle.rising_order.specs.Arrangement.{Perm, both, Above, Rising, Ordered, at, exchanged}
+use Rattle.rising_order.specs.Arrangement.{Reordered, unmoved, after, Above, Rising, Ordered, at, exchanged}
 use Rattle.ordering.specs.Inner.{Climbs, Sinks, Falling, mirrored, Turned}
-use Rattle.rising_order.proofs.Perms.{perm-refl, perm-length, exchange-perm, all-of}
+use Rattle.rising_order.proofs.Perms.{perm-length, exchange-perm, all-of}
 use Rattle.rising_order.proofs.Energies.{above-up, zero-below}
 use Rattle.rising_order.proofs.Places.{le-by, same-or-other, rising-of, exchanged-length, exchanged-first, exchanged-second, exchanged-other}
 
@@ -116,12 +116,12 @@ no-energies l z = (
 
 -- ---- turned round: the outer places are exchanged, up to the place i from either end
 pub record Turning (i : ℕ) (old new : List Float) : Type 0 where
-  pub same : Perm old new
+  pub same : Reordered old new
   pub outer : (k : ℕ) → k < length new → (k < i) ⊎ (length new ≤ k + i) → at new k ≡ at old (length new - 1 - k)
   pub inner : (k : ℕ) → i ≤ k → k + i < length new → at new k ≡ at old k
 
 pub turn-start : (l : List Float) → Turning 0 l l
-turn-start l = record { same = perm-refl l; outer = λ k h o. absurd (none k h o); inner = λ k h g. refl }
+turn-start l = record { same = unmoved l; outer = λ k h o. absurd (none k h o); inner = λ k h g. refl }
   where
     none : (k : ℕ) → k < length l → (k < 0) ⊎ (length l ≤ k + 0) → ⊥
     none k h (inl a) = not-suc-le-zero a
@@ -176,7 +176,7 @@ module _ (i : ℕ) (old new next : List Float) (t : Turning i old new)
   pub turn-on : Turning (i + 1) old next
   unfolding j
   turn-on = record {
-    same = both (t .same) (subst (Perm new) (sym is) (exchange-perm new i j i-in j-in));
+    same = after (t .same) (subst (Reordered new) (sym is) (exchange-perm new i j i-in j-in));
     outer = λ k h o. rw long (outside k (rw long at h) (rw long at o) (same-or-other k i) (same-or-other k j));
     inner = λ k h g.
         let in-new : k + (i + 1) < length new = rw long at g in

@@ -5,7 +5,7 @@ use Prim.Native.Nat.{ℕ, suc, _-_, _≤_, _<_}
 use lib.Dec.{T}
 use lib.ListN.{length}
 use lib.Ieee.{Float, le}
-use Rattle.rising_order.specs.Arrangement.{Perm, at, exchanged}
+use Rattle.rising_order.specs.Arrangement.{Reordered, at, exchanged}
 
 -- from a place up to another each energy is at most the next, or at least
 abbrev pub Climbs : ℕ → ℕ → List Float → Type 0
@@ -23,5 +23,5 @@ mirrored l i = exchanged l i (length l - 1 - i)
 
 -- the other way round
 pub record Turned (old new : List Float) : Type 0 where
-  pub same : Perm old new
+  pub same : Reordered old new
   pub turned : (k : ℕ) → k < length new → at new k ≡ at old (length new - 1 - k)

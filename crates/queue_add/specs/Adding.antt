@@ -1,13 +1,14 @@
 -- An energy added to a queue (01, step 7): "A new energy goes to place (head + held) mod maximum; a full queue drops its oldest, and head moves on by one, mod maximum.
 -- Other places stay. NaN enters a queue."
 use Prim.Native.Nat.{ℕ, _+_, _%_}
-use mathlib.Core.Bool.{cond}
+use mathlib.Core.Bool.{not, cond}
 use mathlib.Core.List.{List, [], _∷_, _++_}
 use lib.Dec.{ltb}
 use lib.ListN.{length, set, drop}
 use lib.Ieee.{Float}
 use Rattle.refusals.specs.Refusal.{STORE}
-use Rattle.refusals.specs.Outcome.{Outcome, went, refused, NoValues, done, keptBy}
+use Rattle.refusals.specs.Outcome.{Outcome, went, NoValues, done, keptBy}
+use Rattle.refusals.specs.Rows.{Row, row, byRows}
 use Rattle.histogram_bins.specs.Energy.{dropped, received}
 use Rattle.queue.specs.declared.Queue.{Queue}
 use Rattle.queue.specs.Queue.{Stored, over, suits}
@@ -23,11 +24,16 @@ advanced queue =
     (record { maximum = queue .maximum; head = queue .head; held = queue .held + 1 })
     (record { maximum = queue .maximum; head = (queue .head + 1) % queue .maximum; held = queue .held })
 
+-- STORE: "queue maximum outside 1..36,000 or unlike its store; head not below maximum; held above maximum"
+abbrev pub queueRows : Stored → List Row
+queueRows s = row STORE (not (suits (s .queue) (length (s .store)))) ∷ []
+
+-- the energy at its place, in the queue that has one more
+abbrev pub withEnergy : Stored → Float → Stored
+withEnergy s energy = over (advanced (s .queue)) (set (s .store) (nextPlace (s .queue)) energy)
+
 unfoldable pub enqueued : Stored → Float → Outcome Stored NoValues
-enqueued s energy =
-    cond (suits (s .queue) (length (s .store)))
-    (received s energy (went (over (advanced (s .queue)) (set (s .store) (nextPlace (s .queue)) energy)) done))
-    (refused STORE)
+enqueued s energy = byRows (queueRows s) (went (received s energy (withEnergy s energy)) done)
 
 -- the energies that a queue holds after one more: it is the last, and the oldest of a full queue goes
 abbrev pub withNewest : ℕ → List Float → Float → List Float

@@ -11,8 +11,8 @@ use lib.Ieee.{Float, le, fits, binary64}
 use Rattle.floats.proofs.Order.{float-le-trans}
 use lib.Ieee.Positive.{above}
 use Rattle.rising_order.specs.Order.{put, inOrder}
-use Rattle.rising_order.specs.Arrangement.{Perm, none, keep, swap, both, All, Above, Rising, Ordered, at}
-use Rattle.rising_order.proofs.Perms.{perm-refl, perm-length, all-perm, all-map, all-at, all-of}
+use Rattle.rising_order.specs.Arrangement.{Reordered, unmoved, under, swap, after, All, Above, Rising, Ordered, at}
+use Rattle.rising_order.proofs.Perms.{perm-length, all-perm, all-map, all-at, all-of}
 use Rattle.rising_order.proofs.Energies.{not-at-most, same-value}
 
 -- an energy as a lent slice holds it: a value of its type, and above zero
@@ -23,19 +23,19 @@ pub energies : (l : List Float) → Above l → ((i : ℕ) → T (fits binary64 
 energies l a f = all-of Energy l (λ i h. (all-at (λ x. T (above x)) l a i h, f i))
 
 -- ---- the same energies
-pub put-perm : (x : Float) (l : List Float) → Perm (x ∷ l) (put x l)
+pub put-perm : (x : Float) (l : List Float) → Reordered (x ∷ l) (put x l)
 unfolding put
-put-perm x [] = perm-refl (x ∷ [])
+put-perm x [] = unmoved (x ∷ [])
 put-perm x (y ∷ l) = go (le x y) (put-perm x l)
   where
-    go : (b : Bool) → Perm (x ∷ l) (put x l) → Perm (x ∷ y ∷ l) (cond b (x ∷ y ∷ l) (y ∷ put x l))
-    go true p = perm-refl (x ∷ y ∷ l)
-    go false p = both (swap x y l) (keep y p)
+    go : (b : Bool) → Reordered (x ∷ l) (put x l) → Reordered (x ∷ y ∷ l) (cond b (x ∷ y ∷ l) (y ∷ put x l))
+    go true p = unmoved (x ∷ y ∷ l)
+    go false p = after (swap x y l) (under y p)
 
-pub in-order-perm : (l : List Float) → Perm l (inOrder l)
+pub in-order-perm : (l : List Float) → Reordered l (inOrder l)
 unfolding inOrder
-in-order-perm [] = none
-in-order-perm (x ∷ l) = both (keep x (in-order-perm l)) (put-perm x (inOrder l))
+in-order-perm [] = unmoved []
+in-order-perm (x ∷ l) = after (under x (in-order-perm l)) (put-perm x (inOrder l))
 
 pub in-order-length : (l : List Float) → length (inOrder l) ≡ length l
 in-order-length l = sym (perm-length (in-order-perm l))
@@ -59,7 +59,7 @@ in-order-rises [] a = tt
 in-order-rises (x ∷ l) a = put-rises x (inOrder l) (a .0) (all-perm (λ z. T (above z)) (in-order-perm l) (a .1)) (in-order-rises l (a .1))
 
 pub in-order : (l new : List Float) → Above l → new ≡ inOrder l → Ordered l new
-in-order l new a e = record { same = subst (Perm l) (sym e) (in-order-perm l); rising = subst Rising (sym e) (in-order-rises l a) }
+in-order l new a e = record { same = subst (Reordered l) (sym e) (in-order-perm l); rising = subst Rising (sym e) (in-order-rises l a) }
 
 -- ---- it is the only list that does both
 module _ (x y : Float) (p : Energy x) (q : Energy y) where
@@ -94,12 +94,12 @@ put-both x y p q (z ∷ l) = go (le x z) (le y z) refl refl (put-both x y p q l)
         past false g = refl
     go false false e f h = rw (e, f) (ap (λ (k : List Float). z ∷ k) h)
 
-pub same-order : {l k : List Float} → Perm l k → All Energy l → inOrder l ≡ inOrder k
+pub same-order : {l k : List Float} → Reordered l k → All Energy l → inOrder l ≡ inOrder k
 unfolding inOrder
-same-order none a = refl
-same-order (keep x p) a = ap (put x) (same-order p (a .1))
+same-order (unmoved l) a = refl
+same-order (under x p) a = ap (put x) (same-order p (a .1))
 same-order (swap x y l) a = put-both x y (a .0) (a .1 .0) (inOrder l)
-same-order (both p q) a = same-order p a ∙ same-order q (all-perm Energy p a)
+same-order (after p q) a = same-order p a ∙ same-order q (all-perm Energy p a)
 
 put-first : (x : Float) (l : List Float) → All (λ z. T (le x z)) l → put x l ≡ x ∷ l
 unfolding put

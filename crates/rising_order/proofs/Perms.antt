@@ -1,4 +1,4 @@
--- The same energies in another order: the relation joins and turns round, goes under a common front and back, keeps the length and whatever holds of every energy,
+-- The same energies in another order: the relation goes under a common front and back, keeps the length and whatever holds of every energy,
 -- and an exchange of two places is one. Each law goes along the steps that a permutation is made of. Assumes nothing.
 use mathlib.Core.Path.{_≡_, refl, sym, ap, _∙_, subst}
 use mathlib.Core.List.{List, [], _∷_, _++_}
@@ -6,64 +6,54 @@ use Prim.Native.Nat.{ℕ, zero, suc, _<_, zero-le, suc-le-suc}
 use native.Mathlib.Nat.{not-suc-le-zero, le-of-suc-le-suc}
 use lib.ListN.{length, take, drop, set, take-append-drop}
 use lib.Ieee.{Float}
-use Rattle.rising_order.specs.Arrangement.{Perm, none, keep, swap, both, All, at, exchanged}
+use Rattle.rising_order.specs.Arrangement.{Reordered, unmoved, under, swap, after, All, at, exchanged}
 
-pub perm-refl : (l : List Float) → Perm l l
-perm-refl [] = none
-perm-refl (x ∷ l) = keep x (perm-refl l)
-
-pub perm-sym : {l k : List Float} → Perm l k → Perm k l
-perm-sym none = none
-perm-sym (keep x p) = keep x (perm-sym p)
-perm-sym (swap x y l) = swap y x l
-perm-sym (both p q) = both (perm-sym q) (perm-sym p)
-
-pub perm-length : {l k : List Float} → Perm l k → length l ≡ length k
-perm-length none = refl
-perm-length (keep x p) = ap suc (perm-length p)
+pub perm-length : {l k : List Float} → Reordered l k → length l ≡ length k
+perm-length (unmoved l) = refl
+perm-length (under x p) = ap suc (perm-length p)
 perm-length (swap x y l) = refl
-perm-length (both p q) = perm-length p ∙ perm-length q
+perm-length (after p q) = perm-length p ∙ perm-length q
 
-pub perm-front : (a : List Float) {l k : List Float} → Perm l k → Perm (a ++ l) (a ++ k)
+pub perm-front : (a : List Float) {l k : List Float} → Reordered l k → Reordered (a ++ l) (a ++ k)
 perm-front [] p = p
-perm-front (x ∷ a) p = keep x (perm-front a p)
+perm-front (x ∷ a) p = under x (perm-front a p)
 
-pub perm-back : {l k : List Float} → Perm l k → (b : List Float) → Perm (l ++ b) (k ++ b)
-perm-back none b = perm-refl b
-perm-back (keep x p) b = keep x (perm-back p b)
+pub perm-back : {l k : List Float} → Reordered l k → (b : List Float) → Reordered (l ++ b) (k ++ b)
+perm-back (unmoved l) b = unmoved (l ++ b)
+perm-back (under x p) b = under x (perm-back p b)
 perm-back (swap x y l) b = swap x y (l ++ b)
-perm-back (both p q) b = both (perm-back p b) (perm-back q b)
+perm-back (after p q) b = after (perm-back p b) (perm-back q b)
 
 -- ---- the first m places, or those from m on, in another order
-pub front-perm : (m : ℕ) (l front : List Float) → Perm (take m l) front → Perm l (front ++ drop m l)
-front-perm m l front p = subst (λ (k : List Float). Perm k (front ++ drop m l)) (take-append-drop m l) (perm-back p (drop m l))
+pub front-perm : (m : ℕ) (l front : List Float) → Reordered (take m l) front → Reordered l (front ++ drop m l)
+front-perm m l front p = subst (λ (k : List Float). Reordered k (front ++ drop m l)) (take-append-drop m l) (perm-back p (drop m l))
 
-pub back-perm : (m : ℕ) (l back : List Float) → Perm (drop m l) back → Perm l (take m l ++ back)
-back-perm m l back p = subst (λ (k : List Float). Perm k (take m l ++ back)) (take-append-drop m l) (perm-front (take m l) p)
+pub back-perm : (m : ℕ) (l back : List Float) → Reordered (drop m l) back → Reordered l (take m l ++ back)
+back-perm m l back p = subst (λ (k : List Float). Reordered k (take m l ++ back)) (take-append-drop m l) (perm-front (take m l) p)
 
 -- ---- an exchange of two places: the first energy and the one at j, then any two
-first-with : (x : Float) (l : List Float) (j : ℕ) → j < length l → Perm (x ∷ l) (at l j ∷ set l j x)
+first-with : (x : Float) (l : List Float) (j : ℕ) → j < length l → Reordered (x ∷ l) (at l j ∷ set l j x)
 first-with x [] j h = absurd (not-suc-le-zero h)
 first-with x (y ∷ l) zero h = swap x y l
-first-with x (y ∷ l) (suc j) h = both (swap x y l) (both (keep y (first-with x l j (le-of-suc-le-suc h))) (swap y (at l j) (set l j x)))
+first-with x (y ∷ l) (suc j) h = after (swap x y l) (after (under y (first-with x l j (le-of-suc-le-suc h))) (swap y (at l j) (set l j x)))
 
-pub exchange-perm : (l : List Float) (i j : ℕ) → i < length l → j < length l → Perm l (exchanged l i j)
+pub exchange-perm : (l : List Float) (i j : ℕ) → i < length l → j < length l → Reordered l (exchanged l i j)
 exchange-perm [] i j h g = absurd (not-suc-le-zero h)
-exchange-perm (x ∷ l) zero zero h g = perm-refl (x ∷ l)
+exchange-perm (x ∷ l) zero zero h g = unmoved (x ∷ l)
 exchange-perm (x ∷ l) zero (suc j) h g = first-with x l j (le-of-suc-le-suc g)
 exchange-perm (x ∷ l) (suc i) zero h g = first-with x l i (le-of-suc-le-suc h)
-exchange-perm (x ∷ l) (suc i) (suc j) h g = keep x (exchange-perm l i j (le-of-suc-le-suc h) (le-of-suc-le-suc g))
+exchange-perm (x ∷ l) (suc i) (suc j) h g = under x (exchange-perm l i j (le-of-suc-le-suc h) (le-of-suc-le-suc g))
 
-pub exchanged-perm : (l k : List Float) (i j : ℕ) → i < length l → j < length l → k ≡ exchanged l i j → Perm l k
-exchanged-perm l k i j h g e = subst (Perm l) (sym e) (exchange-perm l i j h g)
+pub exchanged-perm : (l k : List Float) (i j : ℕ) → i < length l → j < length l → k ≡ exchanged l i j → Reordered l k
+exchanged-perm l k i j h g e = subst (Reordered l) (sym e) (exchange-perm l i j h g)
 
 -- ---- what holds of every energy
 module _ (P : Float → Type 0) where
-  pub all-perm : {l k : List Float} → Perm l k → All P l → All P k
-  all-perm none h = h
-  all-perm (keep x p) h = (h .0, all-perm p (h .1))
+  pub all-perm : {l k : List Float} → Reordered l k → All P l → All P k
+  all-perm (unmoved l) h = h
+  all-perm (under x p) h = (h .0, all-perm p (h .1))
   all-perm (swap x y l) h = (h .1 .0, (h .0, h .1 .1))
-  all-perm (both p q) h = all-perm q (all-perm p h)
+  all-perm (after p q) h = all-perm q (all-perm p h)
 
   pub all-at : (l : List Float) → All P l → (i : ℕ) → i < length l → P (at l i)
   all-at [] h i g = absurd (not-suc-le-zero g)

@@ -6,12 +6,12 @@ use lib.ListN.{getD, set}
 use lib.Ieee.{Float, nan, le}
 use lib.Ieee.Positive.{above}
 
--- the same energies in another order
-pub data Perm : List Float → List Float → Type 0 where
-  none : Perm [] []
-  keep : (x : Float) {l k : List Float} → Perm l k → Perm (x ∷ l) (x ∷ k)
-  swap : (x y : Float) (l : List Float) → Perm (x ∷ y ∷ l) (y ∷ x ∷ l)
-  both : {l k j : List Float} → Perm l k → Perm k j → Perm l j
+-- a list in another order: two neighbours swapped, below what stands first, as often as one likes
+pub data Reordered {A : Type 0} : List A → List A → Type 0 where
+  unmoved : (l : List A) → Reordered l l
+  under : (x : A) {l k : List A} → Reordered l k → Reordered (x ∷ l) (x ∷ k)
+  swap : (x y : A) (l : List A) → Reordered (x ∷ y ∷ l) (y ∷ x ∷ l)
+  after : {l k j : List A} → Reordered l k → Reordered k j → Reordered l j
 
 abbrev pub at : List Float → ℕ → Float
 at l i = getD l i nan
@@ -30,7 +30,7 @@ Rising (x ∷ l) = All (λ y. T (le x y)) l × Rising l
 
 -- `new` has the energies of `old`, and they rise
 pub record Ordered (old new : List Float) : Type 0 where
-  pub same : Perm old new
+  pub same : Reordered old new
   pub rising : Rising new
 
 -- what stood at i stands at j, and the other way round

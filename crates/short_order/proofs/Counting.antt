@@ -8,7 +8,7 @@ use lib.Dec.{T}
 use lib.ListN.{length, drop, drop-of-length-le}
 use lib.Seq.{drop-cons}
 use lib.Ieee.{Float, nan}
-use Rattle.rising_order.specs.Arrangement.{Perm, none, keep, swap, both, at}
+use Rattle.rising_order.specs.Arrangement.{Reordered, unmoved, under, swap, after, at}
 use Rattle.short_order.specs.Inner.{count}
 
 one-or-none : (b : Bool) → cond b 1 0 ≤ 1
@@ -20,11 +20,11 @@ module _ (test : Float → Bool) where
   count-join [] k = omega arith
   count-join (x ∷ l) k = omega (arith, count-join l k)
 
-  pub count-perm : {l k : List Float} → Perm l k → count test l ≡ count test k
-  count-perm none = refl
-  count-perm (keep x p) = ap (λ (n : ℕ). cond (test x) 1 0 + n) (count-perm p)
+  pub count-perm : {l k : List Float} → Reordered l k → count test l ≡ count test k
+  count-perm (unmoved l) = refl
+  count-perm (under x p) = ap (λ (n : ℕ). cond (test x) 1 0 + n) (count-perm p)
   count-perm (swap x y l) = omega arith
-  count-perm (both p q) = count-perm p ∙ count-perm q
+  count-perm (after p q) = count-perm p ∙ count-perm q
 
   pub count-within : (l : List Float) → count test l ≤ length l
   count-within [] = omega arith

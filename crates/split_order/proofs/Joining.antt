@@ -11,14 +11,14 @@ use lib.ListN.{length, take, drop, length-drop, drop-of-length-le, List·getD-ap
 use lib.Seq.{length-take-le, getD-take, getD-drop, getD-append-add}
 use lib.Ieee.{Float, nan, le}
 use lib.Ieee.Positive.{above}
-use Rattle.rising_order.specs.Arrangement.{Perm, both, All, Above, Ordered, at}
+use Rattle.rising_order.specs.Arrangement.{Reordered, after, All, Above, Ordered, at}
 use Rattle.split_order.specs.Inner.{Lowest, Parted}
 use Rattle.rising_order.proofs.Perms.{perm-length, front-perm, back-perm, all-perm, all-at, all-of}
 use Rattle.rising_order.proofs.Energies.{same-at-most}
 use Rattle.rising_order.proofs.Places.{le-by, same-or-other, front-at, back-at, last-part, rising-of, rising-at}
 
-pub parted-from : {from to : ℕ} {old mid new : List Float} → Perm old mid → Parted from to mid new → Parted from to old new
-parted-from p s = record { same = both p (s .same); ordered = s .ordered; inside = s .inside; settled = s .settled }
+pub parted-from : {from to : ℕ} {old mid new : List Float} → Reordered old mid → Parted from to mid new → Parted from to old new
+parted-from p s = record { same = after p (s .same); ordered = s .ordered; inside = s .inside; settled = s .settled }
 
 -- what is at most every later energy, at place 0, is the lowest
 pub lowest-of : {old new : List Float} → Above new → Parted 0 1 old new → Lowest new
@@ -36,7 +36,7 @@ module _ {from to : ℕ} {old new : List Float} (s : Parted from to old new) (si
   long : length side ≡ from
   long = sym (perm-length (o .same)) ∙ length-take-le from new inside
 
-  turn : Perm new (side ++ drop from new)
+  turn : Reordered new (side ++ drop from new)
   turn = front-perm from new side (o .same)
 
   first-length : length (side ++ drop from new) ≡ length new
@@ -62,7 +62,7 @@ module _ {from to : ℕ} {old new : List Float} (s : Parted from to old new) (si
 
   pub first-side : Parted 0 to old (side ++ drop from new)
   first-side = record {
-    same = both (s .same) turn;
+    same = after (s .same) turn;
     ordered = omega arith;
     inside = omega (arith, s .inside, first-length);
     settled = λ i j h a b g. pairs i j h a (subst (λ (n : ℕ). j < n) first-length g) (decLt i from) (decLt j from);
@@ -79,7 +79,7 @@ module _ {to : ℕ} {old new : List Float} (s : Parted 0 to old new) (side : Lis
   whole : List Float
   whole = take to new ++ side
 
-  moved : Perm new whole
+  moved : Reordered new whole
   unfolding whole
   moved = back-perm to new side (o .same)
 
@@ -113,7 +113,7 @@ module _ {to : ℕ} {old new : List Float} (s : Parted 0 to old new) (side : Lis
   second-side : Ordered old (take to new ++ side)
   unfolding whole
   second-side = record {
-    same = both (s .same) moved;
+    same = after (s .same) moved;
     rising = rising-of whole (λ i j h g. second-pairs i j h (subst (λ (n : ℕ). j < n) whole-length g) (decLt i to) (decLt j to));
   }
 

@@ -11,15 +11,15 @@ use lib.ListN.{length}
 use lib.Ieee.{Float, le, lt}
 use Rattle.floats.proofs.Order.{float-le-trans, lt→le}
 use lib.Ieee.Positive.{above}
-use Rattle.rising_order.specs.Arrangement.{Perm, both, All, Above, at, exchanged}
+use Rattle.rising_order.specs.Arrangement.{Reordered, unmoved, after, All, Above, at, exchanged}
 use Rattle.split_order.specs.Inner.{Lowest, Parting, Parted}
-use Rattle.rising_order.proofs.Perms.{perm-refl, exchange-perm, all-perm, all-at, all-of}
+use Rattle.rising_order.proofs.Perms.{exchange-perm, all-perm, all-at, all-of}
 use Rattle.rising_order.proofs.Energies.{not-below}
 use Rattle.rising_order.proofs.Places.{le-by, same-or-other, exchanged-length, exchanged-first, exchanged-second, exchanged-other}
 
 pub part-start : (l : List Float) → 0 < length l → Above l → Parting (at l 0) 1 1 l l
 part-start l h a = record {
-  same = perm-refl l;
+  same = unmoved l;
   above = a;
   first = refl;
   some = omega arith;
@@ -52,7 +52,7 @@ module _ {pivot : Float} {low i : ℕ} {old new : List Float} (s : Parting pivot
   unfolding turned
   long = exchanged-length new i low
 
-  turn : Perm new turned
+  turn : Reordered new turned
   unfolding turned
   turn = exchange-perm new i low more low-inside
 
@@ -74,7 +74,7 @@ module _ {pivot : Float} {low i : ℕ} {old new : List Float} (s : Parting pivot
     part-low : Parting pivot (low + 1) (i + 1) old (exchanged new i low)
     unfolding turned
     part-low = record {
-      same = both (s .same) turn;
+      same = after (s .same) turn;
       above = all-perm (λ x. T (above x)) turn (s .above);
       first = kept-first;
       some = omega arith;
@@ -93,7 +93,7 @@ module _ {pivot : Float} {low i : ℕ} {old new : List Float} (s : Parting pivot
     part-high : Parting pivot low (i + 1) old (exchanged new i low)
     unfolding turned
     part-high = record {
-      same = both (s .same) turn;
+      same = after (s .same) turn;
       above = all-perm (λ x. T (above x)) turn (s .above);
       first = kept-first;
       some = s .some;
@@ -128,13 +128,13 @@ module _ {pivot : Float} {low i : ℕ} {old new : List Float} (s : Parting pivot
         go false l h = part-high (not-below (at new i) pivot x-above pivot-above l)
 
 -- the pivot came to the front first
-pub parting-from : {pivot : Float} {low i : ℕ} {old mid new : List Float} → Perm old mid → at mid 0 ≡ pivot
+pub parting-from : {pivot : Float} {low i : ℕ} {old mid new : List Float} → Reordered old mid → at mid 0 ≡ pivot
     → (n : ℕ) → i ≡ n → Parting (at mid 0) low i mid new → Parting pivot low n old new
 parting-from {pivot} {low} {i} {old} {mid} {new} p e n m s =
     subst (λ (x : Float). Parting x low n old new) e
     (subst (λ (k : ℕ). Parting (at mid 0) low k old new) m
     (record {
-      same = both p (s .same);
+      same = after p (s .same);
       above = s .above;
       first = s .first;
       some = s .some;
@@ -166,19 +166,19 @@ module _ {pivot : Float} {low i : ℕ} {old new : List Float} (s : Parting pivot
     before k h (inl e) = le-by (ap (at l) e ∙ at-first) refl (s .below (low - 1) (omega arith) (omega (arith, s .some)))
     before k h (inr n) = le-by (at-else k n (λ q. omega arith)) refl (s .below k (omega arith) (omega arith))
 
-    after : (k : ℕ) → low - 1 < k → k < length new → T (le pivot (at l k))
-    after k h g = le-by refl (at-else k (λ q. omega arith) (λ q. omega arith)) (s .over k (omega (arith, s .some)) (omega arith))
+    beyond : (k : ℕ) → low - 1 < k → k < length new → T (le pivot (at l k))
+    beyond k h g = le-by refl (at-else k (λ q. omega arith) (λ q. omega arith)) (s .over k (omega (arith, s .some)) (omega arith))
 
     pairs : (i j : ℕ) → i < j → i < low - 1 + 1 → low - 1 ≤ j → j < length new
         → (i ≡ low - 1) ⊎ (i ≡ low - 1 → ⊥) → (j ≡ low - 1) ⊎ (j ≡ low - 1 → ⊥) → T (le (at l i) (at l j))
-    pairs i j h a b g (inl e) o = le-by (ap (at l) e ∙ at-place) refl (after j (omega arith) g)
+    pairs i j h a b g (inl e) o = le-by (ap (at l) e ∙ at-place) refl (beyond j (omega arith) g)
     pairs i j h a b g (inr n) (inl f) = le-by refl (ap (at l) f ∙ at-place) (before i (omega arith) (same-or-other i 0))
     pairs i j h a b g (inr n) (inr m) =
-        float-le-trans (at l i) pivot (at l j) (before i (omega arith) (same-or-other i 0)) (after j (omega arith) g)
+        float-le-trans (at l i) pivot (at l j) (before i (omega arith) (same-or-other i 0)) (beyond j (omega arith) g)
 
     pub parted : Parted (low - 1) (low - 1 + 1) old l
     parted = record {
-      same = subst (λ (k : List Float). Perm old k) (sym is) (both (s .same) (exchange-perm new 0 (low - 1) (omega (arith, place-in)) place-in));
+      same = subst (λ (k : List Float). Reordered old k) (sym is) (after (s .same) (exchange-perm new 0 (low - 1) (omega (arith, place-in)) place-in));
       ordered = omega arith;
       inside = omega (arith, place-in, l-length);
       settled = λ i j h a b g. pairs i j h a b (subst (λ (n : ℕ). j < n) l-length g) (same-or-other i (low - 1)) (same-or-other j (low - 1));

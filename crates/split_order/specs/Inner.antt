@@ -5,7 +5,7 @@ use Prim.Native.Nat.{ℕ, _≤_, _<_}
 use lib.Dec.{T}
 use lib.ListN.{length}
 use lib.Ieee.{Float, le}
-use Rattle.rising_order.specs.Arrangement.{Perm, Above, at}
+use Rattle.rising_order.specs.Arrangement.{Reordered, Above, at}
 
 -- no energy is below the first
 abbrev pub Lowest : List Float → Type 0
@@ -13,7 +13,7 @@ Lowest l = (k : ℕ) → k < length l → T (le (at l 0) (at l k))
 
 -- the pivot stands first; after it, before the place `low`, stand energies at most it, and from there up to i energies at least it
 pub record Parting (pivot : Float) (low i : ℕ) (old new : List Float) : Type 0 where
-  pub same : Perm old new
+  pub same : Reordered old new
   pub above : Above new
   pub first : at new 0 ≡ pivot
   pub some : 0 < low
@@ -24,7 +24,7 @@ pub record Parting (pivot : Float) (low i : ℕ) (old new : List Float) : Type 0
 
 -- the places from `from` up to `to` are settled: what stands there, and what stands before and after them, is in order
 pub record Parted (from to : ℕ) (old new : List Float) : Type 0 where
-  pub same : Perm old new
+  pub same : Reordered old new
   pub ordered : from ≤ to
   pub inside : to ≤ length new
   pub settled : (i j : ℕ) → i < j → i < to → from ≤ j → j < length new → T (le (at new i) (at new j))

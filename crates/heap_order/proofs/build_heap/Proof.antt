@@ -5,9 +5,9 @@ use mathlib.Core.Path.{refl, sym}
 use lib.Dec.{T}
 use lib.ListN.{length}
 use lib.Ieee.Positive.{above}
-use Rattle.rising_order.specs.Arrangement.{both, Above}
+use Rattle.rising_order.specs.Arrangement.{unmoved, after, Above}
 use Rattle.heap_order.specs.Inner.{Heaped}
-use Rattle.rising_order.proofs.Perms.{perm-refl, perm-length, all-perm}
+use Rattle.rising_order.proofs.Perms.{perm-length, all-perm}
 use Rattle.heap_order.proofs.Heap.{heap-start}
 use Rattle.heap_order.proofs.build_heap.Statement.{statement}
 use Rattle.heap_order.proofs.build_heap.Tie as tie
@@ -21,7 +21,7 @@ abbrev μ-loop : tie.MeasureT-loop
 loop-holds : tie.Need-loop-holds Inv-loop μ-loop
 loop-holds c =
     let l = c .before .args .part .now in
-    (c .before .pre, record { same = perm-refl l; heap = heap-start l (length l / 2) refl })
+    (c .before .pre, record { same = unmoved l; heap = heap-start l (length l / 2) refl })
 
 sub-from : tie.Need-sub-from Inv-loop μ-loop
 sub-from c = omega arith
@@ -38,7 +38,7 @@ loop-again : tie.Need-loop-again Inv-loop μ-loop
 loop-again c =
     let kept = c .before .before .before .before .before .loop .inv in
     let sunk = c .before .before .sift .ensures in
-    (all-perm (λ x. T (above x)) (sunk .same) (kept .0), record { same = both (kept .1 .same) (sunk .same); heap = sunk .heap })
+    (all-perm (λ x. T (above x)) (sunk .same) (kept .0), record { same = after (kept .1 .same) (sunk .same); heap = sunk .heap })
 
 same-length : tie.Need-same-length Inv-loop μ-loop
 same-length c = sym (perm-length (c .before .loop .inv .1 .same))

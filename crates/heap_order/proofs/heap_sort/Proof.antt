@@ -8,7 +8,7 @@ use lib.Dec.{T}
 use lib.ListN.{length, length-set}
 use lib.Seq.{length-take-le}
 use lib.Ieee.Positive.{above}
-use Rattle.rising_order.specs.Arrangement.{both, exchanged}
+use Rattle.rising_order.specs.Arrangement.{after, exchanged}
 use Rattle.rising_order.proofs.Perms.{perm-length, all-perm}
 use Rattle.heap_order.proofs.Heap.{Draining, drain-start, drain-done, part-inside, part-above, part-is-heap, drain-on}
 use Rattle.heap_order.proofs.heap_sort.Statement.{statement}
@@ -33,7 +33,7 @@ sub-left c = omega arith
 
 -- the places of the part are numbers of its kind: it is as long as at the start
 long : (c : tie.At-loop Inv-loop μ-loop) → length (c .loop .part) ≡ length (c .before .before .before .before .before .before .args .part .now)
-long c = sym (perm-length (both (c .before .before .before .build-heap .ensures .same) (c .loop .inv .same)))
+long c = sym (perm-length (after (c .before .before .before .build-heap .ensures .same) (c .loop .inv .same)))
 
 slice-read-x : tie.Need-slice-read-x Inv-loop μ-loop
 slice-read-x c = omega (arith, c .before .before .loop .inv .inside)
@@ -86,7 +86,7 @@ same-length c = long (c .before)
 returns : tie.Need-returns Inv-loop μ-loop
 returns c =
     let done = drain-done (c .before .loop .left) _ (c .before .loop .part) (c .loop-test .left) (c .before .loop .inv) in
-    record { same = both (c .before .before .before .before .build-heap .ensures .same) (done .same); rising = done .rising }
+    record { same = after (c .before .before .before .before .build-heap .ensures .same) (done .same); rising = done .rising }
 
 pub heap-sort-spec : {M : Type 1} → statement M
 heap-sort-spec =

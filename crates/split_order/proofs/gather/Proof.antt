@@ -7,7 +7,7 @@ use lib.Dec.{T}
 use lib.ListN.{length, getD, length-set}
 use lib.Ieee.{Float, nan}
 use lib.Ieee.Positive.{above}
-use Rattle.rising_order.specs.Arrangement.{Perm, both}
+use Rattle.rising_order.specs.Arrangement.{Reordered, after}
 use Rattle.rising_order.proofs.Perms.{perm-length, exchanged-perm, all-perm}
 use Rattle.rising_order.proofs.Places.{exchanged-first}
 use Rattle.split_order.specs.Inner.{Parting}
@@ -22,7 +22,7 @@ abbrev μ-loop : tie.MeasureT-loop
 μ-loop part₀ place equal n pivot low₀ i₀ part low i = n - i
 
 -- the pivot goes to the front
-turned : (c : tie.After-exchange Inv-loop μ-loop) → Perm (c .before .before .before .args .part .now) (c .exchange .last .0)
+turned : (c : tie.After-exchange Inv-loop μ-loop) → Reordered (c .before .before .before .args .part .now) (c .exchange .last .0)
 turned c =
     let start = c .before .before .before in
     exchanged-perm (start .args .part .now) (c .exchange .last .0) 0 (start .args .place) (omega (arith, start .pre .0)) (start .pre .0) (c .exchange .ensures)
@@ -97,7 +97,7 @@ loop-again-2 c =
     (perm-length (on .same), on)
 
 same-length : tie.Need-same-length Inv-loop μ-loop
-same-length c = sym (perm-length (both (turned (c .before .before .before .before .before)) (c .before .loop .inv .1 .same)))
+same-length c = sym (perm-length (after (turned (c .before .before .before .before .before)) (c .before .loop .inv .1 .same)))
 
 returns : tie.Need-returns Inv-loop μ-loop
 returns c =

@@ -20,12 +20,12 @@ use Rattle.rising_order.proofs.AllAbove.{above-all}
 use Rattle.spans.specs.Span.{found, nothing, gateEnergy}
 use Rattle.rising_range.specs.Rising.{atRanks, listedSpan}
 use Rattle.queue_range.specs.Listed.{allHeld, anyNan}
 use Rattle.range.specs.Range.{queuesIn, rangeOf}
-use Rattle.range.specs.Tech3342.{gated, relativeGate, percentileRank, percentiles, loudnessRange}
+use Rattle.acceptance_meaning.specs.Tech3342.{gated, relativeGate, percentileRank, percentiles, loudnessRange}
 use Rattle.queue_range.proofs.Looking.{above-held, none-below-held, held-any}
 use Rattle.queue_range.proofs.Answers.{listed-went}
 use Rattle.range.proofs.Answers.{over-queues, range-asked}
-use Rattle.range.proofs.Gating.{absolute-all, leading, gated-order}
+use Rattle.acceptance_meaning.proofs.Gating.{absolute-all, leading, gated-order}
 
 -- the ranks of the two percentiles
 pub low-is : (n : ℕ) → lowRank (n - 1) ≡ percentileRank 10 n

@@ -28,16 +28,16 @@ use Rattle.rising_order.proofs.Perms.{all-join}
 use Rattle.rising_order.proofs.InOrder.{rising-is}
 use Rattle.spans.specs.Span.{found, nothing, gateEnergy}
 use Rattle.histogram_range.specs.Counted.{blocksIn, runningFrom, firstPast, rankedIn, leftIn, countedSpan, addedTo}
 use Rattle.range.specs.Range.{queuesIn, rangeOf}
-use Rattle.range.specs.Tech3342.{gated, absoluteGate, percentileRank, percentile, percentiles, rangeAbove, blocksFrom}
+use Rattle.acceptance_meaning.specs.Tech3342.{gated, absoluteGate, percentileRank, percentile, percentiles, rangeAbove, blocksFrom}
 use Rattle.histogram_range.proofs.Counting.{count-is}
 use Rattle.histogram_range.proofs.Adding.{zeros-length}
 use Rattle.histogram_range.proofs.Answers.{counted-none, counted-some, left-none}
 use Rattle.range.proofs.Answers.{over-histograms, range-asked}
-use Rattle.range.proofs.Arising.{added-length}
-use Rattle.range.proofs.Gating.{gated-all}
-use Rattle.range.proofs.Starting.{low-energy, energies-rise, from-start, below-start}
-use Rattle.range.proofs.Meaning.{low-is, high-is}
+use Rattle.acceptance_meaning.proofs.Arising.{added-length}
+use Rattle.acceptance_meaning.proofs.Gating.{gated-all}
+use Rattle.acceptance_meaning.proofs.Starting.{low-energy, energies-rise, from-start, below-start}
+use Rattle.acceptance_meaning.proofs.OverQueues.{low-is, high-is}
 
 -- ---- how many, and two parts
 spread-length : (bin : ℕ) (l : List ℕ) → length (blocksFrom bin l) ≡ blocksIn l
