@@ -1,0 +1,130 @@
+-- The numbers that 01 writes, each beside what the definitions behind the contracts have for it. A definition that is bent together with its code and its proofs still
+-- stands against its line here. proofs/Literals.antt computes the table; a change request that moves a number of 01 moves its line.
+use Prim.Native.Nat.{ℕ, _+_}
+use mathlib.Core.Path.{_≡_}
+use mathlib.Core.Bool.{Bool, true, false}
+use mathlib.Core.List.{List, [], _∷_, map}
+use lib.IntN.{ℤ, pos, negsuc}
+use lib.Ieee.{Float, nan, binary64, ofBits, toBits}
+use Rattle.refusals.specs.Refusal.{number, CHANNELS, SAMPLES, MAP, DEST, STORE, FULL, SET, MODE, NONE, NAN, SCALE, LENGTH, KIND, CONTENT, ROOM}
+use Rattle.histogram_bins.specs.Bin.{bins}
+use Rattle.bin_search.specs.Reading.{lowest}
+use Rattle.histogram.specs.Histogram.{largestCount}
+use Rattle.queue.specs.Queue.{suits, started}
+use Rattle.history.specs.Set.{mostHistories}
+use Rattle.gate.specs.Relative.{tenth, lowest as lowestLoudness}
+use Rattle.spans.specs.Span.{hundredth}
+use Rattle.samples.specs.Sample.{sampleOf16}
+use Rattle.calls.specs.Calls.{wrongChannels, admits, used}
+use Rattle.recurrence.specs.Recurrence.{flush}
+use Rattle.interp.specs.declared.Interp.{Interp}
+use Rattle.interp.specs.Interp.{Kind, upsampled, noTruePeak, kindOf}
+use Rattle.layout.specs.declared.Kind.the-variants.{Histogram, Queue}
+use Rattle.layout.specs.Layout.{numberOf, canBe}
+
+-- what a line compares
+pub data Literal : Type 0 where
+  whole : ℕ → Literal
+  signed : ℤ → Literal
+  truth : Bool → Literal
+  float : Float → Literal
+  scan : Kind → Literal
+
+-- what the definitions have, and what 01 writes
+pub record Line : Type 0 where
+  pub ours : Literal
+  pub written : Literal
+
+abbrev pub is : Literal → Literal → Line
+is ours written = record { ours = ours; written = written }
+
+abbrev pub has : ℕ → ℕ → Line
+has ours written = is (whole ours) (whole written)
+
+abbrev pub answersYes : Bool → Line
+answersYes ours = is (truth ours) (truth true)
+
+abbrev pub answersNo : Bool → Line
+answersNo ours = is (truth ours) (truth false)
+
+-- an f64 by its pattern
+abbrev pub f64 : ℕ → Float
+f64 pattern = ofBits binary64 pattern
+
+-- "Rate below 96,000: factor 4, 12 taps; below 192,000: factor 2, 24 taps; else no true peak"
+abbrev pub scans : ℕ → ℕ → Kind
+scans factor taps = upsampled (record { factor = factor; taps = taps })
+
+-- ---- the table
+abbrev pub lines : List Line
+lines =
+    -- 'Numbers of the refusals'
+    has (number CHANNELS) 1
+    ∷ has (number SAMPLES) 2
+    ∷ has (number MAP) 3
+    ∷ has (number DEST) 4
+    ∷ has (number STORE) 5
+    ∷ has (number FULL) 6
+    ∷ has (number SET) 7
+    ∷ has (number MODE) 8
+    ∷ has (number NONE) 9
+    ∷ has (number NAN) 10
+    ∷ has (number SCALE) 11
+    ∷ has (number LENGTH) 12
+    ∷ has (number KIND) 13
+    ∷ has (number CONTENT) 14
+    ∷ has (number ROOM) 15
+    -- "channels 0 or above 8"
+    ∷ answersYes (wrongChannels 0)
+    ∷ answersNo (wrongChannels 1)
+    ∷ answersNo (wrongChannels 8)
+    ∷ answersYes (wrongChannels 9)
+    -- "a byte is not 0 (unused) or 1"
+    ∷ answersYes (admits 0)
+    ∷ answersYes (admits 1)
+    ∷ answersNo (admits 2)
+    ∷ answersNo (used 0)
+    ∷ answersYes (used 1)
+    -- "not 1,000 counters"; "a counter would pass 4,294,967,295"; "more than 16 histories"
+    ∷ has bins 1000
+    ∷ has largestCount 4_294_967_295
+    ∷ has mostHistories 16
+    -- "queue maximum outside 1..36,000"
+    ∷ answersNo (suits (started 0) 0)
+    ∷ answersYes (suits (started 1) 1)
+    ∷ answersYes (suits (started 36_000) 36_000)
+    ∷ answersNo (suits (started 36_001) 36_001)
+    -- "i16 becomes s/32768": full scale, and one step
+    ∷ is (float (sampleOf16 (negsuc 32767))) (float (f64 0xBFF0_0000_0000_0000))
+    ∷ is (float (sampleOf16 (pos 1))) (float (f64 0x3F00_0000_0000_0000))
+    -- "every state value of magnitude below 2^-1022, negative zero too, becomes +0": 2^-1022 stays, and so does its negative
+    ∷ is (float (flush (f64 0x0010_0000_0000_0000))) (float (f64 0x0010_0000_0000_0000))
+    ∷ is (float (flush (f64 0x8010_0000_0000_0000))) (float (f64 0x8010_0000_0000_0000))
+    ∷ is (float (flush (f64 0x000F_FFFF_FFFF_FFFF))) (float (f64 0))
+    ∷ is (float (flush (f64 0x800F_FFFF_FFFF_FFFF))) (float (f64 0))
+    ∷ is (float (flush (f64 0x8000_0000_0000_0000))) (float (f64 0))
+    -- the rate edges
+    ∷ is (scan (kindOf 95_999)) (scan (scans 4 12))
+    ∷ is (scan (kindOf 96_000)) (scan (scans 2 24))
+    ∷ is (scan (kindOf 191_999)) (scan (scans 2 24))
+    ∷ is (scan (kindOf 192_000)) (scan noTruePeak)
+    -- "-700 + its bin, in tenths"
+    ∷ is (signed lowest) (signed (negsuc 699))
+    -- "the f64 nearest 1/10", "the f64 nearest 1/100", "-70.0 when empty"
+    ∷ is (float tenth) (float (f64 0x3FB9_9999_9999_999A))
+    ∷ is (float hundredth) (float (f64 0x3F84_7AE1_47AE_147B))
+    ∷ is (float lowestLoudness) (float (f64 0xC051_8000_0000_0000))
+    -- 'Records': kinds 1 and 2; "kind 1 unlike 4,002, kind 2 under 10, LENGTH"; "NaN as 7FF8000000000000"
+    ∷ has (numberOf Histogram) 1
+    ∷ has (numberOf Queue) 2
+    ∷ answersNo (canBe Histogram 4_001)
+    ∷ answersYes (canBe Histogram 4_002)
+    ∷ answersNo (canBe Histogram 4_003)
+    ∷ answersNo (canBe Queue 9)
+    ∷ answersYes (canBe Queue 10)
+    ∷ has (toBits binary64 nan) 0x7FF8_0000_0000_0000
+    ∷ []
+
+-- on every line the definitions have what 01 writes
+abbrev pub AsWritten : Type 0
+AsWritten = map (λ (l : Line). l .ours) lines ≡ map (λ (l : Line). l .written) lines
