@@ -45,10 +45,6 @@ module _ (bin : ℕ) where
   count-reordered l k (swap x y l′) = omega arith
   count-reordered l k (after {k = j} p q) = count-reordered l j p ∙ count-reordered j k q
 
-  pub run-append : (l k : List (List Float)) → countIn bin (inOneRun (l ++ k)) ≡ countIn bin (inOneRun l) + countIn bin (inOneRun k)
-  run-append [] k = sym (zero-add (countIn bin (inOneRun k)))
-  run-append (part ∷ l) k = omega (arith, count-append part (inOneRun (l ++ k)), run-append l k, count-append part (inOneRun l))
-
   pub run-reordered : (l k : List (List Float)) → Reordered l k → countIn bin (inOneRun l) ≡ countIn bin (inOneRun k)
   run-reordered l k (unmoved j) = refl
   run-reordered l k (under x {l = l′} {k = k′} p) =

@@ -10,12 +10,13 @@ use Rattle.refusals.specs.Outcome.{Outcome, went, NoValues, done, keptBy}
 use Rattle.histogram_bins.specs.Bin.{bins}
 use Rattle.histogram.specs.Histogram.{largestCount, empty}
 use Rattle.history.specs.Set.{mostHistories, Histories}
+use Rattle.rising_order.proofs.Perms.{perm-length}
 use Rattle.histogram_range.specs.Counted.{countedSpan, blocksIn}
 use Rattle.range.specs.Range.{rangeOf}
-use Rattle.acceptance_dealing.specs.Dealing.{countIn, countersOf, Plan, filled, run, storeOf, storesOf, partsOf, inOneRun, Dealt, Asks, ForEach, rangeOfBins, Demand3}
+use Rattle.acceptance_dealing.specs.Dealing.{countIn, countersOf, Plan, fresh, filled, run, storeOf, storesOf, energiesOf, inOneRun, Dealt, Asks, ForEach, rangeOfBins, Demand3}
 use Rattle.acceptance_dealing.proofs.Tallies.{tally-length, tally-at, tally-same}
 use Rattle.acceptance_dealing.proofs.Counts.{count-append, count-reordered, run-reordered, blocks-counted}
-use Rattle.acceptance_dealing.proofs.Plans.{fill, planned, run-plan}
+use Rattle.acceptance_dealing.proofs.Plans.{planned, run-plan}
 use Rattle.acceptance_dealing.proofs.Together.{counts, range-together}
 
 -- ---- the parts
@@ -23,14 +24,14 @@ use Rattle.acceptance_dealing.proofs.Together.{counts, range-together}
 abbrev Fits : List Float → Type 0
 Fits l = (bin : ℕ) → bin < bins → countIn bin l ≤ largestCount
 
-fill-each : (dealt : List (List Float)) → Fits (inOneRun dealt) → ForEach (λ part. run (filled part) ≡ went (countersOf part) done) dealt
+fill-each : (dealt : List (List Float)) → Fits (inOneRun dealt) → ForEach (λ part. run (filled fresh part) ≡ went (countersOf part) done) dealt
 fill-each [] h = tt
 fill-each (part ∷ rest) h = (
-  fill part (λ i k. omega (arith, h i k, count-append i part (inOneRun rest))),
+  run-plan (filled fresh part) (λ i k. omega (arith, h i k, count-append i part (inOneRun rest))),
   fill-each rest (λ i k. omega (arith, h i k, count-append i part (inOneRun rest))),
 )
 
-stores-are : (dealt : List (List Float)) → ForEach (λ part. run (filled part) ≡ went (countersOf part) done) dealt → storesOf dealt ≡ counts dealt
+stores-are : (dealt : List (List Float)) → ForEach (λ part. run (filled fresh part) ≡ went (countersOf part) done) dealt → storesOf dealt ≡ counts dealt
 stores-are [] h = refl
 stores-are (part ∷ rest) h =
     ap (λ (o : Outcome (List ℕ) NoValues). keptBy empty o ∷ storesOf rest) (h .0)
@@ -42,7 +43,7 @@ module _ (whole : List Float) (dealt : List (List Float)) (plan : Plan) (d : Dea
   same-counts bin = count-reordered bin whole (inOneRun dealt) (d .all)
 
   as-planned : (bin : ℕ) → planned plan bin ≡ countIn bin whole
-  as-planned bin = sym (same-counts bin ∙ run-reordered bin dealt (partsOf plan) (d .once))
+  as-planned bin = sym (count-reordered bin whole (energiesOf plan) (d .once))
 
   merges : run plan ≡ went (countersOf whole) done
   merges =
@@ -52,7 +53,7 @@ module _ (whole : List Float) (dealt : List (List Float)) (plan : Plan) (d : Dea
   store-is : storeOf plan ≡ countersOf whole
   store-is = ap (keptBy empty) merges
 
-  fills : ForEach (λ part. run (filled part) ≡ went (countersOf part) done) dealt
+  fills : ForEach (λ part. run (filled fresh part) ≡ went (countersOf part) done) dealt
   fills = fill-each dealt (λ i k. omega (arith, same-counts i, d .fits i k))
 
   ranged : (parts : List (List Float)) (question : Histories) (work : List Float) → length parts ≤ mostHistories → Asks (counts parts) question
@@ -72,8 +73,10 @@ demand-3 whole dealt plan d = record {
       ranged whole dealt plan d (whole ∷ []) question work (omega arith) (subst (λ (l : List ℕ). Asks (l ∷ []) question) (store-is whole dealt plan d) asks)
       (λ bin. ap (countIn bin) (append-nil whole));
   rangeDealt =
-      λ question work asks.
-      ranged whole dealt plan d dealt question work (d .few) (subst (λ (l : List (List ℕ)). Asks l question) (stores-are dealt (fills whole dealt plan d)) asks)
-      (λ bin. sym (same-counts whole dealt plan d bin));
+      λ parts other question work asks.
+      let inside : Fits (inOneRun parts) = λ i k. omega (arith, same-counts whole dealt plan d i, run-reordered i dealt parts other, d .fits i k) in
+      ranged whole dealt plan d parts question work (omega (arith, d .few, perm-length other))
+      (subst (λ (l : List (List ℕ)). Asks l question) (stores-are parts (fill-each parts inside)) asks)
+      (λ bin. sym (same-counts whole dealt plan d bin ∙ run-reordered bin dealt parts other));
   blocks = ap blocksIn (store-is whole dealt plan d) ∙ blocks-counted whole;
 }

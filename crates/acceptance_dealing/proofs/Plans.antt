@@ -1,4 +1,4 @@
--- A plan leaves the counters of its parts: each add and each merge takes a table of counts to a table of counts, and where no bin of the whole passes the
+-- A plan leaves the counters of the energies that it adds: each add and each merge takes a table of counts to a table of counts, and where no bin of the whole passes the
 -- largest count nothing is refused on the way. Assumes nothing.
 use mathlib.Core.Path.{_≡_, refl, sym, ap, _∙_, subst}
 use mathlib.Core.Bool.{Bool, true, false, _&&_}
@@ -19,9 +19,9 @@ use Rattle.histogram.specs.Histogram.{largestCount, oneMore, addTo}
 use Rattle.histogram_merge.specs.Merge.{room, mergeInto}
 use Rattle.histogram.proofs.Counters.{add-dropped, add-went}
 use Rattle.histogram_merge.proofs.Cases.{merge-went}
-use Rattle.acceptance_dealing.specs.Dealing.{countIn, tally, countersOf, next, addEach, Plan, fresh, filled, merged, run, partsOf, inOneRun}
+use Rattle.acceptance_dealing.specs.Dealing.{countIn, tally, next, addEach, Plan, fresh, filled, merged, run, energiesOf}
 use Rattle.acceptance_dealing.proofs.Tallies.{tally-length, tally-at, tally-empty, tally-sums, tally-is, tally-same}
-use Rattle.acceptance_dealing.proofs.Counts.{one, one-dropped, one-there, one-elsewhere, count-append, run-append}
+use Rattle.acceptance_dealing.proofs.Counts.{one, one-dropped, one-there, one-elsewhere, count-append}
 
 -- counters that went
 abbrev left : (ℕ → ℕ) → Outcome (List ℕ) NoValues
@@ -74,13 +74,6 @@ add-each-tally (energy ∷ rest) f h =
     ∙ ap (λ (l : List ℕ). went l done)
     (tally-same (λ i. f i + one i energy + countIn i rest) (λ i. f i + countIn i (energy ∷ rest)) (λ i k. add-assoc (f i) (one i energy) (countIn i rest)))
 
--- a part, added to an empty store
-pub fill : (part : List Float) → ((i : ℕ) → i < bins → countIn i part ≤ largestCount) → run (filled part) ≡ went (countersOf part) done
-fill part h =
-    ap (addEach part) tally-empty
-    ∙ add-each-tally part (λ i. 0) (λ i k. omega (arith, h i k))
-    ∙ ap (λ (l : List ℕ). went l done) (tally-same (λ i. 0 + countIn i part) (λ i. countIn i part) (λ i k. omega arith))
-
 -- ---- one store merged into another
 room-all : (l k : List ℕ) → length l ≡ length k → ((i : ℕ) → i < length l → getD l i 0 + getD k i 0 ≤ largestCount) → room l k ≡ true
 room-all [] k e h = refl
@@ -98,20 +91,24 @@ merge-tally f g h =
 
 -- ---- a plan
 abbrev pub planned : Plan → ℕ → ℕ
-planned plan bin = countIn bin (inOneRun (partsOf plan))
+planned plan bin = countIn bin (energiesOf plan)
 
 pub run-plan : (plan : Plan) → ((i : ℕ) → i < bins → planned plan i ≤ largestCount) → run plan ≡ went (tally (planned plan)) done
 run-plan fresh h = ap (λ (l : List ℕ). went l done) tally-empty
-run-plan (filled part) h =
-    fill part (λ i k. omega (arith, h i k, count-append i part []))
-    ∙ ap (λ (l : List ℕ). went l done) (tally-same (λ i. countIn i part) (planned (filled part)) (λ i k. omega (arith, count-append i part [])))
+run-plan (filled into energies) h =
+    let f = planned into in
+    ap (λ (o : Outcome (List ℕ) NoValues). next o (addEach energies))
+    (run-plan into (λ i k. omega (arith, h i k, count-append i (energiesOf into) energies)))
+    ∙ add-each-tally energies f (λ i k. omega (arith, h i k, count-append i (energiesOf into) energies))
+    ∙ ap (λ (l : List ℕ). went l done)
+    (tally-same (λ i. f i + countIn i energies) (planned (filled into energies)) (λ i k. sym (count-append i (energiesOf into) energies)))
 run-plan (merged into from) h =
     let f = planned into in
     let g = planned from in
     ap (λ (o : Outcome (List ℕ) NoValues). next o (λ store. next (run from) (mergeInto store)))
-    (run-plan into (λ i k. omega (arith, h i k, run-append i (partsOf into) (partsOf from))))
+    (run-plan into (λ i k. omega (arith, h i k, count-append i (energiesOf into) (energiesOf from))))
     ∙ ap (λ (o : Outcome (List ℕ) NoValues). next o (mergeInto (tally f)))
-    (run-plan from (λ i k. omega (arith, h i k, run-append i (partsOf into) (partsOf from))))
-    ∙ merge-tally f g (λ i k. omega (arith, h i k, run-append i (partsOf into) (partsOf from)))
+    (run-plan from (λ i k. omega (arith, h i k, count-append i (energiesOf into) (energiesOf from))))
+    ∙ merge-tally f g (λ i k. omega (arith, h i k, count-append i (energiesOf into) (energiesOf from)))
     ∙ ap (λ (l : List ℕ). went l done)
-    (tally-same (λ i. f i + g i) (planned (merged into from)) (λ i k. sym (run-append i (partsOf into) (partsOf from))))
+    (tally-same (λ i. f i + g i) (planned (merged into from)) (λ i k. sym (count-append i (energiesOf into) (energiesOf from))))

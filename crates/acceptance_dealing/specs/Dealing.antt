@@ -14,11 +14,11 @@ use lib.Ieee.{Float}
 use Rattle.refusals.specs.Outcome.{Outcome, went, refused, NoValues, done, keptBy}
 use Rattle.histogram_bins.specs.Bin.{bins, binOf}
 use Rattle.histogram_bins.specs.Energy.{dropped}
-use Rattle.histogram.specs.Histogram.{largestCount, empty, addTo}
+use Rattle.histogram.specs.Histogram.{empty, addTo}
 use Rattle.histogram_merge.specs.Merge.{mergeInto}
 use Rattle.history.specs.declared.set.Entry.{Entry}
 use Rattle.history.specs.declared.set.Shape.the-variants.{Histogram}
-use Rattle.history.specs.Set.{mostHistories, Histories, chosen}
+use Rattle.history.specs.Set.{Histories, chosen, blockAt}
 use Rattle.rising_order.specs.Arrangement.{Reordered}
 use Rattle.spans.specs.Span.{Span}
 use Rattle.histogram_range.specs.Counted.{countedSpan, blocksIn}
@@ -62,27 +62,27 @@ abbrev pub addEach : List Float → List ℕ → Outcome (List ℕ) NoValues
 addEach [] store = went store done
 addEach (energy ∷ rest) store = next (addTo store energy) (addEach rest)
 
--- what is done with stores, in any order and grouping: a fresh one; one filled with a part; one merged into another
+-- what is done with stores, in any order and grouping: a fresh one; energies added to one, whatever was merged into it before; one merged into another
 pub data Plan : Type 0 where
   fresh : Plan
-  filled : List Float → Plan
+  filled : Plan → List Float → Plan
   merged : Plan → Plan → Plan
 
 -- every store starts empty
 abbrev pub run : Plan → Outcome (List ℕ) NoValues
 run fresh = went empty done
-run (filled part) = addEach part empty
+run (filled into energies) = next (run into) (addEach energies)
 run (merged into from) = next (run into) (λ store. next (run from) (mergeInto store))
 
 -- the store that a plan leaves
 abbrev pub storeOf : Plan → List ℕ
 storeOf plan = keptBy empty (run plan)
 
--- the parts that a plan fills stores with
-abbrev pub partsOf : Plan → List (List Float)
-partsOf fresh = []
-partsOf (filled part) = part ∷ []
-partsOf (merged into from) = partsOf into ++ partsOf from
+-- the energies that a plan adds to its stores
+abbrev pub energiesOf : Plan → List Float
+energiesOf fresh = []
+energiesOf (filled into energies) = energiesOf into ++ energies
+energiesOf (merged into from) = energiesOf into ++ energiesOf from
 
 -- ---- the premises
 -- the energies of all the parts
@@ -93,35 +93,41 @@ inOneRun (part ∷ rest) = part ++ inOneRun rest
 -- the whole list is any list of floats. Each dealt part is in the order in which its energies are added; a part may be empty
 pub record Dealt (whole : List Float) (dealt : List (List Float)) (plan : Plan) : Type 0 where
   -- to up to 16 histograms
-  pub few : length dealt ≤ mostHistories
+  pub few : length dealt ≤ 16
   -- in any way: every listed energy is in one part, as often as it is listed
   pub all : Reordered whole (inOneRun dealt)
-  -- the plan fills and merges each part once
-  pub once : Reordered dealt (partsOf plan)
+  -- the plan adds each of them once, in whatever order, to whichever of its stores, before or after a merge, and merges each store once
+  pub once : Reordered whole (energiesOf plan)
   -- no bin of the whole list holds more than the largest count
-  pub fits : (bin : ℕ) → bin < bins → countIn bin whole ≤ largestCount
+  pub fits : (bin : ℕ) → bin < bins → countIn bin whole ≤ 4_294_967_295
 
 -- ---- histograms together, as a set question takes them
-abbrev pub blockAfterBlock : List (List ℕ) → List ℕ
-blockAfterBlock [] = []
-blockAfterBlock (store ∷ rest) = store ++ blockAfterBlock rest
+-- an entry is the histogram whose counters these are, wherever they stand in the lent ones
+pub record StandsIn (lent : List ℕ) (entry : Entry) (store : List ℕ) : Type 0 where
+  pub start : ℕ
+  pub shape : entry .shape ≡ Histogram start
+  pub inside : start + 1000 ≤ length lent
+  pub holds : blockAt lent start ≡ store
 
--- an entry for each store, in order, the first at a place
-abbrev pub entriesFrom : ℕ → List (List ℕ) → List Entry
-entriesFrom start [] = []
-entriesFrom start (store ∷ rest) = record { shape = Histogram start } ∷ entriesFrom (start + bins) rest
+abbrev pub AllStand : List ℕ → List Entry → List (List ℕ) → Type 0
+AllStand lent [] [] = Unit
+AllStand lent [] (store ∷ stores) = ⊥
+AllStand lent (entry ∷ entries) [] = ⊥
+AllStand lent (entry ∷ entries) (store ∷ stores) = StandsIn lent entry store × AllStand lent entries stores
 
--- the question asks over these stores: they stand block after block in the lent counters, and the entries that count are theirs. What the other entries are,
--- and what energies are lent, is left open
+-- the question asks over these stores, with an entry for each. Between, before and behind them any counters may stand; what the other entries are, and what
+-- energies are lent, is left open
 pub record Asks (stores : List (List ℕ)) (question : Histories) : Type 0 where
-  pub lent : question .counters ≡ blockAfterBlock stores
   pub number : question .count ≡ length stores
-  pub entered : chosen question ≡ entriesFrom 0 stores
+  pub entered : AllStand (question .counters) (chosen question) stores
 
--- the stores of the parts, in the order dealt
+-- the store of one part, filled by itself, and the stores of parts in their order
+abbrev pub storeOfPart : List Float → List ℕ
+storeOfPart part = storeOf (filled fresh part)
+
 abbrev pub storesOf : List (List Float) → List (List ℕ)
 storesOf [] = []
-storesOf (part ∷ rest) = storeOf (filled part) ∷ storesOf rest
+storesOf (part ∷ rest) = storeOfPart part ∷ storesOf rest
 
 -- ---- the demand
 abbrev pub ForEach : (List Float → Type 0) → List (List Float) → Type 0
@@ -134,7 +140,7 @@ rangeOfBins whole = countedSpan (countersOf whole)
 
 pub record Met (whole : List Float) (dealt : List (List Float)) (plan : Plan) : Type 0 where
   -- no add to any part's store is refused, and the store's counters are those of its part
-  pub filling : ForEach (λ part. run (filled part) ≡ went (countersOf part) done) dealt
+  pub filling : ForEach (λ part. run (filled fresh part) ≡ went (countersOf part) done) dealt
   -- nor is any add or merge of the plan, and the merged counters are those of the whole list
   pub merging : run plan ≡ went (countersOf whole) done
   -- each of the 1,000 merged counters is the number of listed energies that 01 puts in that bin
@@ -142,8 +148,9 @@ pub record Met (whole : List Float) (dealt : List (List Float)) (plan : Plan) : 
   pub counting : (bin : ℕ) → bin < bins → getD (storeOf plan) bin 0 ≡ countIn bin whole
   -- the range of the merged store: a set of one
   pub rangeMerged : (question : Histories) (work : List Float) → Asks (storeOf plan ∷ []) question → rangeOf question work ≡ went work (rangeOfBins whole)
-  -- the range over the parts together, as a set of entries in the order dealt
-  pub rangeDealt : (question : Histories) (work : List Float) → Asks (storesOf dealt) question → rangeOf question work ≡ went work (rangeOfBins whole)
+  -- the range over the parts together, as a set of entries in the order dealt, or in any other
+  pub rangeDealt : (parts : List (List Float)) → Reordered dealt parts
+      → (question : Histories) (work : List Float) → Asks (storesOf parts) question → rangeOf question work ≡ went work (rangeOfBins whole)
   -- the block total is the length of the list less the dropped energies
   pub blocks : blocksIn (storeOf plan) ≡ length whole - length (droppedOf whole)
 

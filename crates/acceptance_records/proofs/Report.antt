@@ -3,12 +3,13 @@
 -- is what refuses its record. Assumes nothing.
 use mathlib.Core.Path.{_≡_, refl, sym, ap, _∙_}
 use mathlib.Core.Bool.{Bool, true, false}
-use mathlib.Core.List.{List, [], _∷_, append-nil}
+use mathlib.Core.List.{List, [], _∷_}
 use Prim.Native.Nat.{ℕ, _-_, _<_, _^_}
 use native.Mathlib.Omega.{arith}
 use borrow.Author.Tests.{leb-true, leb-false}
 use lib.Dec.{leb}
 use lib.ListN.{length, getD, length-replicate, List·getD-eq-default}
+use lib.Seq.{take-all}
 use lib.Ieee.{Float}
 use Rattle.refusals.specs.Outcome.{went, answers}
 use Rattle.histogram_bins.specs.Bin.{bins}
@@ -31,9 +32,10 @@ unfolding empty
 empty-length = length-replicate {A = ℕ} bins 0
 
 -- the report's question asks over the store
-asks-alone : (store : List ℕ) → Asks (store ∷ []) (alone store)
+asks-alone : (store : List ℕ) → length store ≡ bins → Asks (store ∷ []) (alone store)
 unfolding alone
-asks-alone store = record { lent = sym (append-nil store); number = refl; entered = refl }
+asks-alone store whole =
+    record { number = refl; entered = (record { start = 0; shape = refl; inside = omega (arith, whole); holds = take-all bins store (omega (arith, whole)) }, tt) }
 
 module _ (whole : List Float) (dealt : List (List Float)) (plan : Plan) (d : Dealt whole dealt plan) (m : Met whole dealt plan) where
   counters-fit : Counting (storeOf plan)
@@ -48,7 +50,7 @@ module _ (whole : List Float) (dealt : List (List Float)) (plan : Plan) (d : Dea
   tells =
       ap figuresRead (read-what-was-written (storeOf plan) (m .thousand) counters-fit empty empty-length)
       ∙ ap (λ (n : ℕ). figuresBy n (rangeOf (alone (storeOf plan)) [])) (m .blocks)
-      ∙ ap (figuresBy (length whole - length (droppedOf whole))) (m .rangeMerged (alone (storeOf plan)) [] (asks-alone (storeOf plan)))
+      ∙ ap (figuresBy (length whole - length (droppedOf whole))) (m .rangeMerged (alone (storeOf plan)) [] (asks-alone (storeOf plan) (m .thousand)))
 
 pub report-tells : ReportTells
 report-tells whole dealt plan d = tells whole dealt plan d (demand-3 whole dealt plan d)

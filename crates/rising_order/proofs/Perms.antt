@@ -8,7 +8,7 @@ use lib.ListN.{length, take, drop, set, take-append-drop}
 use lib.Ieee.{Float}
 use Rattle.rising_order.specs.Arrangement.{Reordered, unmoved, under, swap, after, All, at, exchanged}
 
-pub perm-length : {l k : List Float} → Reordered l k → length l ≡ length k
+pub perm-length : {A : Type 0} {l k : List A} → Reordered l k → length l ≡ length k
 perm-length (unmoved l) = refl
 perm-length (under x p) = ap suc (perm-length p)
 perm-length (swap x y l) = refl
