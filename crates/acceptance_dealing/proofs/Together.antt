@@ -14,7 +14,7 @@ use Rattle.histogram_bins.specs.Bin.{bins}
 use Rattle.histogram.specs.Histogram.{empty}
 use Rattle.history.specs.declared.set.Entry.{Entry}
 use Rattle.history.specs.Set.{mostHistories, History, counted, Histories, chosen, allShow, historiesOf, anyOutside, allSound, refusalOf, sound}
-use Rattle.history.proofs.Verdicts.{all-well, not-too-many}
+use Rattle.history.proofs.Rows.{all-well, not-too-many}
 use Rattle.histogram_range.specs.Counted.{addedTo, countedSpan}
 use Rattle.range.specs.Range.{queuesIn, rangeOf}
 use Rattle.range.proofs.Answers.{range-asked, over-histograms}

@@ -31,7 +31,7 @@ use Rattle.history.specs.Set.{
 }
 use Rattle.queue.proofs.Ring.{suited}
 use Rattle.queue.proofs.Held.{held-count}
-use Rattle.history.proofs.Verdicts.{kept}
+use Rattle.history.proofs.Rows.{kept}
 use Rattle.ranks.specs.Ranks.{lowRank, highRank, rankInFloats, lowShare, highShare, exactBelow}
 use Rattle.ranks.proofs.InFloats.{low-rank-is-the-rust's, high-rank-is-the-rust's}
 use Rattle.histogram_range.specs.Counted.{withHistory, addedTo, blocksIn}

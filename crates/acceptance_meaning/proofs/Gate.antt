@@ -11,7 +11,7 @@ use lib.Ieee.{Float}
 use Rattle.tables.specs.Tables.{energyAt}
 use Rattle.histogram_bins.specs.Bin.{bins}
 use Rattle.history.specs.Set.{counted, Histories, historiesOf, refusalOf}
-use Rattle.history.proofs.Verdicts.{asked}
+use Rattle.history.proofs.Rows.{asked}
 use Rattle.gate.specs.declared.blocks.Totals.{Totals}
 use Rattle.gate.specs.Start.{startBin}
 use Rattle.gate.specs.Gate.{gatedOf, gateOver, gateOf}

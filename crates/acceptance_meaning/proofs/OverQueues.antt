@@ -10,7 +10,7 @@ use lib.ListN.{length, getD, drop}
 use lib.Ieee.{Float, nan}
 use Rattle.refusals.specs.Outcome.{went}
 use Rattle.history.specs.Set.{Histories, historiesOf, chosen, refusalOf, sound, noneBelow}
-use Rattle.history.proofs.Verdicts.{kept}
+use Rattle.history.proofs.Rows.{kept}
 use Rattle.gate.specs.Totals.{none, energiesFrom}
 use Rattle.ranks.specs.Ranks.{lowRank, highRank}
 use Rattle.rising_order.specs.Order.{inOrder}

@@ -17,7 +17,7 @@ use Rattle.history.specs.declared.set.Shape.{Shape}
 use Rattle.history.specs.declared.set.Shape.the-variants.{Histogram}
 use Rattle.history.specs.Set.{mostHistories, Histories, histories, historiesOf, chosen, outsideSet, anyOutside, allSound, allShow, blockAt, numbered}
 use Rattle.history.proofs.Entries.{histogram-outside}
-use Rattle.history.proofs.Verdicts.{set-refused, all-well}
+use Rattle.history.proofs.Rows.{set-refused, all-well}
 use Rattle.block_range.specs.Counted.{spanAt}
 use Rattle.block_range.proofs.Answers.{span-there}
 use Rattle.histogram_range.specs.Counted.{addedTo, countedSpan}

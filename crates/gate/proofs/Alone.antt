@@ -1,37 +1,25 @@
 -- A single history is the set that is this one: added to 0 its sum stays as it is, since it has no minus. Assumes nothing.
-use mathlib.Core.Path.{_≡_, refl, sym, ap}
+use mathlib.Core.Path.{_≡_, sym, ap}
 use mathlib.Core.Bool.{Bool, true, false, _&&_, true≢false}
 use mathlib.Core.List.{List, [], _∷_}
 use Prim.Native.Nat.{ℕ, _+_}
 use native.Mathlib.Omega.{arith}
 use lib.Ieee.{Float}
 use Rattle.refusals.specs.Outcome.{answers}
+use Rattle.refusals.specs.Rows.{numberOf}
+use Rattle.refusals.proofs.Behind.{same-behind}
 use Rattle.queue.specs.Queue.{suits, heldOf}
 use Rattle.history.specs.declared.set.Entry.{Entry}
 use Rattle.history.specs.declared.set.Shape.{Shape}
 use Rattle.history.specs.declared.set.Shape.the-variants.{Histogram, Queue as Queue-at}
-use Rattle.history.specs.Set.{
-  blockAt,
-  queueAt,
-  shapeShows,
-  shows,
-  allShow,
-  historiesOf,
-  noneBelow,
-  shapeSound,
-  Verdict,
-  sound,
-  refusing,
-  refusalOf,
-  unlessRefused,
-}
+use Rattle.history.specs.Set.{blockAt, queueAt, shapeShows, shows, allShow, historiesOf, noneBelow, shapeSound, setRows}
 use Rattle.history.proofs.Entries.{sound-at}
-use Rattle.history.proofs.Verdicts.{kept}
+use Rattle.history.proofs.Rows.{kept}
 use Rattle.gate.specs.declared.blocks.Totals.{Totals}
 use Rattle.gate.specs.Totals.{none, withBlocks, energiesFrom}
-use Rattle.gate.specs.Inner.{Steady}
+use Rattle.gate.specs.Inner.{Steady, ofHistory, ofSet}
 use Rattle.gate.proofs.Nothing.{to-nothing, nothing-steady, steady-added, bins-steady}
-use Rattle.gate.specs.Sums.{totalsOf, allTotals, alone, ofHistory, ofSet}
+use Rattle.gate.specs.Sums.{totalsOf, allTotals, allOf, alone}
 use Rattle.gate.proofs.Looking.{same}
 use Rattle.gate.proofs.Keeping.{no-minus, others-sound}
 
@@ -53,7 +41,7 @@ totals-steady counters energies (Queue-at start queue) h =
     energies-steady none held nothing-steady (second (suits queue (queue .maximum)) (noneBelow held) h)
 
 module _ (entry : Entry) (counters : List ℕ) (energies : List Float) where
-  one-total : refusalOf (alone entry counters energies) ≡ sound → totalsOf (shows counters energies entry) ≡ allTotals none (historiesOf (alone entry counters energies))
+  one-total : numberOf (setRows (alone entry counters energies)) ≡ 0 → totalsOf (shows counters energies entry) ≡ allOf (historiesOf (alone entry counters energies))
   unfolding allTotals allShow
   one-total e =
       let totals = totalsOf (shows counters energies entry) in
@@ -62,9 +50,6 @@ module _ (entry : Entry) (counters : List ℕ) (energies : List Float) where
 
   pub alone-same : ofHistory entry counters energies ≡ ofSet (alone entry counters energies)
   unfolding ofHistory ofSet
-  alone-same = go (refusalOf (alone entry counters energies)) refl
-    where
-      go : (v : Verdict) → refusalOf (alone entry counters energies) ≡ v
-          → unlessRefused v (answers (totalsOf (shows counters energies entry))) ≡ unlessRefused v (answers (allTotals none (historiesOf (alone entry counters energies))))
-      go sound e = ap answers (one-total e)
-      go (refusing r) e = refl
+  alone-same =
+      same-behind (answers (totalsOf (shows counters energies entry))) (setRows (alone entry counters energies))
+      (answers (allOf (historiesOf (alone entry counters energies)))) (λ none. ap answers (one-total none))

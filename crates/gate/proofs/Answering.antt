@@ -8,31 +8,33 @@ use lib.ListN.{length}
 use lib.Ieee.{Float}
 use Rattle.refusals.specs.Refusal.{SET}
 use Rattle.refusals.specs.Outcome.{refused, answers}
+use Rattle.refusals.specs.Rows.{byRows}
+use Rattle.refusals.proofs.Rows.{goes}
 use Rattle.history.specs.declared.set.Entry.{Entry}
-use Rattle.history.specs.Set.{Histories, historiesOf, chosen, shows, isOutside, outsideSet, isSound, allSound, refusalOf, Verdict, unlessRefused}
+use Rattle.history.specs.Set.{Histories, historiesOf, chosen, shows, isOutside, outsideSet, isSound, allSound, setRows}
 use Rattle.history.proofs.Entries.{inside-at}
-use Rattle.history.proofs.Verdicts.{none-outside, set-refused, one-unsound, all-well}
+use Rattle.history.proofs.Rows.{none-outside, all-well}
 use Rattle.gate.specs.declared.blocks.Totals.{Totals}
-use Rattle.gate.specs.Totals.{none}
-use Rattle.gate.specs.Sums.{totalsOf, allTotals, alone, ofHistory, ofSet, answered}
+use Rattle.gate.specs.Sums.{totalsOf, allOf, alone}
+use Rattle.gate.specs.Inner.{answered, ofHistory, ofSet}
 
 -- ---- a set inside its slices, whose stores are sound or not
 module _ (h : Histories) (inside : outsideSet h ≡ false) (totals right : Totals) where
   seen : (fine : Bool) → fine ≡ allSound (h .energies) (chosen h) → (fine ≡ true → totals ≡ right)
-      → unlessRefused (refusalOf h) (answers right) ≡ answered fine totals
-  seen true s t = ap (λ (v : Verdict). unlessRefused v (answers right)) (all-well h inside (sym s)) ∙ ap answers (sym (t refl))
-  seen false s t = ap (λ (v : Verdict). unlessRefused v (answers right)) (one-unsound h inside (sym s))
+      → byRows (setRows h) (answers right) ≡ answered fine totals
+  seen true s t = goes (answers right) (setRows h) (all-well h inside (sym s)) ∙ ap answers (sym (t refl))
+  seen false s t = rw (inside, sym s)
 
 -- ---- a set
 module _ (h : Histories) where
   pub set-outside : outsideSet h ≡ true → ofSet h ≡ refused SET
   unfolding ofSet
-  set-outside e = ap (λ (v : Verdict). unlessRefused v (answers (allTotals none (historiesOf h)))) (set-refused h e)
+  set-outside e = rw e
 
   pub set-seen : outsideSet h ≡ false → (fine : Bool) (totals : Totals) → fine ≡ allSound (h .energies) (chosen h)
-      → (fine ≡ true → totals ≡ allTotals none (historiesOf h)) → ofSet h ≡ answered fine totals
+      → (fine ≡ true → totals ≡ allOf (historiesOf h)) → ofSet h ≡ answered fine totals
   unfolding ofSet
-  set-seen e fine totals s t = seen h e totals (allTotals none (historiesOf h)) fine s t
+  set-seen e fine totals s t = seen h e totals (allOf (historiesOf h)) fine s t
 
 -- ---- a single history
 module _ (entry : Entry) (counters : List ℕ) (energies : List Float) where
@@ -45,7 +47,7 @@ module _ (entry : Entry) (counters : List ℕ) (energies : List Float) where
 
   pub history-outside : outsideSet (alone entry counters energies) ≡ true → ofHistory entry counters energies ≡ refused SET
   unfolding ofHistory
-  history-outside e = ap (λ (v : Verdict). unlessRefused v (answers (totalsOf (shows counters energies entry)))) (set-refused (alone entry counters energies) e)
+  history-outside e = rw e
 
   pub history-seen : outsideSet (alone entry counters energies) ≡ false → (fine : Bool) (totals : Totals) → fine ≡ isSound energies entry
       → (fine ≡ true → totals ≡ totalsOf (shows counters energies entry)) → ofHistory entry counters energies ≡ answered fine totals

@@ -1,14 +1,15 @@
 -- The relative threshold (01, step 8): "Threshold = (sum / count) times the f64 nearest 1/10." Of a single history: "-70.0 when empty, otherwise the threshold
 -- energy or NAN." -70.0 is a loudness, in LUFS; the other answer is an energy.
 use Prim.Native.Nat.{ℕ}
-use mathlib.Core.Bool.{true, false, cond}
-use mathlib.Core.List.{List}
+use mathlib.Core.Bool.{true, false, not, _&&_, cond}
+use mathlib.Core.List.{List, [], _∷_, _++_}
 use lib.Dec.{eqb}
 use lib.Ieee.{Float, binary64, mul, round, isNan}
 use Rattle.refusals.specs.Refusal.{NAN}
-use Rattle.refusals.specs.Outcome.{Question, answers, refused, Said, says, refusal, saidBy}
+use Rattle.refusals.specs.Outcome.{Question, answers, Said, says, refusal}
+use Rattle.refusals.specs.Rows.{Row, row, byRows}
 use Rattle.history.specs.declared.set.Entry.{Entry}
-use Rattle.history.specs.Set.{shows, refusalOf, unlessRefused}
+use Rattle.history.specs.Set.{shows, setRows}
 use Rattle.gate.specs.declared.blocks.Totals.{Totals}
 use Rattle.gate.specs.Totals.{meanOf}
 use Rattle.gate.specs.Sums.{totalsOf, alone}
@@ -22,10 +23,6 @@ tenth = round binary64 false 1 10
 abbrev pub thresholdOf : Totals → Float
 thresholdOf totals = mul binary64 (meanOf totals) tenth
 
--- NAN where the sum of blocks is NaN, and else what follows
-abbrev pub unlessNan : {Values : Type 0} → Totals → Question Values → Question Values
-unlessNan totals question = cond (isNan (totals .sum)) (refused NAN) question
-
 pub data Level : Type 0 where
   loudness : Float → Level
   energy : Float → Level
@@ -34,16 +31,19 @@ pub data Level : Type 0 where
 unfoldable pub lowest : Float
 lowest = round binary64 true 70 1
 
-unfoldable pub levelOf : Totals → Question Level
-levelOf totals = cond (eqb (totals .count) 0) (answers (loudness lowest)) (unlessNan totals (answers (energy (thresholdOf totals))))
+abbrev pub levelOf : Totals → Level
+levelOf totals = cond (eqb (totals .count) 0) (loudness lowest) (energy (thresholdOf totals))
 
--- the same of what was said of the blocks
-abbrev pub levelSaid : Said Totals → Said Level
-levelSaid (says totals) = saidBy (levelOf totals)
-levelSaid (refusal n) = refusal n
+-- NAN: "the threshold sum is NaN". Without blocks there is no threshold
+abbrev pub levelRows : Totals → List Row
+levelRows totals = row NAN (not (eqb (totals .count) 0) && isNan (totals .sum)) ∷ []
+
+-- ---- a single history's
+abbrev pub relativeRows : Entry → List ℕ → List Float → List Row
+relativeRows entry counters energies = setRows (alone entry counters energies) ++ levelRows (totalsOf (shows counters energies entry))
 
 unfoldable pub relativeOf : Entry → List ℕ → List Float → Question Level
-relativeOf entry counters energies = unlessRefused (refusalOf (alone entry counters energies)) (levelOf (totalsOf (shows counters energies entry)))
+relativeOf entry counters energies = byRows (relativeRows entry counters energies) (answers (levelOf (totalsOf (shows counters energies entry))))
 
 -- what each case of `Threshold` says
 abbrev pub said : Threshold → Said Level

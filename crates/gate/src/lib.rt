@@ -10,13 +10,14 @@ ghost use mathlib.Core.Bool.{true, false};
 ghost use Prim.Native.Nat.{_≤_};
 ghost use lib.ListN.{length};
 ghost use Rattle.refusals.specs.Outcome.{saidBy};
-ghost use Rattle.history.specs.Set.{histories, isOutside, isSound, shows, historiesOf, refusalOf, sound};
+ghost use Rattle.refusals.specs.Rows.{numberOf};
+ghost use Rattle.history.specs.Set.{histories, isOutside, isSound, shows, historiesOf, setRows};
 ghost use Rattle.tables.specs.Tables.{energies as binEnergies};
 ghost use Rattle.gate.specs.Totals.{mostBlocks, onTopOf, none};
-ghost use Rattle.gate.specs.Inner.{Steady};
+ghost use Rattle.gate.specs.Inner.{Steady, someLeft};
 ghost use Rattle.gate.specs.Start.{startBin};
 ghost use Rattle.gate.specs.Sums.{alone};
-ghost use Rattle.gate.specs.Gate.{gatedOf, allGated, someLeft, gateOf, said};
+ghost use Rattle.gate.specs.Gate.{gatedOf, allGated, gateOf, said};
 
 pub mod blocks;
 mod kept;
@@ -60,7 +61,7 @@ fn all_gated(
     energies: &[f64],
     threshold: f64,
 ) -> Totals
-    requires { ⌜ (refusalOf (histories entries count (now counters) (now energies)) ≡ sound) × (now table ≡ binEnergies) ⌝ }
+    requires { ⌜ (numberOf (setRows (histories entries count (now counters) (now energies))) ≡ 0) × (now table ≡ binEnergies) ⌝ }
     ensures { λ r. ⌜ r ≡ allGated threshold none (historiesOf (histories entries count (now (counters .entry)) (now (energies .entry)))) ⌝ }
 {
     let bin = blocks::start_in(table, threshold);

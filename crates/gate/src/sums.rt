@@ -13,7 +13,8 @@ ghost use Rattle.queue.specs.Queue.{suits, heldOf};
 ghost use Rattle.history.specs.Set.{histories, queueAt, isOutside, outsideSet, noneBelow, isSound, allSound, shows, allShow};
 ghost use Rattle.tables.specs.Tables.{energies as binEnergies};
 ghost use Rattle.gate.specs.Totals.{mostBlocks, onTopOf, none, energiesFrom};
-ghost use Rattle.gate.specs.Sums.{totalsOf, allTotals, alone, answered, ofHistory, ofSet, said};
+ghost use Rattle.gate.specs.Sums.{totalsOf, allOf, alone};
+ghost use Rattle.gate.specs.Inner.{answered, ofHistory, ofSet, saidSums};
 
 // The answer: the blocks and the sum of their energies.
 pub(crate) enum Sums {
@@ -121,7 +122,7 @@ fn look_at_set(
 ) -> Seen
     requires { ⌜ (now table ≡ binEnergies) × (outsideSet (histories entries count (now counters) (now energies)) ≡ false) ⌝ }
     ensures { λ r. ⌜ (r .sound ≡ allSound (now (energies .entry)) (take count entries))
-        × (r .sound ≡ true → record { count = r .count; sum = r .sum } ≡ allTotals none (allShow (now (counters .entry)) (now (energies .entry)) (take count entries))) ⌝ }
+        × (r .sound ≡ true → record { count = r .count; sum = r .sum } ≡ allOf (allShow (now (counters .entry)) (now (energies .entry)) (take count entries))) ⌝ }
 {
     let mut blocks: u64 = 0;
     let mut sum = 0.0;
@@ -150,7 +151,7 @@ fn look_at_set(
 
 // What was seen, or STORE.
 fn answer(seen: Seen) -> Sums
-    ensures { λ r. ⌜ said r ≡ saidBy (answered (seen .sound) (record { count = seen .count; sum = seen .sum })) ⌝ }
+    ensures { λ r. ⌜ saidSums r ≡ saidBy (answered (seen .sound) (record { count = seen .count; sum = seen .sum })) ⌝ }
 {
     if seen.sound {
         return Sums::Blocks(Totals {
@@ -176,7 +177,7 @@ pub(crate) fn of_history(
     energies: &[f64],
 ) -> Sums
     requires { ⌜ now table ≡ binEnergies ⌝ }
-    ensures { λ r. ⌜ said r ≡ saidBy (ofHistory entry (now (counters .entry)) (now (energies .entry))) ⌝ }
+    ensures { λ r. ⌜ saidSums r ≡ saidBy (ofHistory entry (now (counters .entry)) (now (energies .entry))) ⌝ }
 {
     if outside(entry, counters, energies) {
         return Sums::Refused(refusals::SET);
@@ -193,7 +194,7 @@ pub(crate) fn of_set(
     energies: &[f64],
 ) -> Sums
     requires { ⌜ now table ≡ binEnergies ⌝ }
-    ensures { λ r. ⌜ said r ≡ saidBy (ofSet (histories entries count (now (counters .entry)) (now (energies .entry)))) ⌝ }
+    ensures { λ r. ⌜ saidSums r ≡ saidBy (ofSet (histories entries count (now (counters .entry)) (now (energies .entry)))) ⌝ }
 {
     if history::set::outside_set(entries, count, counters, energies) {
         return Sums::Refused(refusals::SET);

@@ -4,8 +4,8 @@ use crate::sums::Sums;
 use history::set::Entry;
 ghost use mathlib.Core.Path.{_≡_};
 ghost use Rattle.refusals.specs.Outcome.{saidBy};
-ghost use Rattle.gate.specs.Sums.{said as saidSums};
-ghost use Rattle.gate.specs.Relative.{thresholdOf, levelOf, levelSaid, relativeOf, said};
+ghost use Rattle.gate.specs.Relative.{thresholdOf, relativeOf, said};
+ghost use Rattle.gate.specs.Inner.{saidSums, levelled, levelSaid};
 
 // The loudness of the absolute gate, which stands for a threshold where there is no block.
 const LOWEST: f64 = -70.0;
@@ -26,7 +26,7 @@ fn threshold_of(totals: Totals) -> f64
 
 // The same where there may be none, or one that is NaN.
 fn level(totals: Totals) -> Threshold
-    ensures { λ r. ⌜ said r ≡ saidBy (levelOf totals) ⌝ }
+    ensures { λ r. ⌜ said r ≡ saidBy (levelled totals) ⌝ }
 {
     if totals.count == 0 {
         return Threshold::Loudness(LOWEST);

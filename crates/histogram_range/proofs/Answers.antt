@@ -4,7 +4,7 @@ use Prim.Native.Nat.{ℕ}
 use Rattle.refusals.specs.Outcome.{answers, refusal, saidBy}
 use Rattle.histogram.specs.Histogram.{empty}
 use Rattle.history.specs.Set.{Histories, historiesOf, refusalOf, sound, numbered}
-use Rattle.history.proofs.Verdicts.{refused-first, asked}
+use Rattle.history.proofs.Rows.{refused-first, asked}
 use Rattle.histogram_range.specs.Counted.{addedTo, countedSpan, histogramRange}
 pub use Rattle.block_range.proofs.Answers.{counted-none, counted-some, left-none, left-read}
 

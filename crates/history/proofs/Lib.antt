@@ -1,3 +1,3 @@
 pub mod Slices
 pub mod Entries
-pub mod Verdicts
+pub mod Rows

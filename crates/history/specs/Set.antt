@@ -1,13 +1,12 @@
 -- A set of histories (01, 'Numbers of the refusals' and 'What must change shape'): what its entries show of the lent slices, and what refuses it.
--- "SET comes first for every entry, then STORE entry by entry."
 use Prim.Native.Nat.{ℕ, _+_, _≤_}
-use mathlib.Core.Bool.{Bool, true, false, not, _&&_, _||_, cond}
+use mathlib.Core.Bool.{Bool, true, false, not, _&&_, _||_}
 use mathlib.Core.List.{List, [], _∷_}
 use lib.Dec.{ltb}
 use lib.ListN.{length, take, drop}
 use lib.Ieee.{Float}
-use Rattle.refusals.specs.Refusal.{Refusal, STORE, SET, number}
-use Rattle.refusals.specs.Outcome.{Outcome, refused}
+use Rattle.refusals.specs.Refusal.{STORE, SET}
+use Rattle.refusals.specs.Rows.{Row, row}
 use Rattle.histogram_bins.specs.Bin.{bins}
 use Rattle.queue.specs.declared.Queue.{Queue}
 use Rattle.history.specs.declared.set.Entry.{Entry}
@@ -110,21 +109,6 @@ unfoldable pub allSound : List Float → List Entry → Bool
 allSound energies [] = true
 allSound energies (entry ∷ rest) = isSound energies entry && allSound energies rest
 
--- ---- the first refusal that holds, in order, or none
-pub data Verdict : Type 0 where
-  sound : Verdict
-  refusing : Refusal → Verdict
-
-unfoldable pub refusalOf : Histories → Verdict
-refusalOf h =
-    cond (outsideSet h) (refusing SET) (cond (allSound (h .energies) (chosen h)) sound (refusing STORE))
-
--- its number, and 0 for none
-abbrev pub numbered : Verdict → ℕ
-numbered sound = 0
-numbered (refusing r) = number r
-
--- an operation over a set answers the set's refusal first
-abbrev pub unlessRefused : {Memory Values : Type 0} → Verdict → Outcome Memory Values → Outcome Memory Values
-unlessRefused sound outcome = outcome
-unlessRefused (refusing r) outcome = refused r
+-- ---- what refuses a set, before all else: "SET comes first for every entry, then STORE entry by entry"
+abbrev pub setRows : Histories → List Row
+setRows h = row SET (outsideSet h) ∷ row STORE (not (allSound (h .energies) (chosen h))) ∷ []

@@ -7,6 +7,7 @@ ghost use mathlib.Core.Path.{_≡_};
 ghost use mathlib.Core.Bool.{_&&_};
 ghost use Prim.Native.Nat.{_+_, _≤_};
 ghost use lib.ListN.{length, take};
+ghost use Rattle.refusals.specs.Rows.{numberOf};
 ghost use Rattle.queue.specs.Queue.{suits, heldOf};
 ghost use Rattle.history.specs.Set.{
   mostHistories,
@@ -17,8 +18,7 @@ ghost use Rattle.history.specs.Set.{
   noneBelow,
   isSound,
   allSound,
-  refusalOf,
-  numbered,
+  setRows,
 };
 
 // Whether none of these energies is below boundary 0. No turn branches, so that several are looked at in one step.
@@ -84,7 +84,7 @@ fn all_sound(entries: [Entry; MOST], count: usize, energies: &[f64]) -> bool
 
 // The number of the first refusal that a set of histories gets, or 0.
 pub fn checked(entries: [Entry; MOST], count: usize, counters: &[u32], energies: &[f64]) -> u8
-    ensures { λ r. ⌜ r ≡ numbered (refusalOf (histories entries count (now (counters .entry)) (now (energies .entry)))) ⌝ }
+    ensures { λ r. ⌜ r ≡ numberOf (setRows (histories entries count (now (counters .entry)) (now (energies .entry)))) ⌝ }
 {
     if history::set::outside_set(entries, count, counters, energies) {
         return refusals::SET;

@@ -7,7 +7,7 @@ use denote.Ref.{now}
 use lib.ListN.{length, getD, take, drop}
 use Rattle.history.specs.Set.{Histories, histories, shows, allShow}
 use Rattle.history.proofs.Entries.{past-the-last, inside-at, sound-at}
-use Rattle.history.proofs.Verdicts.{Kept, kept}
+use Rattle.history.proofs.Rows.{Kept, kept}
 use Rattle.gate.specs.declared.blocks.Totals.{Totals}
 use Rattle.gate.specs.Totals.{mostBlocks, none}
 use Rattle.gate.specs.Inner.{Steady}

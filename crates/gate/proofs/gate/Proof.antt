@@ -6,10 +6,10 @@ use Rattle.refusals.specs.Outcome.{saidBy}
 use Rattle.history.specs.Set.{Histories, histories, historiesOf}
 use Rattle.gate.specs.declared.blocks.Totals.{Totals}
 use Rattle.gate.specs.Totals.{none}
-use Rattle.gate.specs.Sums.{ofSet}
+use Rattle.gate.specs.Inner.{ofSet, levelSaid, someLeft}
 use Rattle.gate.specs.declared.threshold.Threshold.{Threshold}
-use Rattle.gate.specs.Relative.{levelSaid, said}
-use Rattle.gate.specs.Gate.{allGated, someLeft, gateOf}
+use Rattle.gate.specs.Relative.{said}
+use Rattle.gate.specs.Gate.{allGated, gateOf}
 use Rattle.gate.proofs.Questions.{answeredAt, leftAt, gate-at, nothing-refuses}
 use Rattle.gate.proofs.gate.Statement.{statement}
 use Rattle.gate.proofs.gate.Tie as tie

@@ -8,14 +8,15 @@ use lib.ListN.{length}
 use Rattle.refusals.specs.Outcome.{saidBy}
 use Rattle.history.specs.Set.{Histories, historiesOf, allShow}
 use Rattle.history.proofs.Entries.{inside-at, sound-at}
-use Rattle.history.proofs.Verdicts.{kept}
+use Rattle.history.proofs.Rows.{kept}
 use Rattle.gate.specs.declared.blocks.Totals.{Totals}
 use Rattle.gate.specs.Totals.{none}
 use Rattle.gate.proofs.Nothing.{nothing-steady}
-use Rattle.gate.specs.Sums.{alone, ofSet}
+use Rattle.gate.specs.Sums.{alone}
+use Rattle.gate.specs.Inner.{ofSet, levelSaid, someLeft}
 use Rattle.gate.specs.declared.threshold.Threshold.{Threshold}
-use Rattle.gate.specs.Relative.{levelSaid, said}
-use Rattle.gate.specs.Gate.{allGated, someLeft, gateOf}
+use Rattle.gate.specs.Relative.{said}
+use Rattle.gate.specs.Gate.{allGated, gateOf}
 use Rattle.gate.proofs.Questions.{answeredAt, leftAt, gate-at, nothing-refuses}
 use Rattle.gate.proofs.Alone.{alone-same}
 use Rattle.gate.proofs.gate_of_history.Statement.{statement}

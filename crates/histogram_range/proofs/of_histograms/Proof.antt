@@ -11,7 +11,7 @@ use Rattle.histogram_bins.specs.Bin.{bins}
 use Rattle.histogram.specs.Histogram.{empty}
 use Rattle.history.specs.Set.{Histories, histories, chosen, allShow, blocksInside, refusalOf, sound}
 use Rattle.history.proofs.Entries.{blocks-inside}
-use Rattle.history.proofs.Verdicts.{Kept, kept, number-none}
+use Rattle.history.proofs.Rows.{Kept, kept, number-none}
 use Rattle.histogram_range.specs.Counted.{addedTo, countedSpan}
 use Rattle.histogram_range.proofs.Adding.{empty-is, zeros-length, zeros-most, added-any}
 use Rattle.histogram_range.proofs.Answers.{histogram-refused, histogram-asked}

@@ -8,7 +8,7 @@ use lib.ListN.{length}
 use Rattle.refusals.specs.Refusal.{SET, STORE}
 use Rattle.history.specs.Set.{Histories, histories, chosen, outsideSet, allSound}
 use Rattle.history.proofs.Entries.{stores-inside}
-use Rattle.history.proofs.Verdicts.{none-outside, set-refused, one-unsound, all-well}
+use Rattle.history.proofs.Rows.{none-outside, set-refused, one-unsound, all-well}
 use Rattle.queue_range.specs.Listed.{listedRange, queueRange}
 use Rattle.queue_range.specs.Inner.{heldIn}
 use Rattle.queue_range.proofs.Looking.{held-any}

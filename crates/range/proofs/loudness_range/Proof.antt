@@ -7,7 +7,7 @@ use lib.Ieee.{Float}
 use lib.ListN.{length}
 use Rattle.refusals.specs.Refusal.{SET, number}
 use Rattle.history.specs.Set.{Histories, histories, historiesOf, numbered, refusalOf}
-use Rattle.history.proofs.Verdicts.{number-none, too-many, set-refused}
+use Rattle.history.proofs.Rows.{number-none, too-many, set-refused}
 use Rattle.range.specs.Range.{queuesIn}
 use Rattle.range.proofs.Answers.{histories-count, range-histograms, range-queues, range-refused, range-asked, over-mixed}
 use borrow.Author.Needs.{needs}

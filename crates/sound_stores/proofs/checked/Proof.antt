@@ -1,12 +1,12 @@
--- `sound_stores::checked` meets its contract: its tests are those of `refusalOf`, in order. Assumes nothing.
-use mathlib.Core.Path.{_≡_, sym, ap, _∙_}
+-- `sound_stores::checked` meets its contract: its tests are those of the set's rows, in order. Assumes nothing.
+use mathlib.Core.Path.{_≡_, sym, _∙_}
 use mathlib.Core.Bool.{false}
 use borrow.Author.Needs.{needs}
 use denote.Ref.{now}
 use lib.ListN.{length}
-use Rattle.history.specs.Set.{Histories, histories, chosen, outsideSet, numbered}
+use Rattle.history.specs.Set.{Histories, histories, chosen, outsideSet}
 use Rattle.history.proofs.Entries.{stores-inside}
-use Rattle.history.proofs.Verdicts.{none-outside, set-refused, one-unsound, all-well}
+use Rattle.history.proofs.Rows.{none-outside, set-refused, one-unsound, all-well}
 use Rattle.sound_stores.proofs.checked.Statement.{statement}
 use Rattle.sound_stores.proofs.checked.Tie as tie
 
@@ -21,7 +21,7 @@ outside-set-requires : tie.Need-outside-set-requires
 outside-set-requires c κs = search needs
 
 returns : tie.Need-returns
-returns c = sym (ap numbered (set-refused (given (c .before .before .before .before)) (sym (c .before .outside-set .ensures) ∙ c .if1 .taken)))
+returns c = sym (set-refused (given (c .before .before .before .before)) (sym (c .before .outside-set .ensures) ∙ c .if1 .taken))
 
 all-sound-requires : tie.Need-all-sound-requires
 all-sound-requires c κs =
@@ -32,12 +32,12 @@ all-sound-requires c κs =
 returns-2 : tie.Need-returns-2
 returns-2 c =
     let e = c .before .before in
-    sym (ap numbered (all-well (given (e .before .before .before .before)) (inside e) (sym (c .before .all-sound .ensures) ∙ c .if2 .taken)))
+    sym (all-well (given (e .before .before .before .before)) (inside e) (sym (c .before .all-sound .ensures) ∙ c .if2 .taken))
 
 returns-3 : tie.Need-returns-3
 returns-3 c =
     let e = c .before .before in
-    sym (ap numbered (one-unsound (given (e .before .before .before .before)) (inside e) (sym (c .before .all-sound .ensures) ∙ c .if2 .left)))
+    sym (one-unsound (given (e .before .before .before .before)) (inside e) (sym (c .before .all-sound .ensures) ∙ c .if2 .left))
 
 pub checked-spec : {M : Type 1} → statement M
 checked-spec = tie.close (tie.spec outside-set-requires returns all-sound-requires returns-2 returns-3)

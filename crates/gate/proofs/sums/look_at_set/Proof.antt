@@ -9,7 +9,7 @@ use denote.Ref.{now}
 use lib.ListN.{length, getD, take, drop}
 use Rattle.history.specs.Set.{mostHistories, Histories, histories, chosen, anyOutside, isSound, allSound, allShow}
 use Rattle.history.proofs.Entries.{past-the-last, inside-at, all-found, all-passed, all-end}
-use Rattle.history.proofs.Verdicts.{none-outside}
+use Rattle.history.proofs.Rows.{none-outside}
 use Rattle.gate.specs.Totals.{mostBlocks, none}
 use Rattle.gate.specs.Sums.{allTotals}
 use Rattle.gate.proofs.Adding.{totals-turn, totals-end}

@@ -1,4 +1,4 @@
--- `threshold::level` meets its contract: its tests are those of `levelOf`, in order. Assumes nothing.
+-- `threshold::level` meets its contract: its tests are those of `levelled`. Assumes nothing.
 use mathlib.Core.Path.{_≡_, refl, sym, ap, _∙_}
 use borrow.Author.Needs.{needs}
 use lib.Ieee.{Float, binary64, ofBits, round}

@@ -2,7 +2,7 @@
 use mathlib.Core.Path.{ap, _∙_}
 use borrow.Author.Needs.{needs}
 use denote.Ref.{now}
-use Rattle.gate.specs.Relative.{levelSaid}
+use Rattle.gate.specs.Inner.{levelSaid}
 use Rattle.gate.proofs.Levels.{history-level}
 use Rattle.gate.proofs.threshold.relative_threshold.Statement.{statement}
 use Rattle.gate.proofs.threshold.relative_threshold.Tie as tie

@@ -3,7 +3,7 @@ use mathlib.Core.Path.{sym, _∙_}
 use borrow.Author.Needs.{needs}
 use denote.Ref.{now}
 use Rattle.history.specs.Set.{Histories, histories}
-use Rattle.history.proofs.Verdicts.{too-many, not-too-many}
+use Rattle.history.proofs.Rows.{too-many, not-too-many}
 use Rattle.history.proofs.set.outside_set.Statement.{statement}
 use Rattle.history.proofs.set.outside_set.Tie as tie
 
