@@ -1,9 +1,16 @@
--- The mean of what was said is the mean of what is answered. Assumes nothing.
-use mathlib.Core.Path.{_≡_, ap}
-use Rattle.refusals.specs.Outcome.{Question, went, refused, Said, saidBy}
+-- The mean of what the gate said is gated energy. Assumes nothing.
+use mathlib.Core.Path.{_≡_, refl, ap, _∙_}
+use Rattle.refusals.specs.Outcome.{answers, Said, saidBy}
+use Rattle.refusals.proofs.Behind.{through}
+use Rattle.history.specs.Set.{Histories, historiesOf}
 use Rattle.gate.specs.declared.blocks.Totals.{Totals}
-use Rattle.gated_energy.specs.GatedEnergy.{meanAnswer, meanSaid}
+use Rattle.gate.specs.Totals.{meanOf}
+use Rattle.gate.specs.Gate.{leftOf, gateRows, gateOf}
+use Rattle.gated_energy.specs.GatedEnergy.{gatedEnergyOf}
+use Rattle.gated_energy.specs.Inner.{meanSaid}
 
-pub mean-said : (q : Question Totals) (told : Said Totals) → told ≡ saidBy q → meanSaid told ≡ saidBy (meanAnswer q)
-mean-said (went kept totals) told e = ap meanSaid e
-mean-said (refused r) told e = ap meanSaid e
+pub mean-said : (h : Histories) (told : Said Totals) → told ≡ saidBy (gateOf h) → meanSaid told ≡ saidBy (gatedEnergyOf h)
+unfolding gateOf gatedEnergyOf
+mean-said h told e =
+    let left = leftOf (historiesOf h) in
+    ap meanSaid e ∙ through meanSaid (λ n. refl) (gateRows h) (answers left) (answers (meanOf left)) refl

@@ -1,1 +1,2 @@
 pub mod GatedEnergy
+pub mod Inner

@@ -7,7 +7,8 @@ ghost use Rattle.refusals.specs.Outcome.{saidBy};
 ghost use Rattle.history.specs.Set.{histories};
 ghost use Rattle.gate.specs.Sums.{alone};
 ghost use Rattle.gate.specs.Gate.{said as saidGated};
-ghost use Rattle.gated_energy.specs.GatedEnergy.{meanSaid, gatedEnergyOf, said};
+ghost use Rattle.gated_energy.specs.GatedEnergy.{gatedEnergyOf, said};
+ghost use Rattle.gated_energy.specs.Inner.{meanSaid};
 
 // The answer.
 pub enum Energy {

@@ -3,7 +3,7 @@ use mathlib.Core.Path.{_∙_}
 use borrow.Author.Needs.{needs}
 use denote.Ref.{now}
 use Rattle.history.specs.Set.{histories}
-use Rattle.gate.specs.Gate.{gateOf, said}
+use Rattle.gate.specs.Gate.{said}
 use Rattle.gated_energy.proofs.Means.{mean-said}
 use Rattle.gated_energy.proofs.gated_energy.Statement.{statement}
 use Rattle.gated_energy.proofs.gated_energy.Tie as tie
@@ -18,7 +18,7 @@ returns : tie.Need-returns
 returns c =
     let gated = c .before .gate in
     let a = c .before .before .before .before .args in
-    c .mean-of .ensures ∙ mean-said (gateOf (histories (a .entries) (a .count) (now (a .counters)) (now (a .energies)))) (said (gated .result)) (gated .ensures)
+    c .mean-of .ensures ∙ mean-said (histories (a .entries) (a .count) (now (a .counters)) (now (a .energies))) (said (gated .result)) (gated .ensures)
 
 pub gated-energy-spec : {M : Type 1} → statement M
 gated-energy-spec = tie.close (tie.spec gate-requires mean-of-requires returns)

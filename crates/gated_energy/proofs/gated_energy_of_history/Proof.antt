@@ -3,7 +3,7 @@ use mathlib.Core.Path.{_∙_}
 use borrow.Author.Needs.{needs}
 use denote.Ref.{now}
 use Rattle.gate.specs.Sums.{alone}
-use Rattle.gate.specs.Gate.{gateOf, said}
+use Rattle.gate.specs.Gate.{said}
 use Rattle.gated_energy.proofs.Means.{mean-said}
 use Rattle.gated_energy.proofs.gated_energy_of_history.Statement.{statement}
 use Rattle.gated_energy.proofs.gated_energy_of_history.Tie as tie
@@ -18,7 +18,7 @@ returns : tie.Need-returns
 returns c =
     let gated = c .before .gate-of-history in
     let a = c .before .before .before .before .args in
-    c .mean-of .ensures ∙ mean-said (gateOf (alone (a .entry) (now (a .counters)) (now (a .energies)))) (said (gated .result)) (gated .ensures)
+    c .mean-of .ensures ∙ mean-said (alone (a .entry) (now (a .counters)) (now (a .energies))) (said (gated .result)) (gated .ensures)
 
 pub gated-energy-of-history-spec : {M : Type 1} → statement M
 gated-energy-of-history-spec = tie.close (tie.spec gate-of-history-requires mean-of-requires returns)

@@ -5,7 +5,7 @@ use lib.Ieee.{Float, binary64, div}
 use Rattle.refusals.specs.Outcome.{Said, says}
 use Rattle.gate.specs.declared.Gated.{Gated}
 use Rattle.gate.specs.Gate.{said}
-use Rattle.gated_energy.specs.GatedEnergy.{meanSaid}
+use Rattle.gated_energy.specs.Inner.{meanSaid}
 use Rattle.gated_energy.proofs.mean_of.Statement.{statement}
 use Rattle.gated_energy.proofs.mean_of.Tie as tie
 
