@@ -2,8 +2,9 @@
 use Prim.Native.Nat.{ℕ, _*_}
 use mathlib.Core.List.{List, [], _∷_}
 use Rattle.refusals.specs.Outcome.{Question, answers}
+use Rattle.refusals.specs.Rows.{byRows}
 use Rattle.histogram.specs.Histogram.{largestCount, empty, sums}
-use Rattle.history.specs.Set.{mostHistories, History, counted, listed, Histories, historiesOf, refusalOf, unlessRefused}
+use Rattle.history.specs.Set.{mostHistories, History, counted, listed, Histories, historiesOf, setRows}
 use Rattle.spans.specs.Span.{Span}
 pub use Rattle.block_range.specs.Counted.{AtMost, rankedIn}
 unfoldable pub use Rattle.block_range.specs.Counted.{blocksIn, runningFrom, firstPast, leftIn, gatedBlocks, countedSpan}
@@ -21,6 +22,6 @@ unfoldable pub addedTo : List ℕ → List History → List ℕ
 addedTo counters [] = counters
 addedTo counters (history ∷ rest) = addedTo (withHistory counters history) rest
 
--- the range over the histograms of a set: a set's refusal comes first
+-- the range over the histograms of a set
 unfoldable pub histogramRange : Histories → Question Span
-histogramRange h = unlessRefused (refusalOf h) (answers (countedSpan (addedTo empty (historiesOf h))))
+histogramRange h = byRows (setRows h) (answers (countedSpan (addedTo empty (historiesOf h))))

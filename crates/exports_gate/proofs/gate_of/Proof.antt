@@ -10,7 +10,7 @@ use Rattle.history.specs.Set.{histories}
 use Rattle.gate.specs.Sums.{alone}
 use Rattle.gate.specs.Gate.{gateOf}
 use Rattle.entries.specs.Sets.{numbersAnEntry}
-use Rattle.exports_gate.proofs.Alone.{set-of-one}
+use Rattle.exports_gate.proofs.Alone.{gate-of-one}
 use borrow.Author.Needs.{needs}
 use Rattle.exports_gate.proofs.gate_of.Statement.{statement}
 use Rattle.exports_gate.proofs.gate_of.Tie as tie
@@ -28,7 +28,7 @@ returns c =
     let energies = now (a .energies) in
     c .gate-of-history .ensures
     ∙ ap (λ (entry : Entry). saidBy (gateOf (alone entry counters energies))) (c .before .first-of .ensures)
-    ∙ ap saidBy (set-of-one (now (a .entries)) counters energies (c .before .before .if1 .taken))
+    ∙ ap saidBy (gate-of-one (now (a .entries)) counters energies (c .before .before .if1 .taken))
 
 entries-of-requires : tie.Need-entries-of-requires
 entries-of-requires c κs = search needs

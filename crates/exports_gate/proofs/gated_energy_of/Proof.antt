@@ -4,14 +4,13 @@ use mathlib.Core.List.{List}
 use Prim.Native.Nat.{_/_}
 use denote.Ref.{now}
 use lib.ListN.{length}
-use Rattle.refusals.specs.Outcome.{Question, saidBy}
+use Rattle.refusals.specs.Outcome.{saidBy}
 use Rattle.history.specs.declared.set.Entry.{Entry}
 use Rattle.history.specs.Set.{histories}
-use Rattle.gate.specs.declared.blocks.Totals.{Totals}
 use Rattle.gate.specs.Sums.{alone}
-use Rattle.gated_energy.specs.GatedEnergy.{meanAnswer, gatedEnergyOf}
+use Rattle.gated_energy.specs.GatedEnergy.{gatedEnergyOf}
 use Rattle.entries.specs.Sets.{numbersAnEntry}
-use Rattle.exports_gate.proofs.Alone.{set-of-one}
+use Rattle.exports_gate.proofs.Alone.{energy-of-one}
 use borrow.Author.Needs.{needs}
 use Rattle.exports_gate.proofs.gated_energy_of.Statement.{statement}
 use Rattle.exports_gate.proofs.gated_energy_of.Tie as tie
@@ -29,7 +28,7 @@ returns c =
     let energies = now (a .energies) in
     c .gated-energy-of-history .ensures
     ∙ ap (λ (entry : Entry). saidBy (gatedEnergyOf (alone entry counters energies))) (c .before .first-of .ensures)
-    ∙ ap (λ (q : Question Totals). saidBy (meanAnswer q)) (set-of-one (now (a .entries)) counters energies (c .before .before .if1 .taken))
+    ∙ ap saidBy (energy-of-one (now (a .entries)) counters energies (c .before .before .if1 .taken))
 
 entries-of-requires : tie.Need-entries-of-requires
 entries-of-requires c κs = search needs

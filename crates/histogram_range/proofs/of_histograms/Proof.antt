@@ -7,11 +7,12 @@ use native.Mathlib.Omega.{arith}
 use denote.Ref.{now}
 use lib.ListN.{length, take}
 use Rattle.refusals.specs.Outcome.{says, saidBy}
+use Rattle.refusals.specs.Rows.{numberOf}
 use Rattle.histogram_bins.specs.Bin.{bins}
 use Rattle.histogram.specs.Histogram.{empty}
-use Rattle.history.specs.Set.{Histories, histories, chosen, allShow, blocksInside, refusalOf, sound}
+use Rattle.history.specs.Set.{Histories, histories, chosen, allShow, blocksInside, setRows}
 use Rattle.history.proofs.Entries.{blocks-inside}
-use Rattle.history.proofs.Rows.{Kept, kept, number-none}
+use Rattle.history.proofs.Rows.{Kept, kept}
 use Rattle.histogram_range.specs.Counted.{addedTo, countedSpan}
 use Rattle.histogram_range.proofs.Adding.{empty-is, zeros-length, zeros-most, added-any}
 use Rattle.histogram_range.proofs.Answers.{histogram-refused, histogram-asked}
@@ -26,8 +27,8 @@ given k =
     histories (a .entries) (a .count) (now (a .counters)) (now (a .energies))
 
 -- nothing refuses it
-passed : (e : tie.Else1) → refusalOf (given (e .before)) ≡ sound
-passed e = number-none (refusalOf (given (e .before))) (sym (e .before .checked .ensures) ∙ e .if1 .left)
+passed : (e : tie.Else1) → numberOf (setRows (given (e .before))) ≡ 0
+passed e = sym (e .before .checked .ensures) ∙ e .if1 .left
 
 well : (e : tie.Else1) → Kept (given (e .before))
 well e = kept (given (e .before)) (passed e)
@@ -39,7 +40,7 @@ checked-requires : tie.Need-checked-requires
 checked-requires c κs = search needs
 
 returns : tie.Need-returns
-returns c = let k = c .before in sym (histogram-refused (given k) (k .checked .result) (k .checked .ensures) (c .if1 .taken))
+returns c = let k = c .before in histogram-refused (given k) (k .checked .result) (k .checked .ensures) (c .if1 .taken)
 
 of-one-requires : tie.Need-of-one-requires
 of-one-requires c κs =
