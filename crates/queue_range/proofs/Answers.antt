@@ -1,18 +1,22 @@
 -- What held energies come to over a work slice, case by case, and the range over a set's queues. Assumes nothing.
-use mathlib.Core.Path.{_≡_, refl, ap}
+use mathlib.Core.Path.{_≡_}
 use mathlib.Core.Bool.{true, false}
-use mathlib.Core.List.{List, _++_}
+use mathlib.Core.List.{List, [], _∷_, _++_}
 use Prim.Native.Nat.{ℕ, _≤_, _<_}
 use borrow.Author.Tests.{lt-ltb, le-ltb}
 use lib.ListN.{length, drop}
 use lib.Ieee.{Float}
-use Rattle.refusals.specs.Refusal.{Refusal, number, ROOM}
-use Rattle.refusals.specs.Outcome.{Outcome, went, refused, Said, refusal, saidBy, keptBy}
-use Rattle.history.specs.Set.{Histories, historiesOf, Verdict, sound, refusing, refusalOf, numbered, unlessRefused}
+use Rattle.refusals.specs.Refusal.{ROOM}
+use Rattle.refusals.specs.Outcome.{went, refused}
+use Rattle.refusals.specs.Rows.{numberOf}
+use Rattle.refusals.proofs.Rows.{Refuses}
+use Rattle.refusals.proofs.Behind.{stopped-first, goes-on}
+use Rattle.history.specs.Set.{Histories, historiesOf, setRows}
 use Rattle.rising_order.specs.Order.{inOrder}
-use Rattle.spans.specs.Span.{Span, notANumber}
+use Rattle.spans.specs.Span.{notANumber}
 use Rattle.rising_range.specs.Rising.{listedSpan}
-use Rattle.queue_range.specs.Listed.{allHeld, anyNan, listedRange, queueRange}
+use Rattle.queue_range.specs.Listed.{allHeld, anyNan, placedIn, heldSpan, roomRow, queueRange}
+use Rattle.queue_range.specs.Inner.{listedRange}
 
 module _ (held work : List Float) where
   pub listed-room : length work < length held → listedRange held work ≡ refused ROOM
@@ -28,21 +32,15 @@ module _ (held work : List Float) where
   unfolding listedRange
   listed-went h n = rw (le-ltb (length work) (length held) h, n)
 
--- ---- a set's refusal comes first
-module _ (v : Verdict) (outcome : Outcome (List Float) Span) (work : List Float) where
-  pub refused-first : (n : ℕ) → n ≡ numbered v → (n ≡ 0 → ⊥)
-      → (refusal n ≡ saidBy (unlessRefused v outcome)) × (work ≡ keptBy work (unlessRefused v outcome))
-  refused-first n e p = go v e
-    where
-      go : (w : Verdict) → n ≡ numbered w → (_≡_ {A = Said Span} (refusal n) (saidBy (unlessRefused w outcome))) × (work ≡ keptBy work (unlessRefused w outcome))
-      go sound e = absurd (p e)
-      go (refusing r) e = (ap refusal e, refl)
-
+-- ---- behind what refuses a set
 module _ (h : Histories) (work : List Float) where
-  pub queues-refused : (r : Refusal) → refusalOf h ≡ refusing r → (refusal (number r) ≡ saidBy (queueRange h work)) × (work ≡ keptBy work (queueRange h work))
-  unfolding queueRange
-  queues-refused r e = rw e (refl, refl)
+  abbrev held : List Float
+  held = allHeld (historiesOf h)
 
-  pub queues-asked : refusalOf h ≡ sound → queueRange h work ≡ listedRange (allHeld (historiesOf h)) work
+  pub queues-refused : (n : ℕ) → n ≡ numberOf (setRows h) → (n ≡ 0 → ⊥) → Refuses (queueRange h work) work n
   unfolding queueRange
-  queues-asked e = rw e
+  queues-refused n e p = stopped-first (went (placedIn work held) (heldSpan held)) (setRows h) (roomRow work held ∷ []) work n e p
+
+  pub queues-asked : numberOf (setRows h) ≡ 0 → queueRange h work ≡ listedRange held work
+  unfolding queueRange listedRange
+  queues-asked e = goes-on (went (placedIn work held) (heldSpan held)) (setRows h) (roomRow work held ∷ []) e

@@ -1,18 +1,21 @@
 -- What the steps of the range over queues are stated by: where the energies of an entry stand, and how many there can be.
 use mathlib.Core.Path.{_≡_}
 use mathlib.Core.Bool.{Bool, true, false, _&&_, _||_}
-use mathlib.Core.List.{List, [], _++_}
+use mathlib.Core.List.{List, [], _∷_, _++_}
 use Prim.Native.Nat.{ℕ, _+_, _-_, _*_, _≤_}
 use lib.ListN.{length, take, drop}
 use lib.Ieee.{Float}
+use Rattle.refusals.specs.Outcome.{Outcome, went}
+use Rattle.refusals.specs.Rows.{byRows}
 use Rattle.queue.specs.Queue.{longest, suits}
 use Rattle.history.specs.declared.set.Entry.{Entry}
 use Rattle.history.specs.declared.set.Shape.{Shape}
 use Rattle.history.specs.declared.set.Shape.the-variants.{Histogram, Queue as Queue-at}
 use Rattle.history.specs.Set.{mostHistories, storeEnd, noneBelow, shapeShows, allShow}
+use Rattle.spans.specs.Span.{Span}
 use Rattle.queue_range.specs.declared.Parts.{Parts}
 use Rattle.queue_range.specs.declared.Seen.{Seen}
-use Rattle.queue_range.specs.Listed.{heldBy, allHeld, anyNan}
+use Rattle.queue_range.specs.Listed.{heldBy, allHeld, anyNan, placedIn, heldSpan, roomRow}
 
 -- the most energies that 16 queues hold
 abbrev pub mostHeld : ℕ
@@ -55,3 +58,7 @@ withSeen before energies = record {
 
 abbrev pub seenOf : List Float → Seen
 seenOf energies = withSeen (record { blocks = 0; fine = true; nan = false }) energies
+
+-- what held energies come to over a work slice, behind what refuses a set
+unfoldable pub listedRange : List Float → List Float → Outcome (List Float) Span
+listedRange held work = byRows (roomRow work held ∷ []) (went (placedIn work held) (heldSpan held))

@@ -6,8 +6,9 @@ use lib.Dec.{ltb}
 use lib.ListN.{length, drop}
 use lib.Ieee.{Float, isNan}
 use Rattle.refusals.specs.Refusal.{ROOM}
-use Rattle.refusals.specs.Outcome.{Outcome, went, refused}
-use Rattle.history.specs.Set.{History, counted, listed, Histories, historiesOf, refusalOf, unlessRefused}
+use Rattle.refusals.specs.Outcome.{Outcome, went}
+use Rattle.refusals.specs.Rows.{Row, row, byRows}
+use Rattle.history.specs.Set.{History, counted, listed, Histories, historiesOf, setRows}
 use Rattle.rising_order.specs.Order.{inOrder}
 use Rattle.spans.specs.Span.{Span, notANumber}
 use Rattle.rising_range.specs.Rising.{listedSpan}
@@ -25,12 +26,19 @@ unfoldable pub anyNan : List Float → Bool
 anyNan [] = false
 anyNan (energy ∷ rest) = isNan energy || anyNan rest
 
--- what held energies come to over a lent work slice: its first places hold them in rising order, the others stay. Where one is NaN it stays whole
-unfoldable pub listedRange : List Float → List Float → Outcome (List Float) Span
-listedRange held work =
-    cond (ltb (length work) (length held)) (refused ROOM)
-    (cond (anyNan held) (went work notANumber) (went (inOrder held ++ drop (length held) work) (listedSpan (inOrder held))))
+-- what the work slice holds afterwards, and what is answered
+abbrev pub placedIn : List Float → List Float → List Float
+placedIn work held = cond (anyNan held) work (inOrder held ++ drop (length held) work)
+
+abbrev pub heldSpan : List Float → Span
+heldSpan held = cond (anyNan held) notANumber (listedSpan (inOrder held))
+
+-- ROOM: "in a range over queues, work slice shorter than the blocks held"
+abbrev pub roomRow : List Float → List Float → Row
+roomRow work held = row ROOM (ltb (length work) (length held))
 
 -- the range over the queues of a set, where the work slice holds `work`
 unfoldable pub queueRange : Histories → List Float → Outcome (List Float) Span
-queueRange h work = unlessRefused (refusalOf h) (listedRange (allHeld (historiesOf h)) work)
+queueRange h work =
+    let held = allHeld (historiesOf h) in
+    byRows (setRows h ++ roomRow work held ∷ []) (went (placedIn work held) (heldSpan held))

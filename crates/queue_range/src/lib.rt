@@ -12,8 +12,8 @@ ghost use Rattle.refusals.specs.Outcome.{saidBy, keptBy};
 ghost use Rattle.queue.specs.Queue.{longest};
 ghost use Rattle.history.specs.Set.{mostHistories, histories, storeEnd, storesInside, isSound, allSound};
 ghost use Rattle.spans.specs.Span.{said};
-ghost use Rattle.queue_range.specs.Listed.{listedRange, queueRange};
-ghost use Rattle.queue_range.specs.Inner.{mostHeld, heldIn, heldAt, suitsAt, part, StandIn, withSeen, seenOf};
+ghost use Rattle.queue_range.specs.Listed.{queueRange};
+ghost use Rattle.queue_range.specs.Inner.{mostHeld, heldIn, heldAt, suitsAt, part, StandIn, withSeen, seenOf, listedRange};
 
 // Where the energies of an entry stand in the lent energies: those of a queue between its head and the end of its store, and those from its store's start.
 struct Parts {

@@ -5,12 +5,13 @@ use mathlib.Core.List.{List}
 use denote.Ref.{now}
 use lib.Ieee.{Float}
 use lib.ListN.{length}
-use Rattle.refusals.specs.Refusal.{SET, STORE}
+use Rattle.refusals.specs.Refusal.{SET, STORE, number}
+use Rattle.refusals.proofs.Numbers.{no-number}
 use Rattle.history.specs.Set.{Histories, histories, chosen, outsideSet, allSound}
 use Rattle.history.proofs.Entries.{stores-inside}
 use Rattle.history.proofs.Rows.{none-outside, set-refused, one-unsound, all-well}
-use Rattle.queue_range.specs.Listed.{listedRange, queueRange}
-use Rattle.queue_range.specs.Inner.{heldIn}
+use Rattle.queue_range.specs.Listed.{queueRange}
+use Rattle.queue_range.specs.Inner.{heldIn, listedRange}
 use Rattle.queue_range.proofs.Looking.{held-any}
 use Rattle.queue_range.proofs.Answers.{queues-refused, queues-asked}
 use borrow.Author.Needs.{needs}
@@ -38,7 +39,8 @@ outside-set-requires c κs = search needs
 returns : tie.Need-returns
 returns c =
     let k = c .before in
-    queues-refused (given k) (work k) SET (set-refused (given k) (sym (k .outside-set .ensures) ∙ c .if1 .taken))
+    let r = queues-refused (given k) (work k) (number SET) (sym (set-refused (given k) (sym (k .outside-set .ensures) ∙ c .if1 .taken))) (no-number SET) in
+    (r .says, r .keeps)
 
 look-requires : tie.Need-look-requires
 look-requires c κs =
@@ -71,7 +73,8 @@ returns-3 : tie.Need-returns-3
 returns-3 c =
     let e = c .before .before in
     let k = e .before in
-    queues-refused (given k) (work k) STORE (one-unsound (given k) (inside e) (sym (c .before .look .ensures .0) ∙ c .if2 .left))
+    let r = queues-refused (given k) (work k) (number STORE) (sym (one-unsound (given k) (inside e) (sym (c .before .look .ensures .0) ∙ c .if2 .left))) (no-number STORE) in
+    (r .says, r .keeps)
 
 pub of-queues-spec : {M : Type 1} → statement M
 of-queues-spec =
