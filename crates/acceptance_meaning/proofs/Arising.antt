@@ -7,6 +7,7 @@ use Prim.Native.Nat.{ℕ, suc, _+_, _*_, _≤_, _<_, zero-le}
 use native.Mathlib.Omega.{arith}
 use lib.ListN.{length, getD, take, drop, length-take, length-append, replicate}
 use lib.Ieee.{Float}
+use Rattle.refusals.specs.Rows.{numberOf}
 use Rattle.histogram_bins.specs.Bin.{bins}
 use Rattle.histogram.specs.Histogram.{largestCount, empty, sums}
 use Rattle.queue.specs.Queue.{longest, suits, heldOf}
@@ -26,8 +27,7 @@ use Rattle.history.specs.Set.{
   shapeSound,
   isSound,
   allSound,
-  refusalOf,
-  sound,
+  setRows,
 }
 use Rattle.queue.proofs.Ring.{suited}
 use Rattle.queue.proofs.Held.{held-count}
@@ -72,7 +72,7 @@ module _ (counters : List ℕ) (energies : List Float) where
           omega (arith, rest (most + largestCount) (sums added (blockAt counters start)) (sums-most most added (blockAt counters start) a (part-most counters start bins b)))
       one (Queue-at start queue) rest = omega (arith, rest most added a)
 
-pub histogram-ranks : (h : Histories) → refusalOf h ≡ sound → AtMost largestCount (h .counters)
+pub histogram-ranks : (h : Histories) → numberOf (setRows h) ≡ 0 → AtMost largestCount (h .counters)
     → (n : ℕ) → n ≤ blocksIn (addedTo empty (historiesOf h)) → AsTheRust n
 unfolding empty
 histogram-ranks h s b n g =
@@ -108,7 +108,7 @@ held-most counters energies (entry ∷ l) s =
           f .most,
         )
 
-pub queue-ranks : (h : Histories) → refusalOf h ≡ sound → (n : ℕ) → n ≤ length (allHeld (historiesOf h)) → AsTheRust n
+pub queue-ranks : (h : Histories) → numberOf (setRows h) ≡ 0 → (n : ℕ) → n ≤ length (allHeld (historiesOf h)) → AsTheRust n
 queue-ranks h s n g =
     let k = kept h s in
     as-the-rust n (omega (arith, held-most (h .counters) (h .energies) (chosen h) (k .stores), length-take (h .count) (h .entries), k .few))

@@ -14,10 +14,11 @@ use lib.Seq.{drop-nil, getD-append-add}
 use lib.Ieee.{Float, nan, lt, le}
 use Rattle.floats.proofs.Order.{lt-not-le, is-false}
 use Rattle.refusals.specs.Outcome.{went}
+use Rattle.refusals.specs.Rows.{numberOf}
 use Rattle.tables.specs.Tables.{energyAt}
 use Rattle.histogram_bins.specs.Bin.{bins}
 use Rattle.histogram.specs.Histogram.{empty}
-use Rattle.history.specs.Set.{Histories, historiesOf, chosen, refusalOf, sound}
+use Rattle.history.specs.Set.{Histories, historiesOf, chosen, setRows}
 use Rattle.gate.specs.Totals.{none, binsFrom}
 use Rattle.gate.specs.Start.{startBin}
 use Rattle.gate.proofs.Start.{start-most}
@@ -33,7 +34,7 @@ use Rattle.acceptance_meaning.specs.Tech3342.{gated, absoluteGate, perce
 use Rattle.histogram_range.proofs.Counting.{count-is}
 use Rattle.histogram_range.proofs.Adding.{zeros-length}
 use Rattle.histogram_range.proofs.Answers.{counted-none, counted-some, left-none}
-use Rattle.range.proofs.Answers.{over-histograms, range-asked}
+use Rattle.range.proofs.Answers.{range-counted}
 use Rattle.acceptance_meaning.proofs.Arising.{added-length}
 use Rattle.acceptance_meaning.proofs.Gating.{gated-all}
 use Rattle.acceptance_meaning.proofs.Starting.{low-energy, energies-rise, from-start, below-start}
@@ -218,11 +219,10 @@ counted-is-tech3342 counters whole =
     ∙ sym (ap percentiles (left-is counters whole gate))
 
 -- over a set of histograms that nothing refuses
-pub range-of-histograms : (h : Histories) (work : List Float) → refusalOf h ≡ sound → queuesIn (historiesOf h) ≡ 0
+pub range-of-histograms : (h : Histories) (work : List Float) → numberOf (setRows h) ≡ 0 → queuesIn (historiesOf h) ≡ 0
     → rangeOf h work ≡ went work (rangeAbove (gateEnergy (binsFrom none 0 (addedTo empty (historiesOf h)))) (blocksFrom 0 (addedTo empty (historiesOf h))))
 unfolding empty
 range-of-histograms h work s q =
     let added = addedTo (replicate bins 0) (historiesOf h) in
-    range-asked h work s
-    ∙ over-histograms (historiesOf h) work q
+    range-counted h work q s
     ∙ ap (went work) (counted-is-tech3342 added (added-length (h .counters) (h .energies) (chosen h) (replicate bins 0) ∙ zeros-length))

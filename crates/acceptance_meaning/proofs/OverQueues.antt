@@ -9,7 +9,8 @@ use lib.Dec.{eqb}
 use lib.ListN.{length, getD, drop}
 use lib.Ieee.{Float, nan}
 use Rattle.refusals.specs.Outcome.{went}
-use Rattle.history.specs.Set.{Histories, historiesOf, chosen, refusalOf, sound, noneBelow}
+use Rattle.refusals.specs.Rows.{numberOf}
+use Rattle.history.specs.Set.{Histories, historiesOf, chosen, noneBelow, setRows}
 use Rattle.history.proofs.Rows.{kept}
 use Rattle.gate.specs.Totals.{none, energiesFrom}
 use Rattle.ranks.specs.Ranks.{lowRank, highRank}
@@ -23,8 +24,8 @@ use Rattle.queue_range.specs.Listed.{allHeld, anyNan}
 use Rattle.range.specs.Range.{queuesIn, rangeOf}
 use Rattle.acceptance_meaning.specs.Tech3342.{gated, relativeGate, percentileRank, percentiles, loudnessRange}
 use Rattle.queue_range.proofs.Looking.{above-held, none-below-held, held-any}
-use Rattle.queue_range.proofs.Answers.{listed-went}
-use Rattle.range.proofs.Answers.{over-queues, range-asked}
+use Rattle.queue_range.proofs.Answers.{listed-went, queues-asked}
+use Rattle.range.proofs.Answers.{range-queues}
 use Rattle.acceptance_meaning.proofs.Gating.{absolute-all, leading, gated-order}
 
 -- the ranks of the two percentiles
@@ -54,14 +55,14 @@ module _ (held : List Float) (b : noneBelow held ≡ true) (n : anyNan held ≡ 
       ∙ ap (λ (l : List Float). percentiles (gated (relativeGate l) l)) (sym (absolute-all held b))
 
 -- over a set of queues that nothing refuses, with room and without NaN
-pub range-of-queues : (h : Histories) (work : List Float) → refusalOf h ≡ sound → (queuesIn (historiesOf h) ≡ 0 → ⊥) → queuesIn (historiesOf h) ≡ length (historiesOf h)
+pub range-of-queues : (h : Histories) (work : List Float) → numberOf (setRows h) ≡ 0 → (queuesIn (historiesOf h) ≡ 0 → ⊥) → queuesIn (historiesOf h) ≡ length (historiesOf h)
     → length (allHeld (historiesOf h)) ≤ length work → anyNan (allHeld (historiesOf h)) ≡ false
     → rangeOf h work ≡ went (inOrder (allHeld (historiesOf h)) ++ drop (length (allHeld (historiesOf h))) work) (loudnessRange (allHeld (historiesOf h)))
 range-of-queues h work s some all room n =
     let held = allHeld (historiesOf h) in
     let k = kept h s in
     let b : noneBelow held ≡ true = ap noneBelow (sym (held-any (h .counters) (h .energies) (chosen h))) ∙ none-below-held (h .energies) (chosen h) (k .stores) in
-    range-asked h work s
-    ∙ over-queues (historiesOf h) work some all
+    range-queues h work some all
+    ∙ queues-asked h work s
     ∙ listed-went held work room n
     ∙ ap (went (inOrder held ++ drop (length held) work)) (listed-is-tech3342 held b n)

@@ -1,5 +1,5 @@
--- What the range over a set comes to, by how many of its histories are queues. Each law settles the tests of `rangeOver`. Assumes nothing.
-use mathlib.Core.Path.{_≡_, refl, ap}
+-- What the range over a set comes to, by how many of its histories are queues. Each law settles the tests of its rows. Assumes nothing.
+use mathlib.Core.Path.{_≡_, refl, sym, ap, _∙_}
 use mathlib.Core.List.{List, [], _∷_}
 use Prim.Native.Nat.{ℕ, suc, _+_, _≤_, _<_}
 use native.Mathlib.Omega.{arith}
@@ -7,30 +7,18 @@ use borrow.Author.Tests.{eq-eqb, ne-eqb}
 use lib.ListN.{length, getD, take, drop, length-take}
 use lib.Ieee.{Float}
 use Rattle.refusals.specs.Refusal.{MODE}
-use Rattle.refusals.specs.Outcome.{went, refused, answers, refusal, saidBy, keptBy}
+use Rattle.refusals.specs.Outcome.{Outcome, went, refused, answers, Said, saidBy, keptBy}
+use Rattle.refusals.specs.Rows.{byRows, numberOf}
+use Rattle.refusals.proofs.Rows.{Refuses, goes, rows-then}
+use Rattle.refusals.proofs.Behind.{stopped-first, goes-on, stays, through}
 use Rattle.histogram.specs.Histogram.{empty}
 use Rattle.history.specs.declared.set.Entry.{Entry}
-use Rattle.history.specs.Set.{
-  History,
-  counted,
-  listed,
-  Histories,
-  historiesOf,
-  shows,
-  allShow,
-  Verdict,
-  sound,
-  refusing,
-  refusalOf,
-  numbered,
-  unlessRefused,
-}
+use Rattle.history.specs.Set.{History, counted, listed, Histories, historiesOf, shows, allShow, setRows}
 use Rattle.history.proofs.Entries.{past-the-last, shows-next, shows-end}
 use Rattle.spans.specs.Span.{Span}
 use Rattle.histogram_range.specs.Counted.{addedTo, countedSpan, histogramRange}
-use Rattle.queue_range.specs.Listed.{allHeld, listedRange, queueRange}
-use Rattle.queue_range.proofs.Answers.{refused-first}
-use Rattle.range.specs.Range.{queuesBy, queuesIn, rangeOver, rangeOf}
+use Rattle.queue_range.specs.Listed.{allHeld, placedIn, heldSpan, roomRow, queueRange}
+use Rattle.range.specs.Range.{queuesBy, queuesIn, workAfter, spanOver, modeRows, rangeOf}
 
 -- ---- how many are queues
 module _ (counters : List ℕ) (energies : List Float) (l : List Entry) (count i : ℕ) where
@@ -58,39 +46,43 @@ pub histories-count : (counters : List ℕ) (energies : List Float) (l : List En
     → length (allShow counters energies (take count l)) ≡ count
 histories-count counters energies l count h = omega (arith, shown-length counters energies (take count l), length-take count l)
 
-module _ (histories : List History) (work : List Float) where
-  pub over-histograms : queuesIn histories ≡ 0 → rangeOver histories work ≡ went work (countedSpan (addedTo empty histories))
-  unfolding rangeOver
-  over-histograms e = rw (eq-eqb (queuesIn histories) 0 e)
-
-  pub over-queues : (queuesIn histories ≡ 0 → ⊥) → queuesIn histories ≡ length histories → rangeOver histories work ≡ listedRange (allHeld histories) work
-  unfolding rangeOver
-  over-queues z e = rw (ne-eqb (queuesIn histories) 0 z, eq-eqb (queuesIn histories) (length histories) e)
-
-  pub over-mixed : (queuesIn histories ≡ 0 → ⊥) → (queuesIn histories ≡ length histories → ⊥) → rangeOver histories work ≡ refused MODE
-  unfolding rangeOver
-  over-mixed z e = rw (ne-eqb (queuesIn histories) 0 z, ne-eqb (queuesIn histories) (length histories) e)
-
 -- ---- the question
--- histograms: the work slice stays
-histograms-said : (v : Verdict) (work : List Float) (span : Span)
-    → (saidBy (unlessRefused v (answers span)) ≡ saidBy (unlessRefused v (went work span))) × (work ≡ keptBy work (unlessRefused v (went work span)))
-histograms-said sound work span = (refl, refl)
-histograms-said (refusing r) work span = (refl, refl)
-
 module _ (h : Histories) (work : List Float) where
-  pub range-histograms : queuesIn (historiesOf h) ≡ 0 → (saidBy (histogramRange h) ≡ saidBy (rangeOf h work)) × (work ≡ keptBy work (rangeOf h work))
-  unfolding rangeOf histogramRange
-  range-histograms e = rw (over-histograms (historiesOf h) work e) (histograms-said (refusalOf h) work (countedSpan (addedTo empty (historiesOf h))))
+  abbrev shown : List History
+  shown = historiesOf h
 
-  pub range-queues : (queuesIn (historiesOf h) ≡ 0 → ⊥) → queuesIn (historiesOf h) ≡ length (historiesOf h) → rangeOf h work ≡ queueRange h work
-  unfolding rangeOf queueRange
-  range-queues z e = ap (unlessRefused (refusalOf h)) (over-queues (historiesOf h) work z e)
+  abbrev outcome : Outcome (List Float) Span
+  outcome = went (workAfter work shown) (spanOver shown)
 
-  pub range-refused : (n : ℕ) → n ≡ numbered (refusalOf h) → (n ≡ 0 → ⊥) → (refusal n ≡ saidBy (rangeOf h work)) × (work ≡ keptBy work (rangeOf h work))
+  pub range-refused : (n : ℕ) → n ≡ numberOf (setRows h) → (n ≡ 0 → ⊥) → Refuses (rangeOf h work) work n
   unfolding rangeOf
-  range-refused n e p = refused-first (refusalOf h) (rangeOver (historiesOf h) work) work n e p
+  range-refused n e p = stopped-first outcome (setRows h) (modeRows work shown) work n e p
 
-  pub range-asked : refusalOf h ≡ sound → rangeOf h work ≡ rangeOver (historiesOf h) work
-  unfolding rangeOf
-  range-asked e = rw e
+  -- histograms: the work slice stays
+  module _ (only : queuesIn shown ≡ 0) where
+    over-histograms : rangeOf h work ≡ byRows (setRows h) (went work (countedSpan (addedTo empty shown)))
+    unfolding rangeOf
+    over-histograms = rows-then outcome (setRows h) (modeRows work shown) ∙ rw (eq-eqb (queuesIn shown) 0 only) refl
+
+    pub range-histograms : (saidBy (histogramRange h) ≡ saidBy (rangeOf h work)) × (work ≡ keptBy work (rangeOf h work))
+    unfolding histogramRange
+    range-histograms =
+        let span = countedSpan (addedTo empty shown) in
+        rw over-histograms (through (λ (s : Said Span). s) (λ n. refl) (setRows h) (answers span) (went work span) refl, stays (setRows h) work span)
+
+    pub range-counted : numberOf (setRows h) ≡ 0 → rangeOf h work ≡ went work (countedSpan (addedTo empty shown))
+    range-counted e = over-histograms ∙ goes (went work (countedSpan (addedTo empty shown))) (setRows h) e
+
+  module _ (some : queuesIn shown ≡ 0 → ⊥) where
+    pub range-queues : queuesIn shown ≡ length shown → rangeOf h work ≡ queueRange h work
+    unfolding rangeOf queueRange
+    range-queues e =
+        let held = allHeld shown in
+        rows-then outcome (setRows h) (modeRows work shown)
+        ∙ rw (ne-eqb (queuesIn shown) 0 some, eq-eqb (queuesIn shown) (length shown) e)
+        (sym (rows-then (went (placedIn work held) (heldSpan held)) (setRows h) (roomRow work held ∷ [])))
+
+    pub range-mixed : (queuesIn shown ≡ length shown → ⊥) → numberOf (setRows h) ≡ 0 → rangeOf h work ≡ refused MODE
+    unfolding rangeOf
+    range-mixed z e =
+        goes-on outcome (setRows h) (modeRows work shown) e ∙ rw (ne-eqb (queuesIn shown) 0 some, ne-eqb (queuesIn shown) (length shown) z) refl

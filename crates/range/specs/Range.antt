@@ -1,17 +1,18 @@
 -- The range over a set of histories (01, step 9): "No histories or no blocks: Nothing. Histograms: counters added bin by bin; queues: all held energies in
 -- rising order." What it comes to over histograms stands in `histogram_range`, over queues in `queue_range` and `rising_range`.
 use Prim.Native.Nat.{ℕ, _+_}
-use mathlib.Core.Bool.{cond}
-use mathlib.Core.List.{List, [], _∷_}
-use lib.Dec.{eqb}
+use mathlib.Core.Bool.{Bool, not, _&&_, cond}
+use mathlib.Core.List.{List, [], _∷_, _++_}
+use lib.Dec.{eqb, ltb}
 use lib.ListN.{length}
 use lib.Ieee.{Float}
-use Rattle.refusals.specs.Refusal.{MODE}
-use Rattle.refusals.specs.Outcome.{Outcome, went, refused}
+use Rattle.refusals.specs.Refusal.{MODE, ROOM}
+use Rattle.refusals.specs.Outcome.{Outcome, went}
+use Rattle.refusals.specs.Rows.{Row, row, byRows}
 use Rattle.histogram.specs.Histogram.{empty}
-use Rattle.history.specs.Set.{History, counted, listed, Histories, historiesOf, refusalOf, unlessRefused}
+use Rattle.history.specs.Set.{History, counted, listed, Histories, historiesOf, setRows}
 use Rattle.histogram_range.specs.Counted.{addedTo, countedSpan}
-use Rattle.queue_range.specs.Listed.{allHeld, listedRange}
+use Rattle.queue_range.specs.Listed.{allHeld, placedIn, heldSpan}
 pub use Rattle.spans.specs.Span.{Span, found, nothing, notANumber, said}
 
 -- ---- the question
@@ -24,12 +25,26 @@ unfoldable pub queuesIn : List History → ℕ
 queuesIn [] = 0
 queuesIn (history ∷ rest) = queuesBy history + queuesIn rest
 
--- the range over histories, where the work slice holds `work`. MODE: "range over queues and histograms mixed"
-unfoldable pub rangeOver : List History → List Float → Outcome (List Float) Span
-rangeOver histories work =
-    cond (eqb (queuesIn histories) 0) (went work (countedSpan (addedTo empty histories)))
-    (cond (eqb (queuesIn histories) (length histories)) (listedRange (allHeld histories) work) (refused MODE))
+abbrev pub someQueue : List History → Bool
+someQueue histories = not (eqb (queuesIn histories) 0)
 
--- a set's refusal comes first
+-- what the work slice holds afterwards, and what is answered: over histograms it stays
+abbrev pub workAfter : List Float → List History → List Float
+workAfter work histories = cond (someQueue histories) (placedIn work (allHeld histories)) work
+
+abbrev pub spanOver : List History → Span
+spanOver histories = cond (someQueue histories) (heldSpan (allHeld histories)) (countedSpan (addedTo empty histories))
+
+-- MODE: "range over queues and histograms mixed". ROOM: "in a range over queues, work slice shorter than the blocks held"
+abbrev pub modeRows : List Float → List History → List Row
+modeRows work histories =
+    row MODE (someQueue histories && not (eqb (queuesIn histories) (length histories)))
+    ∷ row ROOM (someQueue histories && ltb (length work) (length (allHeld histories)))
+    ∷ []
+
+abbrev pub rangeRows : Histories → List Float → List Row
+rangeRows h work = setRows h ++ modeRows work (historiesOf h)
+
+-- where the work slice holds `work`
 unfoldable pub rangeOf : Histories → List Float → Outcome (List Float) Span
-rangeOf h work = unlessRefused (refusalOf h) (rangeOver (historiesOf h) work)
+rangeOf h work = byRows (rangeRows h work) (went (workAfter work (historiesOf h)) (spanOver (historiesOf h)))

@@ -1,15 +1,16 @@
 -- `range::loudness_range` meets its contract: too many entries, then by how many of the histories are queues. Assumes nothing.
-use mathlib.Core.Path.{_≡_, refl, sym, ap, _∙_}
+use mathlib.Core.Path.{_≡_, refl, sym, _∙_}
 use mathlib.Core.List.{List}
 use native.Mathlib.Omega.{arith}
 use denote.Ref.{now}
 use lib.Ieee.{Float}
 use lib.ListN.{length}
 use Rattle.refusals.specs.Refusal.{SET, number}
-use Rattle.history.specs.Set.{Histories, histories, historiesOf, numbered, refusalOf}
-use Rattle.history.proofs.Rows.{number-none, too-many, set-refused}
+use Rattle.refusals.proofs.Numbers.{no-number}
+use Rattle.history.specs.Set.{Histories, histories, historiesOf}
+use Rattle.history.proofs.Rows.{too-many, set-refused}
 use Rattle.range.specs.Range.{queuesIn}
-use Rattle.range.proofs.Answers.{histories-count, range-histograms, range-queues, range-refused, range-asked, over-mixed}
+use Rattle.range.proofs.Answers.{histories-count, range-refused, range-histograms, range-queues, range-mixed}
 use borrow.Author.Needs.{needs}
 use Rattle.range.proofs.loudness_range.Statement.{statement}
 use Rattle.range.proofs.loudness_range.Tie as tie
@@ -35,7 +36,8 @@ as-many q =
 returns : tie.Need-returns
 returns c =
     let s = c .before .before .before .before in
-    range-refused (given s) (work s) (number SET) (sym (ap numbered (set-refused (given s) (too-many (given s) (c .if1 .taken))))) (λ e. omega (arith, e))
+    let r = range-refused (given s) (work s) (number SET) (sym (set-refused (given s) (too-many (given s) (c .if1 .taken)))) (no-number SET) in
+    (r .says, r .keeps)
 
 queues-in-requires : tie.Need-queues-in-requires
 queues-in-requires c κs = search needs
@@ -72,7 +74,8 @@ returns-4 : tie.Need-returns-4
 returns-4 c =
     let k = c .before in
     let s = start (k .before .before .before) in
-    range-refused (given s) (work s) (k .checked .result) (k .checked .ensures) (c .if4 .taken)
+    let r = range-refused (given s) (work s) (k .checked .result) (k .checked .ensures) (c .if4 .taken) in
+    (r .says, r .keeps)
 
 returns-5 : tie.Need-returns-5
 returns-5 c =
@@ -81,8 +84,8 @@ returns-5 c =
     let q = e .before .before in
     let s = start q in
     let h = given s in
-    rw (range-asked h (work s) (number-none (refusalOf h) (sym (k .checked .ensures) ∙ c .if4 .left))
-    ∙ over-mixed (historiesOf h) (work s) (λ p. e .before .if2 .left (queues-are q ∙ p)) (λ p. e .if3 .left (queues-are q ∙ p ∙ as-many q))) (refl, refl)
+    rw (range-mixed h (work s) (λ p. e .before .if2 .left (queues-are q ∙ p)) (λ p. e .if3 .left (queues-are q ∙ p ∙ as-many q))
+    (sym (k .checked .ensures) ∙ c .if4 .left)) (refl, refl)
 
 pub loudness-range-spec : {M : Type 1} → statement M
 loudness-range-spec =
