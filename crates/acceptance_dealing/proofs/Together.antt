@@ -12,12 +12,13 @@ use lib.Ieee.{Float}
 use Rattle.refusals.specs.Outcome.{went}
 use Rattle.histogram_bins.specs.Bin.{bins}
 use Rattle.histogram.specs.Histogram.{empty}
+use Rattle.refusals.specs.Rows.{numberOf}
 use Rattle.history.specs.declared.set.Entry.{Entry}
-use Rattle.history.specs.Set.{mostHistories, History, counted, Histories, chosen, allShow, historiesOf, anyOutside, allSound, refusalOf, sound}
+use Rattle.history.specs.Set.{mostHistories, History, counted, Histories, chosen, allShow, historiesOf, anyOutside, allSound, setRows}
 use Rattle.history.proofs.Rows.{all-well, not-too-many}
 use Rattle.histogram_range.specs.Counted.{addedTo, countedSpan}
 use Rattle.range.specs.Range.{queuesIn, rangeOf}
-use Rattle.range.proofs.Answers.{range-asked, over-histograms}
+use Rattle.range.proofs.Answers.{range-counted}
 use Rattle.acceptance_dealing.specs.Dealing.{countIn, tally, countersOf, inOneRun, AllStand, Asks}
 use Rattle.acceptance_dealing.proofs.Tallies.{tally-empty, tally-sums, tally-same}
 use Rattle.acceptance_dealing.proofs.Counts.{count-append}
@@ -82,7 +83,7 @@ added-empty parts =
 
 -- ---- the question
 module _ (parts : List (List Float)) (few : length parts ≤ mostHistories) (question : Histories) (asks : Asks (counts parts) question) where
-  not-refused : refusalOf question ≡ sound
+  not-refused : numberOf (setRows question) ≡ 0
   not-refused =
       all-well question
       (not-too-many question (omega (arith, asks .number, counts-length parts))
@@ -94,7 +95,6 @@ module _ (parts : List (List Float)) (few : length parts ≤ mostHistories) (que
 
   pub range-together : (work : List Float) → rangeOf question work ≡ went work (countedSpan (countersOf (inOneRun parts)))
   range-together work =
-      range-asked question work not-refused
-      ∙ over-histograms (historiesOf question) work (ap queuesIn shows-each ∙ no-queues parts)
+      range-counted question work (ap queuesIn shows-each ∙ no-queues parts) not-refused
       ∙ ap (λ (l : List History). went work (countedSpan (addedTo empty l))) shows-each
       ∙ ap (λ (l : List ℕ). went work (countedSpan l)) (added-empty parts)

@@ -10,11 +10,13 @@ use lib.ListN.{length, drop, replicate}
 use lib.Ieee.{Float}
 use Rattle.tables.specs.Tables.{energyAt}
 use Rattle.histogram_bins.specs.Bin.{bins}
-use Rattle.history.specs.Set.{counted, Histories, historiesOf, refusalOf}
-use Rattle.history.proofs.Rows.{asked}
+use Rattle.refusals.specs.Outcome.{answers}
+use Rattle.refusals.proofs.Behind.{goes-on}
+use Rattle.history.specs.Set.{History, counted, Histories, historiesOf, setRows}
 use Rattle.gate.specs.declared.blocks.Totals.{Totals}
 use Rattle.gate.specs.Start.{startBin}
-use Rattle.gate.specs.Gate.{gatedOf, gateOver, gateOf}
+use Rattle.gate.specs.Sums.{allOf}
+use Rattle.gate.specs.Gate.{gatedOf, leftOf, gatingRows, gateOver, gateOf}
 use Rattle.histogram_range.specs.Counted.{blocksIn}
 use Rattle.acceptance_meaning.specs.Tech3342.{blocksFrom}
 use Rattle.histogram_range.proofs.Counting.{count-is}
@@ -27,7 +29,10 @@ use Rattle.acceptance_meaning.proofs.Equals.{strict-same}
 over-fed : (feeds : List Feed) (question : Histories) → Fed feeds question → gateOf question ≡ measured equalsKept (materialOf feeds)
 unfolding gateOf
 over-fed feeds question f =
-    asked (gateOver (historiesOf question)) (refusalOf question) (f .whole) ∙ ap gateOver (f .shown) ∙ gate-is-bs1770 feeds
+    let shown = historiesOf question in
+    goes-on (answers (leftOf shown)) (setRows question) (gatingRows (allOf shown) (leftOf shown)) (f .whole)
+    ∙ ap (λ (l : List History). gateOver (allOf l) (leftOf l)) (f .shown)
+    ∙ gate-is-bs1770 feeds
 
 counts-bin : (threshold : Float) (bin : ℕ) → bin < bins → leb (startBin threshold) bin ≡ equalsKept threshold (energyAt bin)
 counts-bin threshold bin h = go (leb (startBin threshold) bin) refl

@@ -14,11 +14,11 @@ use Rattle.history.specs.Set.{History, listed}
 use Rattle.queue_add.proofs.Fed.{held-of-new}
 use Rattle.gate.specs.declared.blocks.Totals.{Totals}
 use Rattle.gate.specs.Totals.{none, withBlocks, energiesFrom}
-use Rattle.gate.specs.Sums.{allTotals}
+use Rattle.gate.specs.Sums.{allTotals, allOf}
 use Rattle.gate.proofs.Looking.{same}
-use Rattle.gate.specs.Relative.{thresholdOf, unlessNan}
+use Rattle.gate.specs.Relative.{thresholdOf}
 use Rattle.gate.specs.Kept.{keptFrom}
-use Rattle.gate.specs.Gate.{allGated, someLeft, unlessNone, gateOver}
+use Rattle.gate.specs.Gate.{allGated, leftOf, gateOver}
 use Rattle.acceptance_meaning.specs.Bs1770.{equalsKept, through, eachThrough, noEnergy, added, historiesAdded, inOneRun, byHistory, together, absoluteGate, relativeGate, measured, Feed, materialOf, shownBy}
 
 -- ---- what queues hold of material: the blocks that are not dropped, which are those that the absolute gate lets through
@@ -100,16 +100,15 @@ second-pass gate totals (blocks ∷ rest) =
     ∙ second-pass gate (after totals here) rest
     ∙ same (omega (arith, length-append here others)) (sym (added-append (totals .sum) here others))
 
-gate-of-held : (material : List (List Float)) → gateOver (heldIn material) ≡ measured equalsKept material
-unfolding gateOver measured
+gate-of-held : (material : List (List Float)) → gateOver (allOf (heldIn material)) (leftOf (heldIn material)) ≡ measured equalsKept material
+unfolding measured
 gate-of-held material =
     let blocks = eachThrough equalsKept absoluteGate material in
-    let first : allTotals none (heldIn material) ≡ byHistory blocks = first-pass none material ∙ same (omega arith) refl in
+    let first : allOf (heldIn material) ≡ byHistory blocks = first-pass none material ∙ same (omega arith) refl in
     let second : allGated (relativeGate blocks) none (heldIn material) ≡ together (eachThrough equalsKept (relativeGate blocks) blocks)
     = second-pass (relativeGate blocks) none material ∙ same (omega arith) refl in
-    ap (λ (t : Totals). unlessNone t (unlessNan t (someLeft (allGated (thresholdOf t) none (heldIn material))))) first
-    ∙ ap (λ (t : Totals). unlessNone (byHistory blocks) (unlessNan (byHistory blocks) (someLeft t))) second
+    ap (λ (t : Totals). gateOver t (allGated (thresholdOf t) none (heldIn material))) first ∙ ap (gateOver (byHistory blocks)) second
 
 -- the gate question over queues to which material was added
-pub gate-is-bs1770 : (feeds : List Feed) → gateOver (shownBy feeds) ≡ measured equalsKept (materialOf feeds)
-gate-is-bs1770 feeds = ap gateOver (shown-held feeds) ∙ gate-of-held (materialOf feeds)
+pub gate-is-bs1770 : (feeds : List Feed) → gateOver (allOf (shownBy feeds)) (leftOf (shownBy feeds)) ≡ measured equalsKept (materialOf feeds)
+gate-is-bs1770 feeds = ap (λ (l : List History). gateOver (allOf l) (leftOf l)) (shown-held feeds) ∙ gate-of-held (materialOf feeds)

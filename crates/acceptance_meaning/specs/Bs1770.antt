@@ -17,8 +17,8 @@ use Rattle.queue.specs.Queue.{longest, over, started, heldOf}
 use Rattle.queue_add.specs.Adding.{fedTo, taken}
 use Rattle.history.specs.Set.{History, listed}
 use Rattle.gate.specs.declared.blocks.Totals.{Totals}
-use Rattle.gate.specs.Relative.{thresholdOf, unlessNan}
-use Rattle.gate.specs.Gate.{someLeft, unlessNone}
+use Rattle.gate.specs.Relative.{thresholdOf}
+use Rattle.gate.specs.Gate.{gateOver}
 
 -- whether a gate lets a block of an energy through
 abbrev pub Rule : Type 0
@@ -77,7 +77,7 @@ relativeGate blocks = thresholdOf (byHistory blocks)
 
 -- the blocks above both gates: their count and sum
 abbrev pub aboveBoth : Rule → List (List Float) → Question Totals
-aboveBoth rule blocks = unlessNone (byHistory blocks) (unlessNan (byHistory blocks) (someLeft (together (eachThrough rule (relativeGate blocks) blocks))))
+aboveBoth rule blocks = gateOver (byHistory blocks) (together (eachThrough rule (relativeGate blocks) blocks))
 
 unfoldable pub measured : Rule → List (List Float) → Question Totals
 measured rule material = aboveBoth rule (eachThrough rule absoluteGate material)

@@ -10,7 +10,8 @@ use lib.ListN.{length}
 use lib.Ieee.{Float, isNan}
 use Rattle.tables.specs.Tables.{energyAt}
 use Rattle.histogram_bins.specs.Bin.{bins}
-use Rattle.history.specs.Set.{counted, Histories, historiesOf, refusalOf, sound}
+use Rattle.refusals.specs.Rows.{numberOf}
+use Rattle.history.specs.Set.{counted, Histories, historiesOf, setRows}
 use Rattle.gate.specs.declared.blocks.Totals.{Totals}
 use Rattle.gate.specs.Start.{startBin}
 use Rattle.gate.specs.Gate.{gatedOf, gateOf}
@@ -19,7 +20,7 @@ use Rattle.acceptance_meaning.specs.Tech3342.{blocksFrom}
 
 -- the question asks over queues, each filled from its own part of the material, with room for it
 pub record Fed (feeds : List Feed) (question : Histories) : Type 0 where
-  pub whole : refusalOf question ≡ sound
+  pub whole : numberOf (setRows question) ≡ 0
   pub shown : historiesOf question ≡ shownBy feeds
 
 -- no block of the material is NaN or stands at a gate

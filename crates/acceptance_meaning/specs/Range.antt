@@ -9,7 +9,8 @@ use lib.ListN.{length, drop}
 use lib.Ieee.{Float}
 use Rattle.refusals.specs.Outcome.{went}
 use Rattle.histogram.specs.Histogram.{empty}
-use Rattle.history.specs.Set.{Histories, historiesOf, refusalOf, sound}
+use Rattle.refusals.specs.Rows.{numberOf}
+use Rattle.history.specs.Set.{Histories, historiesOf, setRows}
 use Rattle.gate.specs.Totals.{none, binsFrom}
 use Rattle.rising_order.specs.Order.{inOrder}
 use Rattle.spans.specs.Span.{gateEnergy}
@@ -20,7 +21,7 @@ use Rattle.acceptance_meaning.specs.Tech3342.{loudnessRange, rangeAbove,
 
 -- the question asks over queues only: one or more, none of them NaN's, and the work slice has room for what they hold
 pub record OverQueues (question : Histories) (work : List Float) : Type 0 where
-  pub whole : refusalOf question ≡ sound
+  pub whole : numberOf (setRows question) ≡ 0
   pub some : queuesIn (historiesOf question) ≡ 0 → ⊥
   pub only : queuesIn (historiesOf question) ≡ length (historiesOf question)
   pub room : length (allHeld (historiesOf question)) ≤ length work
@@ -28,7 +29,7 @@ pub record OverQueues (question : Histories) (work : List Float) : Type 0 where
 
 -- or over histograms only, or no history at all
 pub record OverHistograms (question : Histories) : Type 0 where
-  pub whole : refusalOf question ≡ sound
+  pub whole : numberOf (setRows question) ≡ 0
   pub only : queuesIn (historiesOf question) ≡ 0
 
 -- the counters of all histograms, and the gate that is worked from them

@@ -4,7 +4,8 @@ use Prim.Native.Nat.{ℕ, _≤_, _<_}
 use mathlib.Core.Path.{_≡_}
 use lib.ListN.{length}
 use Rattle.histogram.specs.Histogram.{largestCount, empty}
-use Rattle.history.specs.Set.{Histories, historiesOf, refusalOf, sound}
+use Rattle.refusals.specs.Rows.{numberOf}
+use Rattle.history.specs.Set.{Histories, historiesOf, setRows}
 use Rattle.ranks.specs.Ranks.{lowRank, highRank, rankInFloats, lowShare, highShare, exactBelow}
 use Rattle.histogram_range.specs.Counted.{AtMost}
 use Rattle.histogram_range.specs.Counted.{addedTo, blocksIn}
@@ -17,6 +18,6 @@ AsTheRust n = (rankInFloats lowShare n ≡ lowRank n) × (rankInFloats highShare
 pub record RanksAreTheRusts : Type 0 where
   pub below : (n : ℕ) → n < exactBelow → AsTheRust n
   -- over any set of histories that is not refused, of histograms whose counters are u32, or of queues: whatever the gate leaves, n is at most their blocks
-  pub histograms : (question : Histories) → refusalOf question ≡ sound → AtMost largestCount (question .counters)
+  pub histograms : (question : Histories) → numberOf (setRows question) ≡ 0 → AtMost largestCount (question .counters)
       → (n : ℕ) → n ≤ blocksIn (addedTo empty (historiesOf question)) → AsTheRust n
-  pub queues : (question : Histories) → refusalOf question ≡ sound → (n : ℕ) → n ≤ length (allHeld (historiesOf question)) → AsTheRust n
+  pub queues : (question : Histories) → numberOf (setRows question) ≡ 0 → (n : ℕ) → n ≤ length (allHeld (historiesOf question)) → AsTheRust n

@@ -3,19 +3,19 @@ use mathlib.Core.Path.{_≡_, refl, sym, ap, subst, _∙_}
 use mathlib.Core.Bool.{Bool, true, false, cond}
 use mathlib.Core.List.{List, _∷_}
 use Prim.Native.Nat.{ℕ, _+_, _/_}
-use native.Mathlib.Omega.{arith}
 use borrow.Author.Tests.{ltb-false}
 use lib.Dec.{ltb}
 use lib.Ieee.{Float}
 use lib.ListN.{length}
 use Rattle.refusals.specs.Refusal.{SET, number}
 use Rattle.refusals.specs.Outcome.{went, refused, answers, saidBy, keptBy}
+use Rattle.refusals.proofs.Numbers.{no-number}
 use Rattle.histogram_bins.specs.Bin.{bins}
 use Rattle.histogram.specs.Histogram.{empty, sums}
 use Rattle.history.specs.declared.set.Entry.{Entry}
 use Rattle.history.specs.declared.set.Shape.{Shape}
 use Rattle.history.specs.declared.set.Shape.the-variants.{Histogram}
-use Rattle.history.specs.Set.{mostHistories, Histories, histories, historiesOf, chosen, outsideSet, anyOutside, allSound, allShow, blockAt, numbered}
+use Rattle.history.specs.Set.{mostHistories, Histories, histories, historiesOf, chosen, outsideSet, anyOutside, allSound, allShow, blockAt}
 use Rattle.history.proofs.Entries.{histogram-outside}
 use Rattle.history.proofs.Rows.{set-refused, all-well}
 use Rattle.block_range.specs.Counted.{spanAt}
@@ -23,7 +23,7 @@ use Rattle.block_range.proofs.Answers.{span-there}
 use Rattle.histogram_range.specs.Counted.{addedTo, countedSpan}
 use Rattle.histogram_range.proofs.Single.{block-alone}
 use Rattle.range.specs.Range.{Span, queuesIn, rangeOf}
-use Rattle.range.proofs.Answers.{range-refused, range-asked, over-histograms}
+use Rattle.range.proofs.Answers.{range-refused, range-counted}
 use Rattle.entries.specs.Sets.{numbersAnEntry, entryAt, entriesFrom, setOf}
 use Rattle.exports_range.specs.Spans.{histogramAt}
 
@@ -54,8 +54,7 @@ module _ (rest : List Entry) (counters : List ℕ) (energies work : List Float) 
   answered : ltb (length counters) (start + bins) ≡ false → rangeOf one work ≡ went work (spanAt counters start)
   answered e =
       let ends = ltb-false (length counters) (start + bins) e in
-      range-asked one work (all-well one (inside e) sound-store)
-      ∙ over-histograms (historiesOf one) work no-queue
+      range-counted one work no-queue (all-well one (inside e) sound-store)
       ∙ ap (λ (l : List ℕ). went work (countedSpan l)) (added ∙ sym (block-alone counters start ends))
       ∙ ap (λ (s : Span). went work s) (sym (span-there counters start ends))
 
@@ -64,7 +63,7 @@ module _ (rest : List Entry) (counters : List ℕ) (energies work : List Float) 
     where
       go : (past : Bool) → ltb (length counters) (start + bins) ≡ past
           → (saidBy (cond past (refused SET) (answers (spanAt counters start))) ≡ saidBy (rangeOf one work)) × (work ≡ keptBy work (rangeOf one work))
-      go true e = range-refused one work (number SET) (sym (ap numbered (set-refused one (outside e)))) (λ z. omega (arith, z))
+      go true e = let r = range-refused one work (number SET) (sym (set-refused one (outside e))) (no-number SET) in (r .says, r .keeps)
       go false e = rw (answered e) (refl, refl)
 
 -- five numbers are one entry

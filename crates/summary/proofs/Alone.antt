@@ -9,11 +9,11 @@ use lib.ListN.{length, length-replicate}
 use Rattle.refusals.specs.Outcome.{went, refused, Question, answers, NoValues, done}
 use Rattle.histogram_bins.specs.Bin.{bins, binOf}
 use Rattle.histogram.specs.Histogram.{empty, sums}
-use Rattle.history.specs.Set.{blockAt, anyOutside, allSound, allShow, refusalOf}
+use Rattle.history.specs.Set.{blockAt, anyOutside, allSound, allShow}
 use Rattle.spans.specs.Span.{Span, found, nothing, notANumber}
 use Rattle.histogram_range.specs.Counted.{addedTo, blocksIn, countedSpan}
 use Rattle.histogram_range.proofs.Adding.{sums-length}
-use Rattle.range.specs.Range.{queuesIn, rangeOver, rangeOf}
+use Rattle.range.specs.Range.{queuesIn, rangeOf}
 use Rattle.layout.specs.declared.Kind.the-variants.{Histogram}
 use Rattle.layout.specs.Layout.{orderOf, bodyIn, frameOf, andThen}
 use Rattle.layout.proofs.Runs.{numbers-length}
@@ -27,7 +27,7 @@ abbrev pub spanOf : List ℕ → Span
 spanOf counters = countedSpan (sums empty (blockAt counters 0))
 
 range-alone : (counters : List ℕ) → length counters ≡ bins → rangeOf (alone counters) [] ≡ went [] (spanOf counters)
-unfolding alone rangeOf rangeOver refusalOf anyOutside allSound allShow queuesIn addedTo
+unfolding alone rangeOf anyOutside allSound allShow queuesIn addedTo
 range-alone counters h = rw (le-ltb (length counters) bins (omega (arith, h)))
 
 -- the figures of a span
