@@ -10,7 +10,7 @@ use lib.Dec.{T, eqb, ltb}
 use lib.Ieee.{Float, nan, inf, fin, up, down, below, level, lt, eq, isNan}
 use lib.Ieee.Positive.{positive}
 use Rattle.tables.proofs.Rules.{boundary-positive}
-use Rattle.gate.specs.Gate.{gateOver}
+use Rattle.acceptance_meaning.specs.Levels.{absoluteGate}
 use Rattle.acceptance_meaning.specs.Bs1770.{
   strict,
   equalsKept,
@@ -18,8 +18,8 @@ use Rattle.acceptance_meaning.specs.Bs1770.{
   eachThrough,
   byHistory,
   together,
-  absoluteGate,
   relativeGate,
+  unlessNone,
   aboveBoth,
   measured,
   noneAt,
@@ -126,4 +126,4 @@ unfolding measured
 strict-same material absolute known relative =
     let blocks = eachThrough equalsKept absoluteGate material in
     ap (aboveBoth strict) (each-same absoluteGate (not-nan absoluteGate (boundary-positive 0 (omega arith))) material absolute)
-    ∙ ap (λ (left : List (List Float)). gateOver (byHistory blocks) (together left)) (each-same (relativeGate blocks) known blocks relative)
+    ∙ ap (λ (left : List (List Float)). unlessNone (byHistory blocks) (together left)) (each-same (relativeGate blocks) known blocks relative)

@@ -14,7 +14,8 @@ use Rattle.rising_order.specs.Arrangement.{All, Above, Rising}
 use Rattle.rising_order.proofs.Energies.{not-below, above-up}
 use Rattle.rising_order.proofs.InOrder.{in-order-rises}
 use Rattle.rising_range.specs.Rising.{fromGate}
-use Rattle.acceptance_meaning.specs.Tech3342.{gated, absoluteGate}
+use Rattle.acceptance_meaning.specs.Levels.{absoluteGate}
+use Rattle.acceptance_meaning.specs.Tech3342.{gated}
 
 -- ---- a gate that takes none
 pub gated-all : (gate : Float) (l : List Float) → All (λ x. lt x gate ≡ false) l → gated gate l ≡ l

@@ -1,8 +1,9 @@
-mod Meaning
-mod Equals
 mod Arising
 mod Gating
 mod Starting
+mod Meaning
+mod Equals
+mod Sets
 mod OverQueues
 mod OverHistograms
 pub mod Gate

@@ -27,10 +27,12 @@ use Rattle.rising_order.specs.Order.{inOrder}
 use Rattle.rising_order.specs.Arrangement.{All, Rising}
 use Rattle.rising_order.proofs.Perms.{all-join}
 use Rattle.rising_order.proofs.InOrder.{rising-is}
-use Rattle.spans.specs.Span.{found, nothing, gateEnergy}
+use Rattle.spans.specs.Span.{found, nothing, hundredth, gateEnergy}
 use Rattle.histogram_range.specs.Counted.{blocksIn, runningFrom, firstPast, rankedIn, leftIn, countedSpan, addedTo}
 use Rattle.range.specs.Range.{queuesIn, rangeOf}
-use Rattle.acceptance_meaning.specs.Tech3342.{gated, absoluteGate, percentileRank, percentile, percentiles, rangeAbove, blocksFrom}
+use Rattle.acceptance_meaning.specs.Levels.{absoluteGate}
+use Rattle.acceptance_meaning.specs.Range.{added, binsGate}
+use Rattle.acceptance_meaning.specs.Tech3342.{gated, percentileRank, percentile, percentiles, rangeAbove, blocksFrom}
 use Rattle.histogram_range.proofs.Counting.{count-is}
 use Rattle.histogram_range.proofs.Adding.{zeros-length}
 use Rattle.histogram_range.proofs.Answers.{counted-none, counted-some, left-none}
@@ -39,6 +41,7 @@ use Rattle.acceptance_meaning.proofs.Arising.{added-length}
 use Rattle.acceptance_meaning.proofs.Gating.{gated-all}
 use Rattle.acceptance_meaning.proofs.Starting.{low-energy, energies-rise, from-start, below-start}
 use Rattle.acceptance_meaning.proofs.OverQueues.{low-is, high-is}
+use Rattle.acceptance_meaning.proofs.Sets.{every-bin}
 
 -- ---- how many, and two parts
 spread-length : (bin : ℕ) (l : List ℕ) → length (blocksFrom bin l) ≡ blocksIn l
@@ -218,11 +221,17 @@ counted-is-tech3342 counters whole =
     ∙ left-percentiles counters whole gate
     ∙ sym (ap percentiles (left-is counters whole gate))
 
+-- the gate of 01, from running totals, is the document's
+gate-of-bins : (counters : List ℕ) → gateEnergy (binsFrom none 0 counters) ≡ binsGate counters
+unfolding hundredth
+gate-of-bins counters = ap gateEnergy (sym (every-bin none 0 counters))
+
 -- over a set of histograms that nothing refuses
 pub range-of-histograms : (h : Histories) (work : List Float) → numberOf (setRows h) ≡ 0 → queuesIn (historiesOf h) ≡ 0
-    → rangeOf h work ≡ went work (rangeAbove (gateEnergy (binsFrom none 0 (addedTo empty (historiesOf h)))) (blocksFrom 0 (addedTo empty (historiesOf h))))
+    → rangeOf h work ≡ went work (rangeAbove (binsGate (added h)) (blocksFrom 0 (added h)))
 unfolding empty
 range-of-histograms h work s q =
-    let added = addedTo (replicate bins 0) (historiesOf h) in
+    let counters = addedTo (replicate bins 0) (historiesOf h) in
     range-counted h work q s
-    ∙ ap (went work) (counted-is-tech3342 added (added-length (h .counters) (h .energies) (chosen h) (replicate bins 0) ∙ zeros-length))
+    ∙ ap (went work) (counted-is-tech3342 counters (added-length (h .counters) (h .energies) (chosen h) (replicate bins 0) ∙ zeros-length))
+    ∙ ap (λ (gate : Float). went work (rangeAbove gate (blocksFrom 0 counters))) (gate-of-bins counters)

@@ -2,23 +2,26 @@
 -- hand: docs/DIFFERENCES.md says what is to be checked against it.
 -- The document: a block's loudness is -0.691 + 10 log10 of its energy. Blocks that are not above the absolute gate, -70 LKFS, are left out. The relative
 -- gate lies 10 LU below the loudness of the others' mean energy. The measurement is the mean energy of the blocks above both gates.
--- In energies, the absolute gate is boundary 0, and 10 LU less is a tenth.
+-- In energies, the absolute gate is boundary 0, and 10 LU less is a tenth (Levels.antt).
 -- What the document leaves open is taken from 01, step 8: f64 sums in the blocks' order, for the relative gate history by history, and then in one run;
--- the f64 nearest 1/10; NONE where there is no block to take a mean of, and NAN.
-use Prim.Native.Nat.{ℕ, _≤_}
+-- NONE where there is no block to take a mean of, and NAN.
+use Prim.Native.Nat.{ℕ, suc, _+_, _≤_}
 use mathlib.Core.Path.{_≡_}
 use mathlib.Core.Bool.{Bool, true, not, _&&_, cond}
 use mathlib.Core.List.{List, [], _∷_, _++_}
+use lib.Dec.{eqb}
+use lib.IntN.{pos}
 use lib.ListN.{length}
-use lib.Ieee.{Float, binary64, add, lt, eq, isNan, ofBits}
-use Rattle.refusals.specs.Outcome.{Question}
-use Rattle.tables.specs.Tables.{boundaryAt}
+use lib.Ieee.{Float, binary64, add, mul, ofInt, lt, eq, isNan, round}
+use Rattle.refusals.specs.Refusal.{NONE, NAN}
+use Rattle.refusals.specs.Outcome.{Question, went, answers, refused}
+use Rattle.tables.specs.Tables.{energyAt}
 use Rattle.queue.specs.Queue.{longest, over, started, heldOf}
 use Rattle.queue_add.specs.Adding.{fedTo, taken}
-use Rattle.history.specs.Set.{History, listed}
+use Rattle.history.specs.Set.{History, counted, listed}
 use Rattle.gate.specs.declared.blocks.Totals.{Totals}
-use Rattle.gate.specs.Relative.{thresholdOf}
-use Rattle.gate.specs.Gate.{gateOver}
+use Rattle.gate.specs.Relative.{Level, loudness, energy as energyOf}
+use Rattle.acceptance_meaning.specs.Levels.{absoluteGate, noEnergy, added, mean, tenLuBelow}
 
 -- whether a gate lets a block of an energy through
 abbrev pub Rule : Type 0
@@ -42,16 +45,9 @@ eachThrough rule gate [] = []
 eachThrough rule gate (blocks ∷ rest) = through rule gate blocks ∷ eachThrough rule gate rest
 
 -- ---- counts and sums
-abbrev pub noEnergy : Float
-noEnergy = ofBits binary64 0
-
--- energies added in order to a running sum
-unfoldable pub added : Float → List Float → Float
-added sum [] = sum
-added sum (energy ∷ rest) = added (add binary64 sum energy) rest
-
 -- the sums of the histories, each from 0, added to a running sum
 unfoldable pub historiesAdded : Float → List (List Float) → Float
+unfolding added
 historiesAdded sum [] = sum
 historiesAdded sum (blocks ∷ rest) = historiesAdded (add binary64 sum (added noEnergy blocks)) rest
 
@@ -66,21 +62,84 @@ byHistory material = record { count = length (inOneRun material); sum = historie
 abbrev pub together : List (List Float) → Totals
 together material = record { count = length (inOneRun material); sum = added noEnergy (inOneRun material) }
 
--- ---- the two gates
--- -70 LKFS
-abbrev pub absoluteGate : Float
-absoluteGate = boundaryAt 0
+abbrev pub meanOf : Totals → Float
+meanOf blocks = mean (blocks .count) (blocks .sum)
 
+-- ---- the measurement
 -- 10 LU below the mean of these blocks
 abbrev pub relativeGate : List (List Float) → Float
-relativeGate blocks = thresholdOf (byHistory blocks)
+relativeGate blocks = tenLuBelow (meanOf (byHistory blocks))
+
+-- all blocks above the absolute gate, and those of them above the relative one: no mean without a block, and none of a sum that is NaN
+abbrev pub unlessNone : Totals → Totals → Question Totals
+unlessNone all left =
+    cond (eqb (all .count) 0) (refused NONE) (cond (isNan (all .sum)) (refused NAN) (cond (eqb (left .count) 0) (refused NONE) (answers left)))
 
 -- the blocks above both gates: their count and sum
 abbrev pub aboveBoth : Rule → List (List Float) → Question Totals
-aboveBoth rule blocks = gateOver (byHistory blocks) (together (eachThrough rule (relativeGate blocks) blocks))
+aboveBoth rule blocks = unlessNone (byHistory blocks) (together (eachThrough rule (relativeGate blocks) blocks))
 
 unfoldable pub measured : Rule → List (List Float) → Question Totals
 measured rule material = aboveBoth rule (eachThrough rule absoluteGate material)
+
+-- the measurement itself is their mean energy
+abbrev pub meanOfThese : Question Totals → Question Float
+meanOfThese (went kept blocks) = answers (meanOf blocks)
+meanOfThese (refused r) = refused r
+
+abbrev pub measuredEnergy : Rule → List (List Float) → Question Float
+measuredEnergy rule material = meanOfThese (measured rule material)
+
+-- the relative gate of one history's material, as 01 answers it: -70.0 LUFS where no block is above the absolute gate
+abbrev pub gateLevel : List Float → Question Level
+gateLevel blocks =
+    cond (eqb (length blocks) 0) (answers (loudness (round binary64 true 70 1)))
+    (cond (isNan (added noEnergy blocks)) (refused NAN) (answers (energyOf (tenLuBelow (mean (length blocks) (added noEnergy blocks))))))
+
+unfoldable pub measuredGate : Rule → List Float → Question Level
+measuredGate rule material = gateLevel (through rule absoluteGate material)
+
+-- ---- histories of either kind, with what they hold
+-- so many blocks more, with their energy
+abbrev pub more : Totals → ℕ → Float → Totals
+more totals blocks energy = record { count = totals .count + blocks; sum = add binary64 (totals .sum) energy }
+
+abbrev pub noBlocks : Totals
+noBlocks = record { count = 0; sum = noEnergy }
+
+-- In a histogram a block stands at the energy of its bin, and the blocks of a bin are added at once, count times energy, bins upward: the named departure.
+unfoldable pub binsThrough : (Float → Bool) → Totals → ℕ → List ℕ → Totals
+binsThrough lets totals bin [] = totals
+binsThrough lets totals bin (count ∷ rest) =
+    binsThrough lets (cond (lets (energyAt bin)) (more totals count (mul binary64 (ofInt binary64 (pos count)) (energyAt bin))) totals) (suc bin) rest
+
+unfoldable pub energiesThrough : (Float → Bool) → Totals → List Float → Totals
+energiesThrough lets totals [] = totals
+energiesThrough lets totals (energy ∷ rest) = energiesThrough lets (cond (lets energy) (more totals 1 energy) totals) rest
+
+abbrev pub historyThrough : (Float → Bool) → Totals → History → Totals
+historyThrough lets totals (counted counters) = binsThrough lets totals 0 counters
+historyThrough lets totals (listed energies) = energiesThrough lets totals energies
+
+-- those that a rule lets through, in one running sum
+unfoldable pub allThrough : (Float → Bool) → Totals → List History → Totals
+unfolding binsThrough energiesThrough
+allThrough lets totals [] = totals
+allThrough lets totals (history ∷ rest) = allThrough lets (historyThrough lets totals history) rest
+
+-- all blocks, history by history, each history's sum from 0
+unfoldable pub allBlocks : Totals → List History → Totals
+unfolding binsThrough energiesThrough
+allBlocks totals [] = totals
+allBlocks totals (history ∷ rest) =
+    let these = historyThrough (λ energy. true) noBlocks history in
+    allBlocks (more totals (these .count) (these .sum)) rest
+
+unfoldable pub measuredSet : Rule → List History → Question Totals
+unfolding allThrough allBlocks
+measuredSet rule histories =
+    let all = allBlocks noBlocks histories in
+    unlessNone all (allThrough (rule (tenLuBelow (meanOf all))) noBlocks histories)
 
 -- no block is NaN or stands at the gate, of one history and of each
 unfoldable pub noneAt : Float → List Float → Bool

@@ -1,3 +1,4 @@
+pub mod Levels
 pub mod Bs1770
 pub mod Tech3342
 pub mod Gate

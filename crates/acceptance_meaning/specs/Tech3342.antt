@@ -9,23 +9,19 @@ use mathlib.Core.List.{List, [], _∷_, _++_}
 use lib.Dec.{eqb}
 use lib.ListN.{length, getD, replicate}
 use lib.Ieee.{Float, nan, lt}
-use Rattle.tables.specs.Tables.{boundaryAt, energyAt}
-use Rattle.gate.specs.Totals.{none, energiesFrom}
+use Rattle.tables.specs.Tables.{energyAt}
 use Rattle.rising_order.specs.Order.{inOrder}
-use Rattle.spans.specs.Span.{Span, found, nothing, gateEnergy}
+use Rattle.spans.specs.Span.{Span, found, nothing}
+use Rattle.acceptance_meaning.specs.Levels.{absoluteGate, noEnergy, added, mean, twentyLuBelow}
 
 -- the blocks that a gate leaves: those that are not below it
 unfoldable pub gated : Float → List Float → List Float
 gated gate [] = []
 gated gate (energy ∷ rest) = cond (lt energy gate) (gated gate rest) (energy ∷ gated gate rest)
 
--- -70 LUFS
-abbrev pub absoluteGate : Float
-absoluteGate = boundaryAt 0
-
--- 20 LU below the mean
+-- 20 LU below the mean of these blocks, which are added in rising order
 abbrev pub relativeGate : List Float → Float
-relativeGate blocks = gateEnergy (energiesFrom none (inOrder blocks))
+relativeGate blocks = twentyLuBelow (mean (length blocks) (added noEnergy (inOrder blocks)))
 
 -- the rank of a percentile among so many blocks, the first at 0: the whole number nearest to its share of the last rank, a tie upward
 abbrev pub percentileRank : ℕ → ℕ → ℕ
