@@ -11,7 +11,7 @@ use Rattle.histogram_merge.specs.Merge.{mergeRows, mergeInto}
 use Rattle.queue.specs.Queue.{Stored}
 use Rattle.queue_add.specs.Adding.{queueRows, enqueued}
 use Rattle.history.specs.declared.set.Entry.{Entry}
-use Rattle.history.specs.Set.{Histories, setRows}
+use Rattle.history.specs.Set.{Histories}
 use Rattle.gate.specs.Relative.{relativeRows, relativeOf}
 use Rattle.gate.specs.Gate.{gateRows, gateOf}
 use Rattle.gated_energy.specs.GatedEnergy.{gatedEnergyOf}
