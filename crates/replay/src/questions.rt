@@ -1,8 +1,11 @@
-// The cases of questions: the gate and the range of a set of up to 4 histories.
+// The cases of questions: the gate, the range and gated energy of a set of up to 4 histories, and the first's relative threshold.
 // A case: u16 number of histories; 4 times u16 kind (0 a histogram, 1 a queue), start, maximum, head and held; 8 times u16 bin and u32 count;
 // u64 patterns of 24 energies. Then the answers: u16 refusal of the gate (0: none), u64 blocks, u64 pattern of their sum; u16 code of the range, u64 patterns
-// of its two energies; u64 patterns of the 24 places to work in, all 0 before. What is not answered is 0.
+// of its two energies; u64 patterns of the 24 places to work in, all 0 before; u16 refusal of gated energy, u64 pattern of it; u16 code of the threshold
+// (130: a loudness), u64 pattern of it. What is not answered is 0.
 use gate::Gated;
+use gate::threshold::Threshold;
+use gated_energy::Energy;
 use history::set::Entry;
 use history::set::Shape;
 use queue::Queue;
@@ -13,7 +16,10 @@ pub(crate) fn answers_same(case: &[u8]) -> bool {
     let mut energies = [0.0; 24];
     fill_counters(case, &mut counters);
     fill_energies(case, &mut energies);
-    gate_same(case, &counters, &energies) && range_same(case, &counters, &energies)
+    gate_same(case, &counters, &energies)
+        && range_same(case, &counters, &energies)
+        && energy_same(case, &counters, &energies)
+        && threshold_same(case, &counters, &energies)
 }
 
 fn number_at(case: &[u8], at: usize) -> usize {
@@ -137,5 +143,25 @@ fn ranged_same(case: &[u8], range: Range) -> bool {
         Range::Nothing => code == 128,
         Range::NotANumber => code == 129,
         Range::Refused(number) => code == number as u64,
+    }
+}
+
+fn energy_same(case: &[u8], counters: &[u32], energies: &[f64]) -> bool {
+    let refusal = fields::number_at(case, 510, 2);
+    let pattern = fields::number_at(case, 512, 8);
+    let set = entries_of(case);
+    match gated_energy::gated_energy(set, number_at(case, 0), counters, energies) {
+        Energy::Of(mean) => refusal == 0 && pattern == floats::pattern_of(mean),
+        Energy::Refused(number) => refusal == number as u64,
+    }
+}
+
+fn threshold_same(case: &[u8], counters: &[u32], energies: &[f64]) -> bool {
+    let code = fields::number_at(case, 520, 2);
+    let pattern = fields::number_at(case, 522, 8);
+    match gate::threshold::relative_threshold(entry_at(case, 2), counters, energies) {
+        Threshold::Energy(energy) => code == 0 && pattern == floats::pattern_of(energy),
+        Threshold::Loudness(loudness) => code == 130 && pattern == floats::pattern_of(loudness),
+        Threshold::Refused(number) => code == number as u64,
     }
 }

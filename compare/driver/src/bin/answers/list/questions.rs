@@ -1,4 +1,4 @@
-//! The cases of questions: the gate and the range of a set of up to 4 histories.
+//! The cases of questions: the gate, the range and gated energy of a set of up to 4 histories, and the first's relative threshold.
 
 use driver::energies;
 use driver::oracle::BOUNDARIES;
@@ -15,11 +15,14 @@ const QUESTIONS: usize = 512;
 const ENERGIES: usize = 24;
 const NOTHING: u8 = 128;
 const NOT_A_NUMBER: u8 = 129;
+const EMPTY: u8 = 130;
 
 /// Operation 7: u16 number of histories; 4 times u16 kind, start, maximum, head and held; 8 times u16
 /// bin and u32 count, all other counters being 0; u64 patterns of 24 energies. Then u16 refusal of the
 /// gate, u64 blocks, u64 pattern of their sum; u16 code of the range, u64 patterns of low and high; u64
-/// patterns of the 24 places to work in, which are 0 before. What is not answered is 0.
+/// patterns of the 24 places to work in, which are 0 before; u16 refusal of gated energy, u64 pattern of
+/// it; u16 code of the first history's relative threshold (130: a loudness), u64 pattern. What is not
+/// answered is 0.
 pub fn questions() -> Vec<Vec<u8>> {
     let mut rng = Rng::new(SEED);
     (0..QUESTIONS).map(|i| case(i, &mut rng)).collect()
@@ -50,13 +53,16 @@ fn case(i: usize, rng: &mut Rng) -> Vec<u8> {
         case.extend(count.to_le_bytes());
     }
     case.extend(patterns(&energies));
-    entries.truncate(5 * number);
-    let set = Set {
+    let mut set = Set {
         entries,
         counters,
         energies,
     };
+    let mut first = set.clone();
+    first.entries.truncate(5);
+    set.entries.truncate(5 * number);
     answers(&set, &mut case);
+    threshold(&first, &mut case);
     case
 }
 
@@ -132,6 +138,40 @@ fn answers(set: &Set, case: &mut Vec<u8>) {
     case.extend(u16::from(code).to_le_bytes());
     case.extend(patterns(&[low, high]));
     case.extend(patterns(&work));
+    let energy = if number == 0 { sum / blocks as f64 } else { 0.0 };
+    if number == 0 {
+        same(History::gated_loudness_multiple(&rust), energy);
+    }
+    case.extend(u16::from(number).to_le_bytes());
+    case.extend(patterns(&[energy]));
+}
+
+/// The relative threshold of a single history, in document 01's words, beside the Rust's loudness.
+fn threshold(alone: &Set, case: &mut Vec<u8>) {
+    let (code, value) = match alone.refusal() {
+        0 => level(alone),
+        refusal => (refusal, 0.0),
+    };
+    case.extend(u16::from(code).to_le_bytes());
+    case.extend(patterns(&[value]));
+}
+
+fn level(alone: &Set) -> (u8, f64) {
+    let loudness = alone.rust()[0].relative_threshold();
+    match alone.threshold() {
+        Some(energy) => {
+            same(loudness, energy);
+            (0, energy)
+        }
+        None if loudness.is_nan() => (NAN, 0.0),
+        None => (EMPTY, loudness),
+    }
+}
+
+/// A loudness of the Rust is that of an energy, infinities and NaN among them.
+fn same(loudness: f64, energy: f64) {
+    let ours = energy_to_loudness(energy);
+    assert!(ours == loudness || ours.is_nan() && loudness.is_nan());
 }
 
 /// The two energies that the Rust's range is taken from, in document 01's words.
