@@ -1,3 +1,4 @@
 pub mod Order
 pub mod Nan
-pub mod Larger
+pub mod Largest
+pub mod Magnitude

@@ -7,15 +7,17 @@ use mathlib.Core.List.{List}
 use lib.ListN.{length, getD}
 use lib.Ieee.{Float, nan}
 use Rattle.samples.specs.Frames.{channelOf}
-use Rattle.sample_peak.specs.Peak.{greater, largestFrom, nought, peaksAfter}
+use Rattle.floats.specs.Entry.{plusZero}
+use Rattle.floats.specs.Largest.{greater, largest}
+use Rattle.sample_peak.specs.Peak.{peaksAfter}
 use Rattle.sample_peak.proofs.Loudest.{channels-first, channels-past}
 
 module _ (channels : ℕ) (samples stored : List Float) (k : ℕ) where
   pub own-peak : k < channels → channels ≤ length stored
-      → getD (peaksAfter channels samples stored) k nan ≡ greater (getD stored k nan) (largestFrom nought (channelOf channels samples k))
+      → getD (peaksAfter channels samples stored) k nan ≡ greater (getD stored k nan) (largest plusZero (channelOf channels samples k))
   unfolding peaksAfter
-  own-peak h few = channels-first (λ j peak. greater peak (largestFrom nought (channelOf channels samples j))) channels k stored h few
+  own-peak h few = channels-first (λ j peak. greater peak (largest plusZero (channelOf channels samples j))) channels k stored h few
 
   pub past-peak : channels ≤ k → getD (peaksAfter channels samples stored) k nan ≡ getD stored k nan
   unfolding peaksAfter
-  past-peak h = channels-past (λ j peak. greater peak (largestFrom nought (channelOf channels samples j))) channels 0 k stored (omega arith)
+  past-peak h = channels-past (λ j peak. greater peak (largest plusZero (channelOf channels samples j))) channels 0 k stored (omega arith)

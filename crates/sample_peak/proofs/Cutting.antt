@@ -7,23 +7,26 @@ use lib.ListN.{length, getD}
 use lib.Ieee.{Float, nan}
 use Rattle.samples.specs.Frames.{column, channelOf}
 use Rattle.sources.proofs.Cutting.{Next, joined, frames-are}
-use Rattle.sample_peak.specs.Peak.{greater, largestFrom, nought, overChannels, peaksAfter}
-use Rattle.sample_peak.proofs.Loudest.{peaks, largest-append, channels-same}
+use Rattle.floats.specs.Entry.{plusZero}
+use Rattle.floats.specs.Largest.{greater, largest}
+use Rattle.sample_peak.specs.Peak.{overChannels, peaksAfter}
+use Rattle.floats.proofs.Magnitude.{largest-append}
+use Rattle.sample_peak.proofs.Loudest.{peaks, channels-same}
 
 pub cut-peaks : (src block : List Float) (channels done count : ℕ) → Next src block channels done count
-    → (j : ℕ) (top : Float) → j < channels → top ≡ largestFrom nought (column src j channels done)
-    → peaks block channels count j top ≡ largestFrom nought (column src j channels (done + count))
+    → (j : ℕ) (top : Float) → j < channels → top ≡ largest plusZero (column src j channels done)
+    → peaks block channels count j top ≡ largest plusZero (column src j channels (done + count))
 cut-peaks src block channels done count next j top h e =
-    ap (λ (t : Float). largestFrom t (column block j channels count)) e
-    ∙ sym (largest-append nought (column src j channels done) (column block j channels count))
-    ∙ ap (largestFrom nought) (joined src block channels done count next j h)
+    ap (λ (t : Float). largest t (column block j channels count)) e
+    ∙ sym (largest-append plusZero (column src j channels done) (column block j channels count))
+    ∙ ap (largest plusZero) (joined src block channels done count next j h)
 
 -- the call, from each channel's largest magnitude over the frames that the code counts
 pub peaks-are : (channels counted : ℕ) (src stored tops : List Float) → 0 < channels → counted ≡ length src
-    → ((k : ℕ) → k < channels → getD tops k nan ≡ largestFrom nought (column src k channels (counted / channels)))
+    → ((k : ℕ) → k < channels → getD tops k nan ≡ largest plusZero (column src k channels (counted / channels)))
     → overChannels (λ k peak. greater peak (getD tops k nan)) channels 0 stored ≡ peaksAfter channels src stored
 unfolding peaksAfter channelOf
 peaks-are channels counted src stored tops some e h =
-    channels-same (λ k peak. greater peak (getD tops k nan)) (λ k peak. greater peak (largestFrom nought (column src k channels (counted / channels)))) channels 0 stored
+    channels-same (λ k peak. greater peak (getD tops k nan)) (λ k peak. greater peak (largest plusZero (column src k channels (counted / channels)))) channels 0 stored
     (λ j x q. ap (greater x) (h j (omega arith)))
-    ∙ ap (λ (n : ℕ). overChannels (λ k peak. greater peak (largestFrom nought (column src k channels n))) channels 0 stored) (frames-are channels counted (length src) some e)
+    ∙ ap (λ (n : ℕ). overChannels (λ k peak. greater peak (largest plusZero (column src k channels n))) channels 0 stored) (frames-are channels counted (length src) some e)

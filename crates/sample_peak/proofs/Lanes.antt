@@ -11,28 +11,29 @@ use lib.Dec.{T}
 use lib.ListN.{length, getD}
 use lib.Ieee.{Float, nan, inf, fin, binary64, lt, isNan, fits}
 use Rattle.floats.proofs.Order.{is-true, is-false}
-use Rattle.floats.proofs.Larger.{right-number, beaten}
+use Rattle.floats.proofs.Largest.{right-number, beaten}
 use Rattle.samples.specs.Frames.{silence, column}
 use Rattle.samples.proofs.Columns.{within, column-append}
-use Rattle.sample_peak.specs.Peak.{absolute, greater, largestFrom, nought}
-use Rattle.sample_peak.proofs.Loudest.{High, largest-append}
+use Rattle.floats.specs.Entry.{plusZero}
+use Rattle.floats.specs.Largest.{magnitude, greater, greatest, largest}
+use Rattle.floats.proofs.Magnitude.{magnitude-again, High, largest-append}
 use Rattle.sample_peak.proofs.Tops.{Top, Stands, top-of, one-top, same-magnitudes}
 
 -- what a turn from place `at` on does to lane j's top
 abbrev pub turn : List Float → ℕ → ℕ → Float → Float
-turn block at j top = greater top (absolute (getD block (at + j) nan))
+turn block at j top = greater top (magnitude (getD block (at + j) nan))
 
 -- one turn more
-pub next-turn : (block : List Float) (lanes done j : ℕ) (top : Float) → done * lanes + j < length block → top ≡ largestFrom nought (column block j lanes done)
-    → turn block (done * lanes) j top ≡ largestFrom nought (column block j lanes (done + 1))
-unfolding largestFrom column
+pub next-turn : (block : List Float) (lanes done j : ℕ) (top : Float) → done * lanes + j < length block → top ≡ largest plusZero (column block j lanes done)
+    → turn block (done * lanes) j top ≡ largest plusZero (column block j lanes (done + 1))
+unfolding greatest column
 next-turn block lanes done j top here e =
     let p : done * lanes + j ≡ j + done * lanes = omega arith in
-    ap (λ (t : Float). greater t (absolute (getD block (done * lanes + j) nan))) e
-    ∙ ap (λ (x : Float). greater (largestFrom nought (column block j lanes done)) (absolute x)) (within block (done * lanes + j) nan silence here)
-    ∙ ap (λ (i : ℕ). largestFrom (largestFrom nought (column block j lanes done)) (column block i lanes 1)) p
-    ∙ sym (largest-append nought (column block j lanes done) (column block (j + done * lanes) lanes 1))
-    ∙ ap (largestFrom nought) (sym (column-append block j lanes done 1))
+    ap (λ (t : Float). greater t (magnitude (getD block (done * lanes + j) nan))) e
+    ∙ ap (λ (x : Float). greater (largest plusZero (column block j lanes done)) (magnitude x)) (within block (done * lanes + j) nan silence here)
+    ∙ ap (λ (i : ℕ). largest (largest plusZero (column block j lanes done)) (column block i lanes 1)) p
+    ∙ sym (largest-append plusZero (column block j lanes done) (column block (j + done * lanes) lanes 1))
+    ∙ ap (largest plusZero) (sym (column-append block j lanes done 1))
 
 -- ---- how many lanes there are
 
@@ -54,13 +55,6 @@ turns-fit count each channels =
     subst (λ (x : ℕ). x ≤ count * channels) (mul-assoc (count / each) each channels)
     (mul-le-mul-right channels (omega (arith, div-add-mod' count each)))
 
--- ---- magnitudes
-
-absolute-again : (x : Float) → absolute (absolute x) ≡ absolute x
-absolute-again nan = refl
-absolute-again (inf s) = refl
-absolute-again (fin s m e) = refl
-
 pub fits-past-end : (l : List Float) (i : ℕ) → T (fits binary64 (getD l i nan)) → T (fits binary64 (getD l i silence))
 unfolding fits
 fits-past-end [] i h = tt
@@ -70,7 +64,7 @@ fits-past-end (x ∷ l) (suc i) h = fits-past-end l i h
 -- ---- a channel's lanes
 
 module _ (block lanes : List Float) (channels each turns k : ℕ) (own : k < channels) (room : each * channels ≤ length lanes)
-    (filled : (j : ℕ) → j < each * channels → getD lanes j nan ≡ largestFrom nought (column block j (each * channels) turns)) where
+    (filled : (j : ℕ) → j < each * channels → getD lanes j nan ≡ largest plusZero (column block j (each * channels) turns)) where
   lane : ℕ → Float
   lane i = getD lanes (k + i * channels) silence
 
@@ -80,30 +74,30 @@ module _ (block lanes : List Float) (channels each turns k : ℕ) (own : k < cha
   inside : (i : ℕ) → i < each → k + i * channels < each * channels
   inside i h = omega (arith, suc-mul i channels, mul-le-mul-right channels h)
 
-  lane-top : (i : ℕ) → i < each → Top nought (Part i) (lane i)
+  lane-top : (i : ℕ) → i < each → Top plusZero (Part i) (lane i)
   unfolding lane Part
   lane-top i h =
       let p = inside i h in
-      subst (Top nought (Stands block (k + i * channels) (each * channels) turns))
+      subst (Top plusZero (Stands block (k + i * channels) (each * channels) turns))
       (sym (within lanes (k + i * channels) silence nan (omega arith) ∙ filled (k + i * channels) p))
-      (top-of nought block (k + i * channels) (each * channels) turns)
+      (top-of plusZero block (k + i * channels) (each * channels) turns)
 
   -- a lane's top is a magnitude, and a number
-  lane-magnitude : (i : ℕ) → i < each → absolute (lane i) ≡ lane i
+  lane-magnitude : (i : ℕ) → i < each → magnitude (lane i) ≡ lane i
   unfolding lane Part
   lane-magnitude i h = go (lane-top i h .whence)
     where
-      go : (lane i ≡ nought) ⊎ (T (lt nought (lane i)) × Part i (lane i)) → absolute (lane i) ≡ lane i
-      go (inl e) = ap absolute e ∙ sym e
-      go (inr s) = ap absolute (s .1 .same) ∙ absolute-again (getD block (k + i * channels + s .1 .turn * (each * channels)) silence) ∙ sym (s .1 .same)
+      go : (lane i ≡ plusZero) ⊎ (T (lt plusZero (lane i)) × Part i (lane i)) → magnitude (lane i) ≡ lane i
+      go (inl e) = ap magnitude e ∙ sym e
+      go (inr s) = ap magnitude (s .1 .same) ∙ magnitude-again (getD block (k + i * channels + s .1 .turn * (each * channels)) silence) ∙ sym (s .1 .same)
 
   lane-number : (i : ℕ) → i < each → isNan (lane i) ≡ false
   unfolding lane isNan
   lane-number i h = go (lane-top i h .whence)
     where
-      go : (lane i ≡ nought) ⊎ (T (lt nought (lane i)) × Part i (lane i)) → isNan (lane i) ≡ false
+      go : (lane i ≡ plusZero) ⊎ (T (lt plusZero (lane i)) × Part i (lane i)) → isNan (lane i) ≡ false
       go (inl e) = ap isNan e
-      go (inr s) = right-number nought (lane i) (s .0)
+      go (inr s) = right-number plusZero (lane i) (s .0)
 
   -- the frame at turn q of lane i
   frame-place : (q i : ℕ) → k + (q * each + i) * channels ≡ k + i * channels + q * (each * channels)
@@ -125,13 +119,13 @@ module _ (block lanes : List Float) (channels each turns k : ℕ) (own : k < cha
   unfolding lane Part
   lanes-top p z high t = record { whence = from (t .whence); unbeaten = unbeaten }
     where
-      stands : (s : Stands lanes k channels each z) → T (lt p z) → (lane (s .turn) ≡ nought) ⊎ (T (lt nought (lane (s .turn))) × Part (s .turn) (lane (s .turn))) → Stands block k channels (each * turns) z
+      stands : (s : Stands lanes k channels each z) → T (lt p z) → (lane (s .turn) ≡ plusZero) ⊎ (T (lt plusZero (lane (s .turn))) × Part (s .turn) (lane (s .turn))) → Stands block k channels (each * turns) z
       stands s h (inl e) =
-          absurd (true≢false (sym (is-true (lt p nought) (subst (λ (x : Float). T (lt p x)) (s .same ∙ ap absolute e) h)) ∙ high))
+          absurd (true≢false (sym (is-true (lt p plusZero) (subst (λ (x : Float). T (lt p x)) (s .same ∙ ap magnitude e) h)) ∙ high))
       stands s h (inr u) = record {
         turn = u .1 .turn * each + s .turn;
         soon = soon (u .1 .turn) (s .turn) (u .1 .soon) (s .soon);
-        same = s .same ∙ ap absolute (u .1 .same) ∙ absolute-again (getD block (k + s .turn * channels + u .1 .turn * (each * channels)) silence) ∙ ap (λ (i : ℕ). absolute (getD block i silence)) (sym (frame-place (u .1 .turn) (s .turn)));
+        same = s .same ∙ ap magnitude (u .1 .same) ∙ magnitude-again (getD block (k + s .turn * channels + u .1 .turn * (each * channels)) silence) ∙ ap (λ (i : ℕ). magnitude (getD block i silence)) (sym (frame-place (u .1 .turn) (s .turn)));
       }
 
       from : (z ≡ p) ⊎ (T (lt p z) × Stands lanes k channels each z) → (z ≡ p) ⊎ (T (lt p z) × Stands block k channels (each * turns) z)
@@ -147,15 +141,15 @@ module _ (block lanes : List Float) (channels each turns k : ℕ) (own : k < cha
           let here : Part i v = record {
             turn = r / each;
             soon = turn-soon r (s .soon);
-            same = s .same ∙ ap (λ (n : ℕ). absolute (getD block (k + n * channels) silence)) (sym (div-add-mod' r each)) ∙ ap (λ (n : ℕ). absolute (getD block n silence)) (frame-place (r / each) i);
+            same = s .same ∙ ap (λ (n : ℕ). magnitude (getD block (k + n * channels) silence)) (sym (div-add-mod' r each)) ∙ ap (λ (n : ℕ). magnitude (getD block n silence)) (frame-place (r / each) i);
           } in
-          let top : lt z (lane i) ≡ false = ap (lt z) (sym (lane-magnitude i few)) ∙ t .unbeaten (absolute (lane i)) (record { turn = i; soon = few; same = refl }) in
+          let top : lt z (lane i) ≡ false = ap (lt z) (sym (lane-magnitude i few)) ∙ t .unbeaten (magnitude (lane i)) (record { turn = i; soon = few; same = refl }) in
           is-false (lt z v) (λ h. subst T (lane-top i few .unbeaten v here) (beaten z (lane i) v (lane-number i few) top h))
 
   pub lanes-give : (p : Float) → High p → ((i : ℕ) → T (fits binary64 (getD block i nan)))
-      → largestFrom p (column lanes k channels each) ≡ largestFrom p (column block k channels (turns * each))
+      → largest p (column lanes k channels each) ≡ largest p (column block k channels (turns * each))
   lanes-give p high f =
       one-top p (Stands block k channels (each * turns)) (same-magnitudes block k channels (each * turns) (λ i. fits-past-end block i (f i)))
-      (largestFrom p (column lanes k channels each)) (largestFrom p (column block k channels (each * turns)))
-      (lanes-top p (largestFrom p (column lanes k channels each)) high (top-of p lanes k channels each)) (top-of p block k channels (each * turns))
-      ∙ ap (λ (n : ℕ). largestFrom p (column block k channels n)) (mul-comm each turns)
+      (largest p (column lanes k channels each)) (largest p (column block k channels (each * turns)))
+      (lanes-top p (largest p (column lanes k channels each)) high (top-of p lanes k channels each)) (top-of p block k channels (each * turns))
+      ∙ ap (λ (n : ℕ). largest p (column block k channels n)) (mul-comm each turns)

@@ -1,119 +1,41 @@
--- The sample peak: the greater of a top and a magnitude, a channel's samples in turn, and the channels.
--- A top that starts at 0 is never below 0, so of x and -x only the magnitude can be above it. Assumes nothing.
-use Prim.Native.Nat.{ℕ, zero, suc, _+_, _-_, _*_, _≤_, _<_}
-use native.Mathlib.Nat.{zero-mul, not-suc-le-zero}
+-- The sample peak: a channel's samples in turn, and the channels. Assumes nothing.
+use Prim.Native.Nat.{ℕ, zero, suc, _+_, _-_, _≤_, _<_}
+use native.Mathlib.Nat.{not-suc-le-zero}
 use native.Mathlib.Numerals.{add-one}
 use native.Mathlib.Omega.{arith}
 use mathlib.Core.Path.{_≡_, refl, ap, sym, subst, _∙_}
-use mathlib.Core.Bool.{Bool, true, false, cond, true≢false}
-use mathlib.Core.List.{List, [], _∷_, _++_}
-use borrow.Author.Tests.{ltb-false, le-ltb}
-use lib.Dec.{ltb}
-use lib.IntN.{ℤ}
+use mathlib.Core.List.{List}
 use lib.ListN.{length, getD, set, length-set, replicate, getD-replicate}
 use lib.Seq.{getD-set-same, getD-set-other}
-use lib.Ieee.{Float, nan, inf, fin, up, down, lt, neg}
+use lib.Ieee.{Float, nan}
 use Rattle.samples.specs.Frames.{silence, column}
-use Rattle.sample_peak.specs.Peak.{absolute, greater, largestFrom, nought, overChannels}
+use Rattle.floats.specs.Entry.{plusZero}
+use Rattle.floats.specs.Largest.{magnitude, greater, greatest, largest}
+use Rattle.sample_peak.specs.Peak.{overChannels}
 use Rattle.samples.proofs.Columns.{within}
 use Rattle.sources.proofs.Reaching.{one-less}
 
--- a top that is not below 0: a NaN is not, either
-abbrev pub High : Float → Type 0
-High top = lt top nought ≡ false
-
-nothing : (m : ℕ) (e : ℤ) → ltb 0 (m * up e * 1 + 0 * 1 * down e) ≡ false → m * up e ≡ 0
-nothing m e h = omega (arith, ltb-false 0 (m * up e * 1 + 0 * 1 * down e) h)
-
--- nothing negative is above it
-above-negative : (top : Float) → High top → (m : ℕ) (e : ℤ) → lt top (fin true m e) ≡ false
-unfolding lt
-above-negative nan h m e = refl
-above-negative (inf true) h m e = absurd (true≢false h)
-above-negative (inf false) h m e = refl
-above-negative (fin false n d) h m e = refl
-above-negative (fin true n d) h m e =
-    let z : n * up d * down e ≡ 0 = ap (λ (x : ℕ). x * down e) (nothing n d h) ∙ zero-mul (down e) in
-    le-ltb (m * up e * down d) (n * up d * down e) (omega arith)
-
-above-bottom : (top : Float) → High top → lt top (inf true) ≡ false
-unfolding lt
-above-bottom nan h = refl
-above-bottom (inf true) h = absurd (true≢false h)
-above-bottom (inf false) h = refl
-above-bottom (fin s n d) h = refl
-
-above-nan : (top : Float) → lt top nan ≡ false
-unfolding lt
-above-nan nan = refl
-above-nan (inf s) = refl
-above-nan (fin s n d) = refl
-
--- ---- the tops stay so
-
-magnitude-high : (x : Float) → High (absolute x)
-unfolding lt
-magnitude-high nan = refl
-magnitude-high (inf s) = refl
-magnitude-high (fin s m e) = le-ltb (m * up e * 1) (0 * down e) (omega (arith, zero-mul (down e)))
-
-pub greater-high : (top v : Float) → High top → High v → High (greater top v)
-greater-high top v h k = go (lt top v)
-  where
-    go : (b : Bool) → High (cond b v top)
-    go true = k
-    go false = h
-
-kept : (top x : Float) → lt top x ≡ false → greater top x ≡ top
-kept top x g = ap (λ (b : Bool). cond b x top) g
-
--- against x and then against -x, or against the magnitude
-pub both-ways : (top x : Float) → High top → greater (greater top x) (neg x) ≡ greater top (absolute x)
-unfolding neg
-both-ways top nan h = ap (λ (t : Float). greater t nan) (kept top nan (above-nan top))
-both-ways top (inf true) h = ap (λ (t : Float). greater t (inf false)) (kept top (inf true) (above-bottom top h))
-both-ways top (inf false) h = kept (greater top (inf false)) (inf true) (above-bottom (greater top (inf false)) (greater-high top (inf false) h (magnitude-high (inf false))))
-both-ways top (fin true m e) h = ap (λ (t : Float). greater t (fin false m e)) (kept top (fin true m e) (above-negative top h m e))
-both-ways top (fin false m e) h = kept (greater top (fin false m e)) (fin true m e) (above-negative (greater top (fin false m e)) (greater-high top (fin false m e) h (magnitude-high (fin false m e))) m e)
-
-pub raised-high : (top x : Float) → High top → High (greater top (absolute x))
-raised-high top x h = greater-high top (absolute x) h (magnitude-high x)
-
-pub largest-high : (top : Float) (xs : List Float) → High top → High (largestFrom top xs)
-unfolding largestFrom
-largest-high top [] h = h
-largest-high top (x ∷ xs) h = largest-high (greater top (absolute x)) xs (raised-high top x h)
-
 -- ---- samples
 
-pub turn-largest : (top : Float) (l : List Float) (i s n : ℕ) → 0 < n → i < length l → (top′ : Float) → top′ ≡ greater top (absolute (getD l i nan))
-    → largestFrom top′ (column l (i + s) s (n - 1)) ≡ largestFrom top (column l i s n)
-unfolding largestFrom column
+pub turn-largest : (top : Float) (l : List Float) (i s n : ℕ) → 0 < n → i < length l → (top′ : Float) → top′ ≡ greater top (magnitude (getD l i nan))
+    → largest top′ (column l (i + s) s (n - 1)) ≡ largest top (column l i s n)
+unfolding greatest column
 turn-largest top l i s n h here top′ e =
-    ap (λ (t : Float). largestFrom t (column l (i + s) s (n - 1))) (e ∙ ap (λ (x : Float). greater top (absolute x)) (within l i nan silence here))
-    ∙ sym (ap (λ (k : ℕ). largestFrom top (column l i s k)) (one-less n h))
+    ap (λ (t : Float). largest t (column l (i + s) s (n - 1))) (e ∙ ap (λ (x : Float). greater top (magnitude x)) (within l i nan silence here))
+    ∙ sym (ap (λ (k : ℕ). largest top (column l i s k)) (one-less n h))
 
-pub none-largest : (top : Float) (l : List Float) (i s n : ℕ) → n ≡ 0 → largestFrom top (column l i s n) ≡ top
-unfolding largestFrom column
-none-largest top l i s n e = ap (λ (k : ℕ). largestFrom top (column l i s k)) e
-
-pub largest-append : (top : Float) (xs ys : List Float) → largestFrom top (xs ++ ys) ≡ largestFrom (largestFrom top xs) ys
-unfolding largestFrom
-largest-append top [] ys = refl
-largest-append top (x ∷ xs) ys = largest-append (greater top (absolute x)) xs ys
+pub none-largest : (top : Float) (l : List Float) (i s n : ℕ) → n ≡ 0 → largest top (column l i s n) ≡ top
+unfolding greatest column
+none-largest top l i s n e = ap (λ (k : ℕ). largest top (column l i s k)) e
 
 -- no samples yet
-pub nought-high : High nought
-unfolding lt
-nought-high = refl
-
-pub start-tops : (n : ℕ) (l : List Float) (s k : ℕ) → k < n → getD (replicate n nought) k nan ≡ largestFrom nought (column l k s 0)
-unfolding largestFrom column
-start-tops n l s k h = getD-replicate n k nought nan h
+pub start-tops : (n : ℕ) (l : List Float) (s k : ℕ) → k < n → getD (replicate n plusZero) k nan ≡ largest plusZero (column l k s 0)
+unfolding greatest column
+start-tops n l s k h = getD-replicate n k plusZero nan h
 
 -- what the frames of a block do to channel k's top
 abbrev pub peaks : List Float → ℕ → ℕ → ℕ → Float → Float
-peaks block channels count k top = largestFrom top (column block k channels count)
+peaks block channels count k top = largest top (column block k channels count)
 
 -- ---- channels: n of them from channel k on
 

@@ -6,9 +6,9 @@ use mathlib.Core.List.{List}
 use lib.Ieee.{Float}
 use Rattle.samples.specs.Frames.{column}
 use Rattle.samples.proofs.Columns.{column-append}
-use Rattle.sample_peak.specs.Peak.{largestFrom}
+use Rattle.floats.specs.Largest.{largest}
 use Rattle.sources.specs.Blocks.{Reach}
-use Rattle.sample_peak.proofs.Loudest.{largest-append}
+use Rattle.floats.proofs.Magnitude.{largest-append}
 
 distributed : (m n step : ℕ) → (m + n) * step ≡ m * step + n * step
 distributed m n step = omega arith
@@ -20,11 +20,11 @@ module _ (first step count size done : ℕ) (all : Reach first step count size) 
   pub reach-after : Reach (first + done * step) step (count - done) size
   reach-after = record { few = all .few; within = omega (arith, all .within, split) }
 
-pub after-first : (top high : Float) (block : List Float) (first step count done : ℕ) → done ≤ count → high ≡ largestFrom top (column block first step done)
-    → largestFrom high (column block (first + done * step) step (count - done)) ≡ largestFrom top (column block first step count)
+pub after-first : (top high : Float) (block : List Float) (first step count done : ℕ) → done ≤ count → high ≡ largest top (column block first step done)
+    → largest high (column block (first + done * step) step (count - done)) ≡ largest top (column block first step count)
 after-first top high block first step count done part e =
     let m : done + (count - done) ≡ count = omega arith in
-    ap (λ (t : Float). largestFrom t (column block (first + done * step) step (count - done))) e
+    ap (λ (t : Float). largest t (column block (first + done * step) step (count - done))) e
     ∙ sym (largest-append top (column block first step done) (column block (first + done * step) step (count - done)))
-    ∙ ap (largestFrom top) (sym (column-append block first step done (count - done)))
-    ∙ ap (λ (k : ℕ). largestFrom top (column block first step k)) m
+    ∙ ap (largest top) (sym (column-append block first step done (count - done)))
+    ∙ ap (λ (k : ℕ). largest top (column block first step k)) m

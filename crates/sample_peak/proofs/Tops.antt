@@ -12,19 +12,16 @@ use lib.Dec.{T}
 use lib.ListN.{getD}
 use lib.Ieee.{Float, nan, inf, fin, binary64, up, down, lt, isNan, fits}
 use lib.Ieee.Fits.{down-pos}
-use Rattle.floats.proofs.Order.{is-true}
-use Rattle.floats.proofs.Larger.{right-number, irreflexive, lt-lt}
+use Rattle.floats.proofs.Order.{is-true, is-false}
+use Rattle.floats.proofs.Largest.{right-number, irreflexive, lt-lt}
+use Rattle.floats.proofs.Magnitude.{magnitude-fits}
 use Rattle.samples.proofs.Written.{same-float}
 use Rattle.samples.specs.Frames.{silence, column}
-use Rattle.sample_peak.specs.Peak.{absolute, greater, largestFrom}
+use Rattle.floats.specs.Largest.{magnitude, greater, greatest, largest}
 
 pub record Top (p : Float) (S : Float → Type 0) (z : Float) : Type 0 where
   pub whence : (z ≡ p) ⊎ (T (lt p z) × S z)
   pub unbeaten : (v : Float) → S v → lt z v ≡ false
-
-refuted : (b : Bool) → (T b → ⊥) → b ≡ false
-refuted true h = absurd (h tt)
-refuted false h = refl
 
 -- one value more, before the others
 module _ (p a : Float) (S S′ : Float → Type 0) (new : S′ a) (old : (v : Float) → S v → S′ v) (all : (v : Float) → S′ v → (v ≡ a) ⊎ S v) where
@@ -33,7 +30,7 @@ module _ (p a : Float) (S S′ : Float → Type 0) (new : S′ a) (old : (v : Fl
     where
       keep : (q : Float) → (T (lt q a) → ⊥) → Top q S z → (v : Float) → S′ v → lt z v ≡ false
       keep q low t v s = elim (all v s) [
-        | inl e ↦ refuted (lt z v) (λ h. beat (subst (λ (x : Float). T (lt z x)) e h) (t .whence))
+        | inl e ↦ is-false (lt z v) (λ h. beat (subst (λ (x : Float). T (lt z x)) e h) (t .whence))
         | inr r ↦ t .unbeaten v r
       ]
         where
@@ -75,15 +72,15 @@ one-top p S same z w t u = go (t .whence) (u .whence)
 pub record Stands (l : List Float) (first step n : ℕ) (v : Float) : Type 0 where
   pub turn : ℕ
   pub soon : turn < n
-  pub same : v ≡ absolute (getD l (first + turn * step) silence)
+  pub same : v ≡ magnitude (getD l (first + turn * step) silence)
 
-pub top-of : (p : Float) (l : List Float) (first step n : ℕ) → Top p (Stands l first step n) (largestFrom p (column l first step n))
-unfolding largestFrom column
+pub top-of : (p : Float) (l : List Float) (first step n : ℕ) → Top p (Stands l first step n) (largest p (column l first step n))
+unfolding greatest column
 top-of p l first step zero = record { whence = inl refl; unbeaten = λ v s. absurd (not-suc-le-zero (s .soon)) }
 top-of p l first step (suc n) =
-    one-more p (absolute (getD l first silence)) (Stands l (first + step) step n) (Stands l first step (suc n)) at-first later split
-    (largestFrom (greater p (absolute (getD l first silence))) (column l (first + step) step n))
-    (top-of (greater p (absolute (getD l first silence))) l (first + step) step n)
+    one-more p (magnitude (getD l first silence)) (Stands l (first + step) step n) (Stands l first step (suc n)) at-first later split
+    (largest (greater p (magnitude (getD l first silence))) (column l (first + step) step n))
+    (top-of (greater p (magnitude (getD l first silence))) l (first + step) step n)
   where
     place : (q : ℕ) → first + step + q * step ≡ first + suc q * step
     place q = omega (arith, suc-mul q step)
@@ -91,29 +88,22 @@ top-of p l first step (suc n) =
     start : first + 0 * step ≡ first
     start = omega (arith, zero-mul step)
 
-    at-first : Stands l first step (suc n) (absolute (getD l first silence))
-    at-first = record { turn = 0; soon = omega arith; same = ap (λ (i : ℕ). absolute (getD l i silence)) (sym start) }
+    at-first : Stands l first step (suc n) (magnitude (getD l first silence))
+    at-first = record { turn = 0; soon = omega arith; same = ap (λ (i : ℕ). magnitude (getD l i silence)) (sym start) }
 
     later : (v : Float) → Stands l (first + step) step n v → Stands l first step (suc n) v
-    later v s = record { turn = suc (s .turn); soon = let h = s .soon in omega arith; same = s .same ∙ ap (λ (i : ℕ). absolute (getD l i silence)) (place (s .turn)) }
+    later v s = record { turn = suc (s .turn); soon = let h = s .soon in omega arith; same = s .same ∙ ap (λ (i : ℕ). magnitude (getD l i silence)) (place (s .turn)) }
 
-    by-turn : (v : Float) (q : ℕ) → q < suc n → v ≡ absolute (getD l (first + q * step) silence) → (v ≡ absolute (getD l first silence)) ⊎ Stands l (first + step) step n v
-    by-turn v zero h e = inl (e ∙ ap (λ (i : ℕ). absolute (getD l i silence)) start)
-    by-turn v (suc q) h e = inr (record { turn = q; soon = le-of-suc-le-suc h; same = e ∙ ap (λ (i : ℕ). absolute (getD l i silence)) (sym (place q)) })
+    by-turn : (v : Float) (q : ℕ) → q < suc n → v ≡ magnitude (getD l (first + q * step) silence) → (v ≡ magnitude (getD l first silence)) ⊎ Stands l (first + step) step n v
+    by-turn v zero h e = inl (e ∙ ap (λ (i : ℕ). magnitude (getD l i silence)) start)
+    by-turn v (suc q) h e = inr (record { turn = q; soon = le-of-suc-le-suc h; same = e ∙ ap (λ (i : ℕ). magnitude (getD l i silence)) (sym (place q)) })
 
-    split : (v : Float) → Stands l first step (suc n) v → (v ≡ absolute (getD l first silence)) ⊎ Stands l (first + step) step n v
+    split : (v : Float) → Stands l first step (suc n) v → (v ≡ magnitude (getD l first silence)) ⊎ Stands l (first + step) step n v
     split v s = by-turn v (s .turn) (s .soon) (s .same)
 
 -- ---- magnitudes of values that a format holds: two that do not beat each other are the same
-absolute-fits : (x : Float) → T (fits binary64 x) → T (fits binary64 (absolute x))
-unfolding fits
-absolute-fits nan h = tt
-absolute-fits (inf s) h = tt
-absolute-fits (fin s zero e) h = h
-absolute-fits (fin s (suc m) e) h = h
-
-pub one-magnitude : (x y : Float) → T (fits binary64 x) → T (fits binary64 y) → isNan (absolute x) ≡ false → isNan (absolute y) ≡ false
-    → lt (absolute x) (absolute y) ≡ false → lt (absolute y) (absolute x) ≡ false → absolute x ≡ absolute y
+pub one-magnitude : (x y : Float) → T (fits binary64 x) → T (fits binary64 y) → isNan (magnitude x) ≡ false → isNan (magnitude y) ≡ false
+    → lt (magnitude x) (magnitude y) ≡ false → lt (magnitude y) (magnitude x) ≡ false → magnitude x ≡ magnitude y
 unfolding lt isNan
 one-magnitude nan y f g a b h k = absurd (true≢false a)
 one-magnitude (inf s) nan f g a b h k = absurd (true≢false b)
@@ -122,7 +112,7 @@ one-magnitude (inf s) (fin t n d) f g a b h k = absurd (true≢false k)
 one-magnitude (fin s m e) nan f g a b h k = absurd (true≢false b)
 one-magnitude (fin s m e) (inf t) f g a b h k = absurd (true≢false h)
 one-magnitude (fin s m e) (fin t n d) f g a b h k =
-    same-float binary64 (fin false m e) (fin false n d) false (n * up d) (down d) (down-pos d) (absolute-fits (fin s m e) f) (absolute-fits (fin t n d) g)
+    same-float binary64 (fin false m e) (fin false n d) false (n * up d) (down d) (down-pos d) (magnitude-fits binary64 (fin s m e) f) (magnitude-fits binary64 (fin t n d) g)
     (refl, le-antisymm (ltb-false (n * up d * down e) (m * up e * down d) k) (ltb-false (m * up e * down d) (n * up d * down e) h)) (refl, refl)
 
 pub same-magnitudes : (l : List Float) (first step n : ℕ) → ((i : ℕ) → T (fits binary64 (getD l i silence))) → Same (Stands l first step n)
@@ -132,6 +122,6 @@ same-magnitudes l first step n f v w s t a b h k =
     s .same
     ∙ one-magnitude x y (f (first + s .turn * step)) (f (first + t .turn * step))
     (subst (λ (z : Float). isNan z ≡ false) (s .same) a) (subst (λ (z : Float). isNan z ≡ false) (t .same) b)
-    (ap (λ (z : Float). lt z (absolute y)) (sym (s .same)) ∙ ap (λ (z : Float). lt v z) (sym (t .same)) ∙ h)
-    (ap (λ (z : Float). lt z (absolute x)) (sym (t .same)) ∙ ap (λ (z : Float). lt w z) (sym (s .same)) ∙ k)
+    (ap (λ (z : Float). lt z (magnitude y)) (sym (s .same)) ∙ ap (λ (z : Float). lt v z) (sym (t .same)) ∙ h)
+    (ap (λ (z : Float). lt z (magnitude x)) (sym (t .same)) ∙ ap (λ (z : Float). lt w z) (sym (s .same)) ∙ k)
     ∙ sym (t .same)

@@ -7,15 +7,17 @@ ghost use lib.Ieee.{nan, lt};
 ghost use Rattle.samples.specs.Frames.{column};
 ghost use Rattle.calls.specs.Calls.{mostChannels};
 ghost use Rattle.sources.specs.Blocks.{Reach};
-ghost use Rattle.sample_peak.specs.Peak.{absolute, greater, largestFrom, nought, overChannels};
+ghost use Rattle.floats.specs.Entry.{plusZero};
+ghost use Rattle.floats.specs.Largest.{magnitude, greater, largest};
+ghost use Rattle.sample_peak.specs.Peak.{overChannels};
 ghost use Rattle.sample_peak.specs.Lanes.{mostLanes};
 use super::Peaks;
 use super::greater_of;
 
 // The greater of top and the magnitude of x, by comparison: a NaN is greater than nothing.
 fn raise(top: f64, x: f64) -> f64
-    requires { ⌜ lt top nought ≡ false ⌝ }
-    ensures { λ r. ⌜ r ≡ greater top (absolute x) ⌝ }
+    requires { ⌜ lt top plusZero ≡ false ⌝ }
+    ensures { λ r. ⌜ r ≡ greater top (magnitude x) ⌝ }
 {
     let high = greater_of(top, x);
     greater_of(high, -x)
@@ -33,8 +35,8 @@ const LANES: usize = 24;
 fn raise_turn(tops: Lanes, lanes: usize, block: &[f64], at: usize) -> Lanes
     requires { ⌜ lanes ≤ mostLanes ⌝ }
     requires { ⌜ at + lanes ≤ length (now block) ⌝ }
-    requires { ⌜ ((j : ℕ) → j < lanes → lt (getD (tops .values) j nan) nought ≡ false) ⌝ }
-    ensures { λ r. ⌜ r .values ≡ overChannels (λ j top. greater top (absolute (getD (now (block .entry)) (at + j) nan))) lanes 0 (tops .values) ⌝ }
+    requires { ⌜ ((j : ℕ) → j < lanes → lt (getD (tops .values) j nan) plusZero ≡ false) ⌝ }
+    ensures { λ r. ⌜ r .values ≡ overChannels (λ j top. greater top (magnitude (getD (now (block .entry)) (at + j) nan))) lanes 0 (tops .values) ⌝ }
 {
     let mut w = tops;
     let mut j = 0;
@@ -51,7 +53,7 @@ fn raise_turns(lanes: usize, block: &[f64], turns: usize) -> Lanes
     requires { ⌜ lanes ≤ mostLanes ⌝ }
     requires { ⌜ turns * lanes ≤ length (now block) ⌝ }
     ensures { λ r. ⌜ length (r .values) ≡ mostLanes ⌝ }
-    ensures { λ r. ⌜ ((j : ℕ) → j < lanes → getD (r .values) j nan ≡ largestFrom nought (column (now (block .entry)) j lanes turns)) ⌝ }
+    ensures { λ r. ⌜ ((j : ℕ) → j < lanes → getD (r .values) j nan ≡ largest plusZero (column (now (block .entry)) j lanes turns)) ⌝ }
 {
     let mut w = Lanes { values: [0.0; 24] };
     let mut done = 0;
@@ -69,7 +71,7 @@ fn lanes_of(lanes: usize, block: &[f64], turns: usize) -> Lanes
     requires { ⌜ lanes ≤ mostLanes ⌝ }
     requires { ⌜ turns * lanes ≤ length (now block) ⌝ }
     ensures { λ r. ⌜ length (r .values) ≡ mostLanes ⌝ }
-    ensures { λ r. ⌜ ((j : ℕ) → j < lanes → getD (r .values) j nan ≡ largestFrom nought (column (now (block .entry)) j lanes turns)) ⌝ }
+    ensures { λ r. ⌜ ((j : ℕ) → j < lanes → getD (r .values) j nan ≡ largest plusZero (column (now (block .entry)) j lanes turns)) ⌝ }
 {
     if lanes == LANES {
         return raise_turns(LANES, block, turns);
@@ -79,9 +81,9 @@ fn lanes_of(lanes: usize, block: &[f64], turns: usize) -> Lanes
 
 // A channel's frames one after another.
 fn largest_on(top: f64, block: &[f64], first: usize, step: usize, count: usize) -> f64
-    requires { ⌜ lt top nought ≡ false ⌝ }
+    requires { ⌜ lt top plusZero ≡ false ⌝ }
     requires { ⌜ Reach first step count (length (now block)) ⌝ }
-    ensures { λ r. ⌜ r ≡ largestFrom top (column (now (block .entry)) first step count) ⌝ }
+    ensures { λ r. ⌜ r ≡ largest top (column (now (block .entry)) first step count) ⌝ }
 {
     let mut high = top;
     let mut left = count;
@@ -98,8 +100,8 @@ fn largest_on(top: f64, block: &[f64], first: usize, step: usize, count: usize) 
 pub(crate) fn peak_block(tops: Peaks, channels: usize, count: usize, block: &[f64]) -> Peaks
     requires { ⌜ (0 < channels) × (channels ≤ mostChannels) ⌝ }
     requires { ⌜ count * channels ≤ length (now block) ⌝ }
-    requires { ⌜ ((k : ℕ) → k < channels → lt (getD (tops .values) k nan) nought ≡ false) ⌝ }
-    ensures { λ r. ⌜ r .values ≡ overChannels (λ k top. largestFrom top (column (now (block .entry)) k channels count)) channels 0 (tops .values) ⌝ }
+    requires { ⌜ ((k : ℕ) → k < channels → lt (getD (tops .values) k nan) plusZero ≡ false) ⌝ }
+    ensures { λ r. ⌜ r .values ≡ overChannels (λ k top. largest top (column (now (block .entry)) k channels count)) channels 0 (tops .values) ⌝ }
 {
     let each = LANES / channels;
     let turns = count / each;

@@ -9,7 +9,9 @@ ghost use Rattle.samples.specs.Frames.{column};
 ghost use Rattle.calls.specs.Calls.{mostChannels};
 ghost use Rattle.sources.specs.Source.{sourceOf};
 ghost use Rattle.sources.specs.Blocks.{Whole};
-ghost use Rattle.sample_peak.specs.Peak.{greater, largestFrom, nought, overChannels, raised};
+ghost use Rattle.floats.specs.Entry.{plusZero};
+ghost use Rattle.floats.specs.Largest.{greater, largest};
+ghost use Rattle.sample_peak.specs.Peak.{overChannels, raised};
 
 mod block;
 
@@ -30,7 +32,7 @@ const BLOCK: usize = 1024;
 // Every channel's largest magnitude over all frames.
 fn largest_all(channels: usize, frames: usize, ints: &[i16], floats: &[f32]) -> Peaks
     requires { ⌜ Whole channels frames (length (sourceOf (now ints) (now floats))) ⌝ }
-    ensures { λ r. ⌜ ((k : ℕ) → k < channels → getD (r .values) k nan ≡ largestFrom nought (column (sourceOf (now (ints .entry)) (now (floats .entry))) k channels frames)) ⌝ }
+    ensures { λ r. ⌜ ((k : ℕ) → k < channels → getD (r .values) k nan ≡ largest plusZero (column (sourceOf (now (ints .entry)) (now (floats .entry))) k channels frames)) ⌝ }
 {
     let mut block: [f64; BLOCK] = [0.0; BLOCK];
     let most = BLOCK / channels;

@@ -1,15 +1,15 @@
 -- The frames of an interleaved list of samples: a frame is one sample of each channel, channel 0 first.
 use Prim.Native.Nat.{ℕ, zero, suc, _+_, _/_}
 use mathlib.Core.List.{List, [], _∷_}
-use mathlib.Core.Bool.{false, cond}
+use mathlib.Core.Bool.{cond}
 use lib.Dec.{eqb}
-use lib.IntN.{pos}
 use lib.ListN.{length, getD}
-use lib.Ieee.{Float, fin}
+use lib.Ieee.{Float}
+use Rattle.floats.specs.Entry.{plusZero}
 
--- +0, which stands where there is no sample
+-- what stands where there is no sample
 abbrev pub silence : Float
-silence = fin false 0 (pos 0)
+silence = plusZero
 
 -- how many frames so many samples are, and none at no channels
 abbrev pub framesOf : ℕ → ℕ → ℕ

@@ -10,8 +10,10 @@ use lib.Ieee.{lt, ofBits}
 use Rattle.samples.specs.Frames.{column}
 use Rattle.sources.specs.Blocks.{blockPlaces}
 use Rattle.sources.specs.Source.{sourceOf}
-use Rattle.sample_peak.specs.Peak.{largestFrom, nought}
-use Rattle.sample_peak.proofs.Loudest.{peaks, largest-high, channels-length, channels-first, start-tops, nought-high}
+use Rattle.floats.specs.Entry.{plusZero}
+use Rattle.floats.specs.Largest.{largest}
+use Rattle.floats.proofs.Magnitude.{largest-high, zero-high}
+use Rattle.sample_peak.proofs.Loudest.{peaks, channels-length, channels-first, start-tops}
 use Rattle.sources.proofs.Cutting.{Next, Step, step, filled}
 use Rattle.sample_peak.proofs.Cutting.{cut-peaks}
 use Rattle.sample_peak.proofs.largest_all.Statement.{statement}
@@ -22,7 +24,7 @@ Inv-loop channels frames ints floats block₀ most tops₀ done₀ block tops do
     (done ≤ frames)
     × ((length block ≡ blockPlaces)
     × ((length (tops .values) ≡ 8)
-    × ((k : ℕ) → k < channels → getD (tops .values) k nan ≡ largestFrom nought (column (sourceOf ints floats) k channels done))))
+    × ((k : ℕ) → k < channels → getD (tops .values) k nan ≡ largest plusZero (column (sourceOf ints floats) k channels done))))
 
 abbrev μ-loop : tie.MeasureT-loop
 μ-loop channels frames ints floats block₀ most tops₀ done₀ block tops done = frames - done
@@ -76,7 +78,7 @@ peak-block-requires c κs =
       (s .pre .some, s .pre .few),
       (
         omega (arith, size f, sizes (f .before .before) .block-fits),
-        λ k h. ap (λ (x : Float). lt x nought) (l .inv .1 .1 .1 k h) ∙ largest-high nought (column (sourceOf (s .args .ints .now) (s .args .floats .now)) k (s .args .channels) (l .done)) nought-high,
+        λ k h. ap (λ (x : Float). lt x plusZero) (l .inv .1 .1 .1 k h) ∙ largest-high plusZero (column (sourceOf (s .args .ints .now) (s .args .floats .now)) k (s .args .channels) (l .done)) zero-high,
       ),
     )
 
@@ -113,7 +115,7 @@ returns c =
     let l = c .before .loop in
     let a = c .before .before .before .args in
     let e : l .done ≡ a .frames = omega (arith, c .loop-test .left, l .inv .0) in
-    λ k h. l .inv .1 .1 .1 k h ∙ ap (λ (n : ℕ). largestFrom nought (column (sourceOf (a .ints .now) (a .floats .now)) k (a .channels) n)) e
+    λ k h. l .inv .1 .1 .1 k h ∙ ap (λ (n : ℕ). largest plusZero (column (sourceOf (a .ints .now) (a .floats .now)) k (a .channels) n)) e
 
 pub largest-all-spec : {M : Type 1} → statement M
 largest-all-spec =

@@ -6,7 +6,8 @@ use mathlib.Core.Path.{_≡_, sym, ap, _∙_}
 use mathlib.Core.List.{List}
 use lib.ListN.{getD, set}
 use lib.Ieee.{Float, nan}
-use Rattle.sample_peak.specs.Peak.{greater, overChannels}
+use Rattle.floats.specs.Largest.{greater}
+use Rattle.sample_peak.specs.Peak.{overChannels}
 use Rattle.sample_peak.proofs.Loudest.{channels-again, channels-end}
 use Rattle.sample_peak.proofs.raise_peaks.Statement.{statement}
 use Rattle.sample_peak.proofs.raise_peaks.Tie as tie

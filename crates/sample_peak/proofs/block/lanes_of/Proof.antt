@@ -6,7 +6,8 @@ use lib.Dec.{lit≤}
 use lib.ListN.{length, getD}
 use lib.Ieee.{nan}
 use Rattle.samples.specs.Frames.{column}
-use Rattle.sample_peak.specs.Peak.{largestFrom, nought}
+use Rattle.floats.specs.Entry.{plusZero}
+use Rattle.floats.specs.Largest.{largest}
 use Rattle.sample_peak.proofs.block.lanes_of.Statement.{statement}
 use Rattle.sample_peak.proofs.block.lanes_of.Tie as tie
 
@@ -18,7 +19,7 @@ raise-turns-requires c κs =
 returns : tie.Need-returns
 returns c =
     let a = c .before .before .before .args in
-    (c .raise-turns .ensures .0, subst (λ (n : ℕ). (j : ℕ) → j < n → getD (c .raise-turns .result .values) j nan ≡ largestFrom nought (column (a .block .now) j n (a .turns))) (sym (c .before .if1 .taken)) (c .raise-turns .ensures .1))
+    (c .raise-turns .ensures .0, subst (λ (n : ℕ). (j : ℕ) → j < n → getD (c .raise-turns .result .values) j nan ≡ largest plusZero (column (a .block .now) j n (a .turns))) (sym (c .before .if1 .taken)) (c .raise-turns .ensures .1))
 
 raise-turns-requires-2 : tie.Need-raise-turns-requires-2
 raise-turns-requires-2 c κs = search needs

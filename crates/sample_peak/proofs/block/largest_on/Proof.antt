@@ -5,16 +5,17 @@ use mathlib.Core.Path.{_≡_, refl, sym, subst, _∙_}
 use lib.Ieee.{nan}
 use lib.ListN.{length, getD}
 use Rattle.samples.specs.Frames.{column}
-use Rattle.sample_peak.specs.Peak.{largestFrom}
+use Rattle.floats.specs.Largest.{largest}
 use Rattle.sources.specs.Blocks.{Reach}
 use Rattle.sources.proofs.Reaching.{reach-here, reach-next, reach-rest}
-use Rattle.sample_peak.proofs.Loudest.{High, raised-high, turn-largest, none-largest}
+use Rattle.floats.proofs.Magnitude.{High, raised-high}
+use Rattle.sample_peak.proofs.Loudest.{turn-largest, none-largest}
 use Rattle.sample_peak.proofs.block.largest_on.Statement.{statement}
 use Rattle.sample_peak.proofs.block.largest_on.Tie as tie
 
 abbrev Inv-loop : tie.InvT-loop
 Inv-loop top block first step count high₀ left₀ i₀ high left i =
-    Reach i step left (length block) × (High high × (largestFrom high (column block i step left) ≡ largestFrom top (column block first step count)))
+    Reach i step left (length block) × (High high × (largest high (column block i step left) ≡ largest top (column block first step count)))
 
 abbrev μ-loop : tie.MeasureT-loop
 μ-loop top block first step count high₀ left₀ i₀ high left i = left

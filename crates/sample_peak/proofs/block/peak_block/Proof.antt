@@ -9,9 +9,11 @@ use lib.ListN.{length, getD, set}
 use lib.Seq.{getD-set-other}
 use lib.Ieee.{Float, nan, lt}
 use Rattle.samples.specs.Frames.{column}
-use Rattle.sample_peak.specs.Peak.{nought, overChannels}
+use Rattle.floats.specs.Entry.{plusZero}
+use Rattle.sample_peak.specs.Peak.{overChannels}
 use Rattle.sources.proofs.Reaching.{reach-start}
-use Rattle.sample_peak.proofs.Loudest.{High, peaks, largest-high, channels-again, channels-end}
+use Rattle.floats.proofs.Magnitude.{High, largest-high}
+use Rattle.sample_peak.proofs.Loudest.{peaks, channels-again, channels-end}
 use Rattle.sample_peak.proofs.Rest.{reach-after, after-first}
 use Rattle.sample_peak.proofs.Lanes.{some-each, within-lanes, turns-fit, lanes-give}
 use Rattle.sample_peak.proofs.block.peak_block.Statement.{statement}
@@ -66,7 +68,7 @@ loop-holds c =
 top-high : (c : tie.In-loop Inv-loop μ-loop) → High (getD (c .before .loop .w .values) (c .before .loop .k) nan)
 top-high c =
     let l = c .before .loop in
-    ap (λ (x : Float). lt x nought) (l .inv .1 .1 (l .k) (omega arith)) ∙ c .before .before .before .before .before .pre .1 .1 (l .k) (c .loop-test .taken)
+    ap (λ (x : Float). lt x plusZero) (l .inv .1 .1 (l .k) (omega arith)) ∙ c .before .before .before .before .before .pre .1 .1 (l .k) (c .loop-test .taken)
 
 mul-top : tie.Need-mul-top Inv-loop μ-loop
 mul-top c = search needs
@@ -98,7 +100,7 @@ largest-on-requires-2 c κs =
     let s = q .before .before .before .before .before in
     let a = s .args in
     let h = q .loop-test .taken in (
-      ap (λ (x : Float). lt x nought) (c .largest-on .ensures) ∙ largest-high (getD (q .before .loop .w .values) (q .before .loop .k) nan) (column (q .before .before .before .lanes-of .result .values) (q .before .loop .k) (a .channels) (24 / a .channels)) (top-high q),
+      ap (λ (x : Float). lt x plusZero) (c .largest-on .ensures) ∙ largest-high (getD (q .before .loop .w .values) (q .before .loop .k) nan) (column (q .before .before .before .lanes-of .result .values) (q .before .loop .k) (a .channels) (24 / a .channels)) (top-high q),
       reach-after _ _ (a .count) _ _ (reach-start _ _ _ _ h (s .pre .0 .1) (s .pre .1 .0)) (part s),
     )
 

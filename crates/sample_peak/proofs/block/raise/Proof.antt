@@ -2,8 +2,8 @@
 use borrow.Author.Needs.{needs}
 use mathlib.Core.Path.{ap, _∙_}
 use lib.Ieee.{neg}
-use Rattle.sample_peak.specs.Peak.{greater}
-use Rattle.sample_peak.proofs.Loudest.{both-ways}
+use Rattle.floats.specs.Largest.{greater}
+use Rattle.floats.proofs.Magnitude.{both-ways}
 use Rattle.sample_peak.proofs.block.raise.Statement.{statement}
 use Rattle.sample_peak.proofs.block.raise.Tie as tie
 

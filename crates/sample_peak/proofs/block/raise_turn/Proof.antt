@@ -6,7 +6,8 @@ use mathlib.Core.Path.{_≡_, refl, sym, ap, _∙_}
 use lib.ListN.{getD, set}
 use lib.Seq.{getD-set-other}
 use lib.Ieee.{Float, nan, lt}
-use Rattle.sample_peak.specs.Peak.{nought, overChannels}
+use Rattle.floats.specs.Entry.{plusZero}
+use Rattle.sample_peak.specs.Peak.{overChannels}
 use Rattle.sample_peak.proofs.Loudest.{channels-again, channels-end}
 use Rattle.sample_peak.proofs.Lanes.{turn}
 use Rattle.sample_peak.proofs.block.raise_turn.Statement.{statement}
@@ -47,7 +48,7 @@ raise-requires c κs =
     let q = c .before .before in
     let l = q .before .loop in
     let p = q .before .before .before .pre in
-    ap (λ (x : Float). lt x nought) (l .inv .1 .1 (l .j) (omega arith)) ∙ p .1 .1 (l .j) (q .loop-test .taken)
+    ap (λ (x : Float). lt x plusZero) (l .inv .1 .1 (l .j) (omega arith)) ∙ p .1 .1 (l .j) (q .loop-test .taken)
 
 mul-w : tie.Need-mul-w Inv-loop μ-loop
 mul-w c = search needs

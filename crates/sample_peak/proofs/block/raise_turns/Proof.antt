@@ -9,8 +9,10 @@ use mathlib.Core.List.{List}
 use lib.ListN.{length, getD}
 use lib.Ieee.{Float, nan, lt, ofBits}
 use Rattle.samples.specs.Frames.{column}
-use Rattle.sample_peak.specs.Peak.{largestFrom, nought}
-use Rattle.sample_peak.proofs.Loudest.{channels-length, channels-first, start-tops, largest-high, nought-high}
+use Rattle.floats.specs.Entry.{plusZero}
+use Rattle.floats.specs.Largest.{largest}
+use Rattle.floats.proofs.Magnitude.{largest-high, zero-high}
+use Rattle.sample_peak.proofs.Loudest.{channels-length, channels-first, start-tops}
 use Rattle.sample_peak.proofs.Lanes.{turn, next-turn}
 use Rattle.sample_peak.proofs.block.raise_turns.Statement.{statement}
 use Rattle.sample_peak.proofs.block.raise_turns.Tie as tie
@@ -20,7 +22,7 @@ Inv-loop lanes block turns w₀ done₀ at₀ w done at =
     (done ≤ turns)
     × ((at ≡ done * lanes)
     × ((length (w .values) ≡ 24)
-    × ((j : ℕ) → j < lanes → getD (w .values) j nan ≡ largestFrom nought (column block j lanes done))))
+    × ((j : ℕ) → j < lanes → getD (w .values) j nan ≡ largest plusZero (column block j lanes done))))
 
 abbrev μ-loop : tie.MeasureT-loop
 μ-loop lanes block turns w₀ done₀ at₀ w done at = turns - done
@@ -51,7 +53,7 @@ raise-turn-requires c κs =
       s .pre .0,
       (
         omega (arith, fits c, l .inv .1 .0),
-        λ j h. ap (λ (x : Float). lt x nought) (l .inv .1 .1 .1 j h) ∙ largest-high nought (column (s .args .block .now) j (s .args .lanes) (l .done)) nought-high,
+        λ j h. ap (λ (x : Float). lt x plusZero) (l .inv .1 .1 .1 j h) ∙ largest-high plusZero (column (s .args .block .now) j (s .args .lanes) (l .done)) zero-high,
       ),
     )
 
@@ -90,7 +92,7 @@ returns c =
     let l = c .before .loop in
     let a = c .before .before .before .args in
     let e : l .done ≡ a .turns = omega (arith, c .loop-test .left, l .inv .0) in
-    (l .inv .1 .1 .0, λ j h. l .inv .1 .1 .1 j h ∙ ap (λ (n : ℕ). largestFrom nought (column (a .block .now) j (a .lanes) n)) e)
+    (l .inv .1 .1 .0, λ j h. l .inv .1 .1 .1 j h ∙ ap (λ (n : ℕ). largest plusZero (column (a .block .now) j (a .lanes) n)) e)
 
 pub raise-turns-spec : {M : Type 1} → statement M
 raise-turns-spec =

@@ -1,5 +1,5 @@
--- The larger of two floats, and the largest of a list: the first where neither is larger, so NaN never wins; and runs that begin anew may be joined.
--- What beats the larger of two also beats the smaller, and NaN beats nothing, so no run loses a value and none lets NaN win. Assumes nothing.
+-- The greater of two floats, and the greatest of a list: the first where neither is greater, so NaN never wins; and runs that begin anew may be compared in order.
+-- What beats the greater of two also beats the other, and NaN beats nothing, so no run loses a value and none lets NaN win. Assumes nothing.
 use mathlib.Core.Path.{_≡_, refl, sym, ap, _∙_, subst}
 use mathlib.Core.Logic.{_⊎_, inl, inr}
 use mathlib.Core.List.{List, [], _∷_, _++_}
@@ -10,10 +10,8 @@ use native.Mathlib.Omega.{arith}
 use borrow.Author.Tests.{ltb-false, lt-ltb, eq-eqb}
 use lib.Dec.{T, ltb, eqb}
 use lib.Ieee.{Float, nan, inf, fin, up, down, below, level, lt, eq, le, isNan}
+use Rattle.floats.specs.Largest.{greater, greatest, Raised}
 use Rattle.floats.proofs.Order.{is-true, float-le-trans, lt→le, lt-not-le}
-
-abbrev pub larger : Float → Float → Float
-larger top v = cond (lt top v) v top
 
 -- ---- the order of floats that are no NaN is total
 or-right : (a : Bool) → a || true ≡ true
@@ -106,65 +104,54 @@ not-below p q o = go (lt q p) refl
     go false e = refl
 
 -- p itself raises nothing that is over p
-pub larger-old : (p q : Float) → Over p q → larger q p ≡ q
-larger-old p q o = ap (λ (b : Bool). cond b p q) (not-below p q o)
+pub greater-old : (p q : Float) → Over p q → greater q p ≡ q
+greater-old p q o = ap (λ (b : Bool). cond b p q) (not-below p q o)
 
-pub over-larger : (p q v : Float) → Over p q → Over p (larger q v)
-over-larger p q v o = go (lt q v) refl
+pub over-greater : (p q v : Float) → Over p q → Over p (greater q v)
+over-greater p q v o = go (lt q v) refl
   where
     go : (b : Bool) → lt q v ≡ b → Over p (cond b v q)
     go true e = λ a h. o a (lt-lt q v a (subst T (sym e) tt) h)
     go false e = o
 
 -- what a run ends with is what it began with, or beats it
-abbrev pub Reached : Float → Float → Type 0
-Reached p z = (z ≡ p) ⊎ T (lt p z)
-
-pub reached-larger : (p v z : Float) → Reached (larger p v) z → Reached p z
-reached-larger p v z = go (lt p v) refl
+pub raised-greater : (p v z : Float) → Raised (greater p v) z → Raised p z
+raised-greater p v z = go (lt p v) refl
   where
-    go : (b : Bool) → lt p v ≡ b → Reached (cond b v p) z → Reached p z
+    go : (b : Bool) → lt p v ≡ b → Raised (cond b v p) z → Raised p z
     go true e (inl r) = inr (subst (λ (y : Float). T (lt p y)) (sym r) (subst T (sym e) tt))
     go true e (inr h) = inr (lt-lt p v z (subst T (sym e) tt) h)
     go false e r = r
 
-pub beats-through : (q v z : Float) → T (lt q v) → Reached v z → larger q z ≡ z
+pub beats-through : (q v z : Float) → T (lt q v) → Raised v z → greater q z ≡ z
 beats-through q v z h (inl e) = ap (λ (y : Float). cond (lt q y) y q) e ∙ ap (λ (b : Bool). cond b v q) (is-true (lt q v) h) ∙ sym e
 beats-through q v z h (inr k) = ap (λ (b : Bool). cond b z q) (is-true (lt q z) (lt-lt q v z h k))
 
--- ---- the largest of a list, from p on
-unfoldable pub largestOf : Float → List Float → Float
-largestOf p [] = p
-largestOf p (v ∷ vs) = largestOf (larger p v) vs
+-- ---- the greatest of a list, from p on
+pub raised-greatest : (p : Float) (vs : List Float) → Raised p (greatest p vs)
+unfolding greatest
+raised-greatest p [] = inl refl
+raised-greatest p (v ∷ vs) = raised-greater p v (greatest (greater p v) vs) (raised-greatest (greater p v) vs)
 
-reached : (p : Float) (vs : List Float) → Reached p (largestOf p vs)
-unfolding largestOf
-reached p [] = inl refl
-reached p (v ∷ vs) = reached-larger p v (largestOf (larger p v) vs) (reached (larger p v) vs)
+pub over-greatest : (p q : Float) (vs : List Float) → Over p q → Over p (greatest q vs)
+unfolding greatest
+over-greatest p q [] o = o
+over-greatest p q (v ∷ vs) o = over-greatest p (greater q v) vs (over-greater p q v o)
 
-pub over-largest : (p q : Float) (vs : List Float) → Over p q → Over p (largestOf q vs)
-unfolding largestOf
-over-largest p q [] o = o
-over-largest p q (v ∷ vs) o = over-largest p (larger q v) vs (over-larger p q v o)
-
--- a run from q is q and the run from p, whichever is larger
-pub apart : (p q : Float) (vs : List Float) → Over p q → largestOf q vs ≡ larger q (largestOf p vs)
-unfolding largestOf
-apart p q [] o = sym (larger-old p q o)
+-- a run from q is q and the run from p, whichever is greater
+pub apart : (p q : Float) (vs : List Float) → Over p q → greatest q vs ≡ greater q (greatest p vs)
+unfolding greatest
+apart p q [] o = sym (greater-old p q o)
 apart p q (v ∷ vs) o = go (lt q v) (lt p v) refl refl (λ r o′. apart r q vs o′)
   where
-    go : (b d : Bool) → lt q v ≡ b → lt p v ≡ d → ((r : Float) → Over r q → largestOf q vs ≡ larger q (largestOf r vs))
-        → largestOf (cond b v q) vs ≡ larger q (largestOf (cond d v p) vs)
-    go true true e f rest = sym (beats-through q v (largestOf v vs) (subst T (sym e) tt) (reached v vs))
+    go : (b d : Bool) → lt q v ≡ b → lt p v ≡ d → ((r : Float) → Over r q → greatest q vs ≡ greater q (greatest r vs))
+        → greatest (cond b v q) vs ≡ greater q (greatest (cond d v p) vs)
+    go true true e f rest = sym (beats-through q v (greatest v vs) (subst T (sym e) tt) (raised-greatest v vs))
     go true false e f rest = absurd (subst T f (o v (subst T (sym e) tt)))
     go false true e f rest = rest v (λ a h. beaten q v a (right-number p v (subst T (sym f) tt)) e h)
     go false false e f rest = rest p o
 
-pub largest-append : (p : Float) (us vs : List Float) → largestOf p (us ++ vs) ≡ largestOf (largestOf p us) vs
-unfolding largestOf
-largest-append p [] vs = refl
-largest-append p (u ∷ us) vs = largest-append (larger p u) us vs
-
--- runs from the same p, one list after another
-pub joined : (p : Float) (us vs : List Float) → larger (largestOf p us) (largestOf p vs) ≡ largestOf p (us ++ vs)
-joined p us vs = sym (apart p (largestOf p us) vs (over-largest p p us (over-self p))) ∙ sym (largest-append p us vs)
+pub greatest-append : (p : Float) (us vs : List Float) → greatest p (us ++ vs) ≡ greatest (greatest p us) vs
+unfolding greatest
+greatest-append p [] vs = refl
+greatest-append p (u ∷ us) vs = greatest-append (greater p u) us vs
