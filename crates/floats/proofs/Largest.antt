@@ -150,8 +150,3 @@ apart p q (v ∷ vs) o = go (lt q v) (lt p v) refl refl (λ r o′. apart r q vs
     go true false e f rest = absurd (subst T f (o v (subst T (sym e) tt)))
     go false true e f rest = rest v (λ a h. beaten q v a (right-number p v (subst T (sym f) tt)) e h)
     go false false e f rest = rest p o
-
-pub greatest-append : (p : Float) (us vs : List Float) → greatest p (us ++ vs) ≡ greatest (greatest p us) vs
-unfolding greatest
-greatest-append p [] vs = refl
-greatest-append p (u ∷ us) vs = greatest-append (greater p u) us vs

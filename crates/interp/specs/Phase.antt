@@ -5,7 +5,8 @@ use mathlib.Core.Bool.{cond}
 use Prim.Native.Nat.{ℕ, zero, suc, _+_}
 use lib.Dec.{eqb}
 use lib.ListN.{take, getD, replicate}
-use lib.Ieee.{Float, nan, add, mul, ofBits, binary32}
+use lib.Ieee.{Float, nan, add, mul, binary32}
+use Rattle.floats.specs.Entry.{plusZero}
 use Rattle.interp.specs.declared.Interp.{Interp}
 use Rattle.interp.specs.Taps.{fourfold as fourfoldTaps, twofold as twofoldTaps}
 use Rattle.interp.specs.Interp.{fourfold, twofold}
@@ -13,10 +14,6 @@ use Rattle.interp.specs.Interp.{fourfold, twofold}
 -- the coefficients of a factor, and NaN where there are none
 abbrev pub coefficients : ℕ → List Float
 coefficients factor = cond (eqb factor (fourfold .factor)) fourfoldTaps (cond (eqb factor (twofold .factor)) twofoldTaps (replicate 48 nan))
-
--- +0
-abbrev pub nought : Float
-nought = ofBits binary32 0
 
 -- the sum carried on by a sample times a coefficient
 abbrev pub plus : Float → Float → Float → Float
@@ -29,7 +26,7 @@ summed taps factor j sum (x ∷ xs) = summed taps factor (j + factor) (plus sum 
 
 -- phase f of these samples, by a table of taps
 abbrev pub phase : List Float → ℕ → List Float → ℕ → Float
-phase taps factor samples f = summed taps factor f nought samples
+phase taps factor samples f = summed taps factor f plusZero samples
 
 -- n phases from phase f on
 unfoldable pub phasesFrom : List Float → ℕ → List Float → ℕ → ℕ → List Float

@@ -1,18 +1,19 @@
--- A block of values taken by quarters: four frames a turn fill the four quarters together, and the largest of a block is the largest of its quarters in order.
+-- A stretch of values taken by quarters: four frames a turn fill the four quarters together, and the largest of a stretch is the largest of its quarters in order.
 -- A store in one quarter keeps the others, and each quarter's run begins from the same peak. Assumes nothing.
 use mathlib.Core.Path.{_≡_, refl, sym, ap, subst, _∙_}
 use mathlib.Core.Logic.{_⊎_, inl, inr}
-use mathlib.Core.List.{List}
+use mathlib.Core.List.{List, map}
 use Prim.Native.Nat.{ℕ, suc, _+_, _*_, _-_, _≤_, _<_, min}
 use native.Mathlib.Nat.{eq-or-lt-of-le, eq-zero-or-pos, min-eq-left, min-eq-right}
 use native.Mathlib.Omega.{arith}
 use lib.ListN.{length, getD, set, length-set}
 use lib.Seq.{getD-set-other, getD-set-same}
 use lib.Ieee.{Float, nan}
-use Rattle.largest_phase.specs.Largest.{louder, loudest}
-use Rattle.largest_phase.specs.Line.{block, quarter, back, scanned, loudestOf, Louds, Raised}
-use Rattle.floats.proofs.Larger.{Over, over-self}
-use Rattle.largest_phase.proofs.Loud.{apart, loudest-over, loudest-join, loudest-none, scanned-louds, phases-reached}
+use Rattle.floats.specs.Largest.{magnitude, greater, greatest, largest, Raised}
+use Rattle.largest_phase.specs.Line.{stretch, back, scanned}
+use Rattle.largest_phase.specs.Inner.{valuesFrom, quarter, greatestOf, Louds}
+use Rattle.floats.proofs.Largest.{Over, over-self, over-greatest, apart, raised-greatest}
+use Rattle.largest_phase.proofs.Loud.{greatest-join, greatest-none, scanned-louds}
 
 pub either : (d c : ℕ) → (d < c) ⊎ (c ≤ d)
 either d c = elim (eq-zero-or-pos (c - d)) [ inl z ↦ inr (omega arith) | inr p ↦ inl (omega arith) ]
@@ -20,7 +21,7 @@ either d c = elim (eq-zero-or-pos (c - d)) [ inl z ↦ inr (omega arith) | inr p
 module _ (phases : List Float → List Float) (line : List Float) (peak : Float) where
   -- what frame `at` makes of the peak
   abbrev pub raisedAt : ℕ → Float
-  raisedAt at = loudest peak (phases (back line at 24))
+  raisedAt at = largest peak (phases (back line at 24))
 
   -- the n places from `from` on are done
   abbrev pub Done : List Float → ℕ → ℕ → Type 0
@@ -39,13 +40,13 @@ module _ (phases : List Float → List Float) (line : List Float) (peak : Float)
 
   -- k frames of each of four runs
   pub record Quarters (run : ℕ) (l : List Float) (k : ℕ) : Type 0 where
-    pub size : length l ≡ block
+    pub size : length l ≡ stretch
     pub first : Done l 0 k
     pub second : Done l run k
     pub third : Done l (run + run) k
     pub fourth : Done l (run + run + run) k
 
-  pub quarters-start : (run : ℕ) (l : List Float) → length l ≡ block → Quarters run l 0
+  pub quarters-start : (run : ℕ) (l : List Float) → length l ≡ stretch → Quarters run l 0
   quarters-start run l e = record {
     size = e;
     first = λ p a b. absurd (omega arith);
@@ -54,16 +55,16 @@ module _ (phases : List Float → List Float) (line : List Float) (peak : Float)
     fourth = λ p a b. absurd (omega arith);
   }
 
-  pub quarters-turn : (run : ℕ) (l : List Float) (k p q r : ℕ) (u v w x : Float) → k < run → run * 4 ≤ block → p ≡ k + run → q ≡ k + run + run → r ≡ k + run + run + run
+  pub quarters-turn : (run : ℕ) (l : List Float) (k p q r : ℕ) (u v w x : Float) → k < run → run * 4 ≤ stretch → p ≡ k + run → q ≡ k + run + run → r ≡ k + run + run + run
       → u ≡ raisedAt k → v ≡ raisedAt p → w ≡ raisedAt q → x ≡ raisedAt r
       → Quarters run l k → Quarters run (set (set (set (set l k u) p v) q w) r x) (k + 1)
   quarters-turn run l k p q r u v w x h room ep eq er eu ev ew ex d =
       let l1 = set l k u in
       let l2 = set l1 p v in
       let l3 = set l2 q w in
-      let s1 : length l1 ≡ block = length-set l k u ∙ d .size in
-      let s2 : length l2 ≡ block = length-set l1 p v ∙ s1 in
-      let s3 : length l3 ≡ block = length-set l2 q w ∙ s2 in
+      let s1 : length l1 ≡ stretch = length-set l k u ∙ d .size in
+      let s2 : length l2 ≡ stretch = length-set l1 p v ∙ s1 in
+      let s3 : length l3 ≡ stretch = length-set l2 q w ∙ s2 in
       record {
         size = length-set l3 r x ∙ s3;
         first =
@@ -92,90 +93,90 @@ module _ (phases : List Float → List Float) (line : List Float) (peak : Float)
       which p g (inr a) (inr b) (inr c) = d .fourth p c (omega arith)
 
 -- ---- the largest of a few, by quarters
-pub run-turn : (l : List Float) (from at k : ℕ) (q r : Float) → k < 8 → at ≡ from + k → r ≡ louder q (getD l at nan)
-    → loudestOf l (from + (k + 1)) (8 - (k + 1)) r ≡ loudestOf l (from + k) (8 - k) q
-unfolding loudestOf
+pub run-turn : (l : List Float) (from at k : ℕ) (q r : Float) → k < 8 → at ≡ from + k → r ≡ greater q (getD l at nan)
+    → greatestOf l (from + (k + 1)) (8 - (k + 1)) r ≡ greatestOf l (from + k) (8 - k) q
+unfolding greatest valuesFrom
 run-turn l from at k q r h e f =
     let m : 8 - k ≡ suc (8 - (k + 1)) = omega arith in
     let n : from + (k + 1) ≡ suc (from + k) = omega arith in
-    ap (λ (x : ℕ). loudestOf l x (8 - (k + 1)) r) n
-    ∙ ap (loudestOf l (suc (from + k)) (8 - (k + 1))) (f ∙ ap (λ (x : ℕ). louder q (getD l x nan)) e)
-    ∙ ap (λ (x : ℕ). loudestOf l (from + k) x q) (sym m)
+    ap (λ (x : ℕ). greatestOf l x (8 - (k + 1)) r) n
+    ∙ ap (greatestOf l (suc (from + k)) (8 - (k + 1))) (f ∙ ap (λ (x : ℕ). greater q (getD l x nan)) e)
+    ∙ ap (λ (x : ℕ). greatestOf l (from + k) x q) (sym m)
 
-pub run-end : (l : List Float) (at k : ℕ) (q : Float) → 8 ≤ k → q ≡ loudestOf l at (8 - k) q
-unfolding loudestOf
-run-end l at k q h = let e : 0 ≡ 8 - k = omega arith in ap (λ (x : ℕ). loudestOf l at x q) e
+pub run-end : (l : List Float) (at k : ℕ) (q : Float) → 8 ≤ k → q ≡ greatestOf l at (8 - k) q
+unfolding greatest valuesFrom
+run-end l at k q h = let e : 0 ≡ 8 - k = omega arith in ap (λ (x : ℕ). greatestOf l at x q) e
 
 module _ (l : List Float) (p : Float) where
   run : ℕ → Float
-  run at = loudestOf l at 8 p
+  run at = greatestOf l at 8 p
 
-  joined : (at : ℕ) (q : Float) → Over p q → loudestOf l at 8 q ≡ louder q (run at)
+  joined : (at : ℕ) (q : Float) → Over p q → greatestOf l at 8 q ≡ greater q (run at)
   unfolding run
-  joined at q o = apart l at 8 p q o
+  joined at q o = apart p q (valuesFrom l at 8) o
 
   -- the quarters' runs compared in order
-  pub by-quarters : (a b c d : Float) → a ≡ loudestOf l 0 8 p → b ≡ loudestOf l 8 8 p → c ≡ loudestOf l 16 8 p → d ≡ loudestOf l 24 8 p
-      → louder (louder (louder a b) c) d ≡ loudestOf l 0 quarter p
+  pub by-quarters : (a b c d : Float) → a ≡ greatestOf l 0 8 p → b ≡ greatestOf l 8 8 p → c ≡ greatestOf l 16 8 p → d ≡ greatestOf l 24 8 p
+      → greater (greater (greater a b) c) d ≡ greatestOf l 0 quarter p
   unfolding run
   by-quarters a b c d ea eb ec ed =
-      let one = loudestOf l 0 8 p in
-      let two = loudestOf l 8 8 one in
-      let three = loudestOf l 16 8 two in
-      let o1 = loudest-over l 0 8 p p (over-self p) in
-      let o2 = loudest-over l 8 8 p one o1 in
-      let o3 = loudest-over l 16 8 p two o2 in
-      let e2 : louder a b ≡ two = ap (λ (x : Float). louder x b) ea ∙ ap (louder one) eb ∙ sym (joined 8 one o1) in
-      let e3 : louder (louder a b) c ≡ three = ap (λ (x : Float). louder x c) e2 ∙ ap (louder two) ec ∙ sym (joined 16 two o2) in
-      let e4 : louder (louder (louder a b) c) d ≡ loudestOf l 24 8 three = ap (λ (x : Float). louder x d) e3 ∙ ap (louder three) ed ∙ sym (joined 24 three o3) in
-      e4 ∙ sym (loudest-join l 0 24 8 p ∙ ap (loudestOf l 24 8) (loudest-join l 0 16 8 p ∙ ap (loudestOf l 16 8) (loudest-join l 0 8 8 p)))
+      let one = greatestOf l 0 8 p in
+      let two = greatestOf l 8 8 one in
+      let three = greatestOf l 16 8 two in
+      let o1 = over-greatest p p (valuesFrom l 0 8) (over-self p) in
+      let o2 = over-greatest p one (valuesFrom l 8 8) o1 in
+      let o3 = over-greatest p two (valuesFrom l 16 8) o2 in
+      let e2 : greater a b ≡ two = ap (λ (x : Float). greater x b) ea ∙ ap (greater one) eb ∙ sym (joined 8 one o1) in
+      let e3 : greater (greater a b) c ≡ three = ap (λ (x : Float). greater x c) e2 ∙ ap (greater two) ec ∙ sym (joined 16 two o2) in
+      let e4 : greater (greater (greater a b) c) d ≡ greatestOf l 24 8 three = ap (λ (x : Float). greater x d) e3 ∙ ap (greater three) ed ∙ sym (joined 24 three o3) in
+      e4 ∙ sym (greatest-join l 0 24 8 p ∙ ap (greatestOf l 24 8) (greatest-join l 0 16 8 p ∙ ap (greatestOf l 16 8) (greatest-join l 0 8 8 p)))
 
--- ---- n frames of a block, the places after them at the peak
-scanned-block : (phases : List Float → List Float) (line louds : List Float) (n : ℕ) (p : Float) → n ≤ block
-    → ((j : ℕ) → j < n → getD louds j nan ≡ loudest p (phases (back line j 24))) → ((j : ℕ) → n ≤ j → j < block → getD louds j nan ≡ p)
-    → loudestOf louds 0 block p ≡ scanned phases line 0 n p
-scanned-block phases line louds n p h raised after =
-    let e : block ≡ n + (block - n) = omega arith in
+-- ---- n frames of a stretch, the places after them at the peak
+scanned-stretch : (phases : List Float → List Float) (line louds : List Float) (n : ℕ) (p : Float) → n ≤ stretch
+    → ((j : ℕ) → j < n → getD louds j nan ≡ largest p (phases (back line j 24))) → ((j : ℕ) → n ≤ j → j < stretch → getD louds j nan ≡ p)
+    → greatestOf louds 0 stretch p ≡ scanned phases line 0 n p
+scanned-stretch phases line louds n p h raised after =
+    let e : stretch ≡ n + (stretch - n) = omega arith in
     let z : 0 + n ≡ n = omega arith in
-    ap (λ (m : ℕ). loudestOf louds 0 m p) e
-    ∙ loudest-join louds 0 n (block - n) p
-    ∙ loudest-none louds (0 + n) (block - n) p (loudestOf louds 0 n p) (loudest-over louds 0 n p p (over-self p)) (λ j a b. after j (omega arith) (omega arith))
+    ap (λ (m : ℕ). greatestOf louds 0 m p) e
+    ∙ greatest-join louds 0 n (stretch - n) p
+    ∙ greatest-none louds (0 + n) (stretch - n) p (greatestOf louds 0 n p) (over-greatest p p (valuesFrom louds 0 n) (over-self p)) (λ j a b. after j (omega arith) (omega arith))
     ∙ sym (scanned-louds phases line louds 0 n p p (over-self p) (λ j a b. raised j (omega arith)))
 
--- a block has no more frames than its own
+-- a stretch has no more frames than its own
 pub scanned-some : (phases : List Float → List Float) (line louds : List Float) (n : ℕ) (p : Float)
-    → ((j : ℕ) → j < n → j < block → getD louds j nan ≡ loudest p (phases (back line j 24))) → ((j : ℕ) → n ≤ j → j < block → getD louds j nan ≡ p)
-    → loudestOf louds 0 block p ≡ scanned phases line 0 (min n block) p
-scanned-some phases line louds n p raised after = by (either n block)
+    → ((j : ℕ) → j < n → j < stretch → getD louds j nan ≡ largest p (phases (back line j 24))) → ((j : ℕ) → n ≤ j → j < stretch → getD louds j nan ≡ p)
+    → greatestOf louds 0 stretch p ≡ scanned phases line 0 (min n stretch) p
+scanned-some phases line louds n p raised after = by (either n stretch)
   where
-    by : (n < block) ⊎ (block ≤ n) → loudestOf louds 0 block p ≡ scanned phases line 0 (min n block) p
+    by : (n < stretch) ⊎ (stretch ≤ n) → greatestOf louds 0 stretch p ≡ scanned phases line 0 (min n stretch) p
     by (inl h) =
-        let e : n ≤ block = omega arith in
-        scanned-block phases line louds n p e (λ j a. raised j a (omega arith)) after ∙ ap (λ (m : ℕ). scanned phases line 0 m p) (sym (min-eq-left e))
+        let e : n ≤ stretch = omega arith in
+        scanned-stretch phases line louds n p e (λ j a. raised j a (omega arith)) after ∙ ap (λ (m : ℕ). scanned phases line 0 m p) (sym (min-eq-left e))
     by (inr h) =
-        scanned-block phases line louds block p (omega arith) (λ j a. raised j (omega arith) a) (λ j a b. absurd (omega arith))
+        scanned-stretch phases line louds stretch p (omega arith) (λ j a. raised j (omega arith) a) (λ j a b. absurd (omega arith))
         ∙ ap (λ (m : ℕ). scanned phases line 0 m p) (sym (min-eq-right h))
 
--- each of a block's values was raised from the peak
+-- each of a stretch's values was raised from the peak
 pub all-raised : (phases : List Float → List Float) (line louds : List Float) (n : ℕ) (p : Float)
-    → ((j : ℕ) → j < n → j < block → getD louds j nan ≡ loudest p (phases (back line j 24))) → ((j : ℕ) → n ≤ j → j < block → getD louds j nan ≡ p)
-    → (j : ℕ) → j < block → Raised p (getD louds j nan)
+    → ((j : ℕ) → j < n → j < stretch → getD louds j nan ≡ largest p (phases (back line j 24))) → ((j : ℕ) → n ≤ j → j < stretch → getD louds j nan ≡ p)
+    → (j : ℕ) → j < stretch → Raised p (getD louds j nan)
 all-raised phases line louds n p raised after j h = by (either j n)
   where
     by : (j < n) ⊎ (n ≤ j) → Raised p (getD louds j nan)
-    by (inl g) = subst (Raised p) (sym (raised j g h)) (phases-reached (phases (back line j 24)) p)
+    by (inl g) = subst (Raised p) (sym (raised j g h)) (raised-greatest p (map magnitude (phases (back line j 24))))
     by (inr g) = inl (after j g h)
 
 -- ---- the places from n on set to the peak
 pub record Filled (old l : List Float) (n k : ℕ) (p : Float) : Type 0 where
-  pub size : length l ≡ block
+  pub size : length l ≡ stretch
   pub kept : (j : ℕ) → j < n → getD l j nan ≡ getD old j nan
   pub filled : (j : ℕ) → n ≤ j → j < k → getD l j nan ≡ p
 
-pub filled-start : (l : List Float) (n : ℕ) (p : Float) → length l ≡ block → Filled l l n n p
+pub filled-start : (l : List Float) (n : ℕ) (p : Float) → length l ≡ stretch → Filled l l n n p
 filled-start l n p e = record { size = e; kept = λ j h. refl; filled = λ j a b. absurd (omega arith) }
 
-pub filled-turn : (old l : List Float) (n k : ℕ) (p : Float) → n ≤ k → k < block → Filled old l n k p → Filled old (set l k p) n (k + 1) p
+pub filled-turn : (old l : List Float) (n k : ℕ) (p : Float) → n ≤ k → k < stretch → Filled old l n k p → Filled old (set l k p) n (k + 1) p
 filled-turn old l n k p h g f = record {
   size = length-set l k p ∙ f .size;
   kept = λ j a. getD-set-other l k j p nan (λ e. omega arith) ∙ f .kept j a;

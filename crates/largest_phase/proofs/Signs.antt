@@ -8,14 +8,8 @@ use lib.Dec.{T}
 use lib.Ieee.{Float, nan, inf, fin, binary32, fits, isNan, lt, eq, ne, ofBits, toBits, nanBits}
 use lib.Ieee.Bits.{ofBits-toBits, toBits-lt, nanBits-is}
 use Rattle.floats.proofs.Nan.{differs, only-nan}
-use Rattle.largest_phase.specs.Largest.{magnitude, louder}
-
-fits-magnitude : (x : Float) → T (fits binary32 x) → T (fits binary32 (magnitude x))
-unfolding fits
-fits-magnitude nan h = h
-fits-magnitude (inf s) h = h
-fits-magnitude (fin s zero e) h = h
-fits-magnitude (fin s (suc m) e) h = h
+use Rattle.floats.proofs.Magnitude.{magnitude-fits, nan-never}
+use Rattle.floats.specs.Largest.{magnitude, greater}
 
 no-nan-magnitude : (x : Float) → T (not (isNan x)) → T (not (isNan (magnitude x)))
 unfolding isNan
@@ -62,7 +56,7 @@ unsigned (fin true m e) h f = ap (λ (n : ℕ). n % sign) (signed (fin true m e)
 unsigned (fin false m e) h f = mod-eq-of-lt (below-sign (fin false m e) h f)
 
 pub by-bits : (x : Float) → T (not (isNan x)) → T (fits binary32 x) → ofBits binary32 (toBits binary32 x % sign) ≡ magnitude x
-by-bits x h f = ap (ofBits binary32) (unsigned x h f) ∙ ofBits-toBits binary32 (magnitude x) (fits-magnitude x f)
+by-bits x h f = ap (ofBits binary32) (unsigned x h f) ∙ ofBits-toBits binary32 (magnitude x) (magnitude-fits binary32 x f)
 
 pub no-nan-bits : (x : Float) → T (not (isNan x)) → T (fits binary32 x) → T (not (nanBits binary32 (toBits binary32 x % sign)))
 no-nan-bits x h f = rw (nanBits-is binary32 (toBits binary32 x % sign), by-bits x h f) (no-nan-magnitude x h)
@@ -79,22 +73,16 @@ equal x = turned (eq x x) (isNan x) (differs x)
 pub number : (x : Float) → eq x x ≡ true → T (not (isNan x))
 number x h = subst T (sym h ∙ equal x) tt
 
-beats-nothing : (peak : Float) → lt peak nan ≡ false
-unfolding lt
-beats-nothing nan = refl
-beats-nothing (inf s) = refl
-beats-nothing (fin s m e) = refl
-
 pub nan-beats-none : (peak x : Float) → eq x x ≡ false → false ≡ lt peak (magnitude x)
 nan-beats-none peak x h =
     let n : x ≡ nan = only-nan x (turned (isNan x) false (sym (equal x) ∙ h)) in
-    sym (ap (λ (y : Float). lt peak (magnitude y)) n ∙ beats-nothing peak)
+    sym (ap (λ (y : Float). lt peak (magnitude y)) n ∙ nan-never peak)
 
 pub winner : (peak x : Float) → lt peak (magnitude x) ≡ true → T (not (isNan x))
 unfolding isNan
-winner peak nan h = absurd (true≢false (sym h ∙ beats-nothing peak))
+winner peak nan h = absurd (true≢false (sym h ∙ nan-never peak))
 winner peak (inf s) h = tt
 winner peak (fin s m e) h = tt
 
-pub raised-by : (peak v x : Float) (b : Bool) → lt peak (magnitude x) ≡ b → v ≡ magnitude x → cond b v peak ≡ louder peak (magnitude x)
+pub raised-by : (peak v x : Float) (b : Bool) → lt peak (magnitude x) ≡ b → v ≡ magnitude x → cond b v peak ≡ greater peak (magnitude x)
 raised-by peak v x b h e = ap (λ (t : Bool). cond t v peak) (sym h) ∙ ap (λ (w : Float). cond (lt peak (magnitude x)) w peak) e

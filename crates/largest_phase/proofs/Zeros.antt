@@ -15,10 +15,11 @@ use lib.Ieee.{Float, nan, inf, fin, binary32, up, down, round, sum, add, mul, of
 use lib.Ieee.Fits.{down-pos}
 use lib.Ieee.Scale.{round-same}
 use Rattle.interp.specs.declared.Interp.{Interp}
-use Rattle.interp.specs.Phase.{nought, plus, summed, phasesFrom, phasesBy}
-use Rattle.largest_phase.specs.Largest.{magnitude, louder, loudest}
+use Rattle.interp.specs.Phase.{plus, summed, phasesFrom, phasesBy}
+use Rattle.floats.specs.Entry.{plusZero}
+use Rattle.floats.specs.Largest.{magnitude, greater, greatest, largest}
 use Rattle.largest_phase.specs.Line.{back}
-use Rattle.largest_phase.specs.Taps.{minusNought, sumsFrom, sumsBy}
+use Rattle.largest_phase.specs.Inner.{minusZero, sumsFrom, sumsBy}
 
 -- a zero of a sign
 abbrev zeroOf : Bool → Float
@@ -81,20 +82,20 @@ summed-alike taps factor j s t (x ∷ xs) h =
     let c = getD taps j nan in
     summed-alike taps factor (j + factor) (plus s x c) (plus t x c) xs (alike-added s t (mul binary32 x c) h)
 
-starts : Alike minusNought nought
+starts : Alike minusZero plusZero
 unfolding ofBits
 starts = zeros true false refl refl
 
-phases-alike : (taps : List Float) (factor : ℕ) (samples : List Float) (peak : Float) (f n : ℕ) → loudest peak (sumsFrom taps factor samples f n) ≡ loudest peak (phasesFrom taps factor samples f n)
-unfolding loudest sumsFrom phasesFrom
+phases-alike : (taps : List Float) (factor : ℕ) (samples : List Float) (peak : Float) (f n : ℕ) → largest peak (sumsFrom taps factor samples f n) ≡ largest peak (phasesFrom taps factor samples f n)
+unfolding greatest sumsFrom phasesFrom
 phases-alike taps factor samples peak f zero = refl
 phases-alike taps factor samples peak f (suc n) =
-    let mine = summed taps factor f minusNought samples in
-    let its = summed taps factor f nought samples in
-    ap (λ (v : Float). loudest (louder peak v) (sumsFrom taps factor samples (suc f) n)) (alike-magnitude mine its (summed-alike taps factor f minusNought nought samples starts))
-    ∙ phases-alike taps factor samples (louder peak (magnitude its)) (suc f) n
+    let mine = summed taps factor f minusZero samples in
+    let its = summed taps factor f plusZero samples in
+    ap (λ (v : Float). largest (greater peak v) (sumsFrom taps factor samples (suc f) n)) (alike-magnitude mine its (summed-alike taps factor f minusZero plusZero samples starts))
+    ∙ phases-alike taps factor samples (greater peak (magnitude its)) (suc f) n
 
 -- a frame's window begins at place `at` of a line
-pub raised-alike : (taps : List Float) (i : Interp) (line : List Float) (peak : Float) (at : ℕ) (sums : List Float) → sums ≡ sumsBy taps i (back line at 24) → loudest peak sums ≡ loudest peak (phasesBy taps i (back line at 24))
+pub raised-alike : (taps : List Float) (i : Interp) (line : List Float) (peak : Float) (at : ℕ) (sums : List Float) → sums ≡ sumsBy taps i (back line at 24) → largest peak sums ≡ largest peak (phasesBy taps i (back line at 24))
 unfolding sumsBy phasesBy
-raised-alike taps i line peak at sums e = ap (loudest peak) e ∙ phases-alike taps (i .factor) (take (i .taps) (back line at 24)) peak 0 (i .factor)
+raised-alike taps i line peak at sums e = ap (largest peak) e ∙ phases-alike taps (i .factor) (take (i .taps) (back line at 24)) peak 0 (i .factor)

@@ -1,3 +1,2 @@
-pub mod Largest
 pub mod Line
-pub mod Taps
+pub mod Inner

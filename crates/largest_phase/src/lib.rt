@@ -7,13 +7,13 @@ ghost use lib.Dec.{T};
 ghost use lib.Ieee.{nan, isNan, lt};
 ghost use Rattle.interp.specs.Interp.{fourfold, twofold};
 ghost use Rattle.interp.specs.Phase.{phasesBy};
-ghost use Rattle.largest_phase.specs.Largest.{magnitude, louder, loudest};
-ghost use Rattle.largest_phase.specs.Line.{block, quarter, back, scanned, loudestOf, Louds, Raised, Pairs};
-ghost use Rattle.largest_phase.specs.Taps.{four, two, sumsBy, windows, onFour, fourAt, tapFour, onPair, tapPair};
+ghost use Rattle.floats.specs.Largest.{magnitude, greater, largest, Raised};
+ghost use Rattle.largest_phase.specs.Line.{stretch, back, scanned};
+ghost use Rattle.largest_phase.specs.Inner.{four, two, sumsBy, Within, samplesAt, fourAt, onFour, tapFour, onPair, tapPair, Louds, greatestOf, Pairs, quarter};
 use interp::Interp;
 
-// How many frames of a channel are taken at a time, a half of them and a quarter: four frames side by side fill a vector each.
-pub const BLOCK: usize = 128;
+// How many frames of a channel are taken at a time, a half of them and a quarter.
+pub const STRETCH: usize = 128;
 
 const HALF: usize = 64;
 
@@ -26,12 +26,12 @@ const THIRD: usize = 16;
 
 const FOURTH: usize = 24;
 
-// A channel's history and a block of its samples, oldest first.
+// A channel's history and a stretch of its samples, oldest first.
 pub const LINE: usize = 151;
 
 // A value replaces the peak only if it is greater.
-fn louder(peak: f32, v: f32) -> f32
-    ensures { λ r. ⌜ r ≡ louder peak v ⌝ }
+fn greater(peak: f32, v: f32) -> f32
+    ensures { λ r. ⌜ r ≡ greater peak v ⌝ }
 {
     if peak < v { v } else { peak }
 }
@@ -44,7 +44,7 @@ fn magnitude(x: f32) -> f32
     f32::from_bits(f32::to_bits(x) % 0x8000_0000)
 }
 
-// A NaN never wins. The test is a function of its own, in which the compiler sees that a comparison which holds has no NaN in it: no other test is left.
+// Whether the absolute value is greater than the peak. A NaN never is.
 fn beats(peak: f32, x: f32) -> bool
     ensures { λ r. ⌜ r ≡ lt peak (magnitude x) ⌝ }
 {
@@ -56,7 +56,7 @@ fn beats(peak: f32, x: f32) -> bool
 
 // The absolute value replaces the peak if it is greater.
 fn raised(peak: f32, x: f32) -> f32
-    ensures { λ r. ⌜ r ≡ louder peak (magnitude x) ⌝ }
+    ensures { λ r. ⌜ r ≡ greater peak (magnitude x) ⌝ }
 {
     if beats(peak, x) {
         return magnitude(x);
@@ -64,7 +64,7 @@ fn raised(peak: f32, x: f32) -> f32
     peak
 }
 
-// The phases of a frame, by factor, or the sums on the way to them.
+// The phases of a frame, by factor, or the sums on the way to them; and four taps.
 struct Four {
     p0: f32,
     p1: f32,
@@ -77,8 +77,8 @@ struct Two {
     p1: f32,
 }
 
-fn loudest_four(peak: f32, p: Four) -> f32
-    ensures { λ r. ⌜ r ≡ loudest peak (four p) ⌝ }
+fn largest_four(peak: f32, p: Four) -> f32
+    ensures { λ r. ⌜ r ≡ largest peak (four p) ⌝ }
 {
     let a = raised(peak, p.p0);
     let b = raised(a, p.p1);
@@ -86,8 +86,8 @@ fn loudest_four(peak: f32, p: Four) -> f32
     raised(c, p.p3)
 }
 
-fn loudest_two(peak: f32, p: Two) -> f32
-    ensures { λ r. ⌜ r ≡ loudest peak (two p) ⌝ }
+fn largest_two(peak: f32, p: Two) -> f32
+    ensures { λ r. ⌜ r ≡ largest peak (two p) ⌝ }
 {
     let a = raised(peak, p.p0);
     raised(a, p.p1)
@@ -95,7 +95,7 @@ fn loudest_two(peak: f32, p: Two) -> f32
 
 // A frame's four sums carried on by a sample of its window: product and sum are rounded each by itself.
 fn on_four(s: Four, line: &[f32; LINE], at: usize, place: usize, c: Four) -> Four
-    requires { ⌜ (at < block) × (place < 24) ⌝ }
+    requires { ⌜ (at < stretch) × (place < 24) ⌝ }
     ensures { λ r. ⌜ r ≡ onFour s (getD (now (line .entry)) (at + place) nan) c ⌝ }
 {
     let x = line[at + place];
@@ -128,45 +128,43 @@ struct Fours {
     d: Four,
 }
 
-// The sums of four frames, each carried on by its own sample, and by the same taps: none waits for another.
+// Where the windows of four frames begin in a line.
+struct Windows {
+    a: usize,
+    b: usize,
+    c: usize,
+    d: usize,
+}
+
+// The sums of four frames, each carried on by its own sample, and by the same taps.
 fn tap_four(
     taps: &[f32; Interp::COEFFICIENTS],
     j: usize,
     line: &[f32; LINE],
     place: usize,
-    a: usize,
-    b: usize,
-    c: usize,
-    d: usize,
+    w: Windows,
     e: Fours,
 ) -> Fours
     requires { ⌜ (j + 3 < 48) × (place < 24) ⌝ }
-    requires { ⌜ (a < block) × ((b < block) × ((c < block) × (d < block))) ⌝ }
-    ensures { λ r. ⌜ r ≡ tapFour (now (taps .entry)) (now (line .entry)) (windows a b c d) j place e ⌝ }
+    requires { ⌜ Within w ⌝ }
+    ensures { λ r. ⌜ r ≡ tapFour (fourAt (now (taps .entry)) j) (samplesAt (now (line .entry)) w place) e ⌝ }
 {
     let t = four_at(taps, j);
     Fours {
-        a: on_four(e.a, line, a, place, t),
-        b: on_four(e.b, line, b, place, t),
-        c: on_four(e.c, line, c, place, t),
-        d: on_four(e.d, line, d, place, t),
+        a: on_four(e.a, line, w.a, place, t),
+        b: on_four(e.b, line, w.b, place, t),
+        c: on_four(e.c, line, w.c, place, t),
+        d: on_four(e.d, line, w.d, place, t),
     }
 }
 
-// The phases of four frames by factor 4, tap by tap, but for the sign of a zero: adding to -0 leaves a product as it is, so the compiler drops that addition.
-fn each_four(
-    taps: &[f32; Interp::COEFFICIENTS],
-    line: &[f32; LINE],
-    a: usize,
-    b: usize,
-    c: usize,
-    d: usize,
-) -> Fours
-    requires { ⌜ (a < block) × ((b < block) × ((c < block) × (d < block))) ⌝ }
-    ensures { λ r. ⌜ four (r .a) ≡ sumsBy (now (taps .entry)) fourfold (back (now (line .entry)) a 24) ⌝ }
-    ensures { λ r. ⌜ four (r .b) ≡ sumsBy (now (taps .entry)) fourfold (back (now (line .entry)) b 24) ⌝ }
-    ensures { λ r. ⌜ four (r .c) ≡ sumsBy (now (taps .entry)) fourfold (back (now (line .entry)) c 24) ⌝ }
-    ensures { λ r. ⌜ four (r .d) ≡ sumsBy (now (taps .entry)) fourfold (back (now (line .entry)) d 24) ⌝ }
+// The phases of four frames by factor 4, tap by tap. The sums begin at -0, which alters the sign of a zero at most.
+fn each_four(taps: &[f32; Interp::COEFFICIENTS], line: &[f32; LINE], w: Windows) -> Fours
+    requires { ⌜ Within w ⌝ }
+    ensures { λ r. ⌜ four (r .a) ≡ sumsBy (now (taps .entry)) fourfold (back (now (line .entry)) (w .a) 24) ⌝ }
+    ensures { λ r. ⌜ four (r .b) ≡ sumsBy (now (taps .entry)) fourfold (back (now (line .entry)) (w .b) 24) ⌝ }
+    ensures { λ r. ⌜ four (r .c) ≡ sumsBy (now (taps .entry)) fourfold (back (now (line .entry)) (w .c) 24) ⌝ }
+    ensures { λ r. ⌜ four (r .d) ≡ sumsBy (now (taps .entry)) fourfold (back (now (line .entry)) (w .d) 24) ⌝ }
 {
     let z = Four {
         p0: -0.0,
@@ -180,26 +178,26 @@ fn each_four(
         c: z,
         d: z,
     };
-    let e0 = tap_four(taps, 0, line, 23, a, b, c, d, none);
-    let e1 = tap_four(taps, 4, line, 22, a, b, c, d, e0);
-    let e2 = tap_four(taps, 8, line, 21, a, b, c, d, e1);
-    let e3 = tap_four(taps, 12, line, 20, a, b, c, d, e2);
-    let e4 = tap_four(taps, 16, line, 19, a, b, c, d, e3);
-    let e5 = tap_four(taps, 20, line, 18, a, b, c, d, e4);
-    let e6 = tap_four(taps, 24, line, 17, a, b, c, d, e5);
-    let e7 = tap_four(taps, 28, line, 16, a, b, c, d, e6);
-    let e8 = tap_four(taps, 32, line, 15, a, b, c, d, e7);
-    let e9 = tap_four(taps, 36, line, 14, a, b, c, d, e8);
-    let e10 = tap_four(taps, 40, line, 13, a, b, c, d, e9);
-    tap_four(taps, 44, line, 12, a, b, c, d, e10)
+    let e0 = tap_four(taps, 0, line, 23, w, none);
+    let e1 = tap_four(taps, 4, line, 22, w, e0);
+    let e2 = tap_four(taps, 8, line, 21, w, e1);
+    let e3 = tap_four(taps, 12, line, 20, w, e2);
+    let e4 = tap_four(taps, 16, line, 19, w, e3);
+    let e5 = tap_four(taps, 20, line, 18, w, e4);
+    let e6 = tap_four(taps, 24, line, 17, w, e5);
+    let e7 = tap_four(taps, 28, line, 16, w, e6);
+    let e8 = tap_four(taps, 32, line, 15, w, e7);
+    let e9 = tap_four(taps, 36, line, 14, w, e8);
+    let e10 = tap_four(taps, 40, line, 13, w, e9);
+    tap_four(taps, 44, line, 12, w, e10)
 }
 
 // What a frame's phases make of the peak, in the frame's place.
-fn store_four(loud: &mut [f32; BLOCK], at: usize, peak: f32, p: Four)
-    requires { ⌜ at < block ⌝ }
-    ensures { λ _. ⌜ now (loud .exit) ≡ set (now (loud .entry)) at (loudest peak (four p)) ⌝ }
+fn store_four(loud: &mut [f32; STRETCH], at: usize, peak: f32, p: Four)
+    requires { ⌜ at < stretch ⌝ }
+    ensures { λ _. ⌜ now (loud .exit) ≡ set (now (loud .entry)) at (largest peak (four p)) ⌝ }
 {
-    loud[at] = loudest_four(peak, p);
+    loud[at] = largest_four(peak, p);
 }
 
 // Every frame of a line raises the peak by itself, by factor 4: a frame of each of four runs at a time.
@@ -208,10 +206,10 @@ fn frames_fourfold(
     line: &[f32; LINE],
     run: usize,
     peak: f32,
-    loud: &mut [f32; BLOCK],
+    loud: &mut [f32; STRETCH],
 )
-    requires { ⌜ run * 4 ≤ block ⌝ }
-    requires { ⌜ length (now loud) ≡ block ⌝ }
+    requires { ⌜ run * 4 ≤ stretch ⌝ }
+    requires { ⌜ length (now loud) ≡ stretch ⌝ }
     ensures { λ _. ⌜ Louds (phasesBy (now (taps .entry)) fourfold) (now (line .entry)) peak (run * 4) (now (loud .exit)) ⌝ }
 {
     let mut at = 0;
@@ -219,7 +217,13 @@ fn frames_fourfold(
         let second = at + run;
         let third = second + run;
         let fourth = third + run;
-        let e = each_four(taps, line, at, second, third, fourth);
+        let w = Windows {
+            a: at,
+            b: second,
+            c: third,
+            d: fourth,
+        };
+        let e = each_four(taps, line, w);
         store_four(loud, at, peak, e.a);
         store_four(loud, second, peak, e.b);
         store_four(loud, third, peak, e.c);
@@ -230,7 +234,7 @@ fn frames_fourfold(
 
 // A frame's two sums carried on by two samples of its window.
 fn on_pair(s: Two, line: &[f32; LINE], at: usize, newer: usize, older: usize, c: Four) -> Two
-    requires { ⌜ (at < block) × ((newer < 24) × (older < 24)) ⌝ }
+    requires { ⌜ (at < stretch) × ((newer < 24) × (older < 24)) ⌝ }
     ensures { λ r. ⌜ r ≡ onPair s (getD (now (line .entry)) (at + newer) nan) (getD (now (line .entry)) (at + older) nan) c ⌝ }
 {
     let x = line[at + newer];
@@ -256,39 +260,29 @@ fn tap_pair(
     line: &[f32; LINE],
     newer: usize,
     older: usize,
-    a: usize,
-    b: usize,
-    c: usize,
-    d: usize,
+    w: Windows,
     e: Twos,
 ) -> Twos
     requires { ⌜ (j + 3 < 48) × ((newer < 24) × (older < 24)) ⌝ }
-    requires { ⌜ (a < block) × ((b < block) × ((c < block) × (d < block))) ⌝ }
-    ensures { λ r. ⌜ r ≡ tapPair (now (taps .entry)) (now (line .entry)) (windows a b c d) j newer older e ⌝ }
+    requires { ⌜ Within w ⌝ }
+    ensures { λ r. ⌜ r ≡ tapPair (fourAt (now (taps .entry)) j) (samplesAt (now (line .entry)) w newer) (samplesAt (now (line .entry)) w older) e ⌝ }
 {
     let t = four_at(taps, j);
     Twos {
-        a: on_pair(e.a, line, a, newer, older, t),
-        b: on_pair(e.b, line, b, newer, older, t),
-        c: on_pair(e.c, line, c, newer, older, t),
-        d: on_pair(e.d, line, d, newer, older, t),
+        a: on_pair(e.a, line, w.a, newer, older, t),
+        b: on_pair(e.b, line, w.b, newer, older, t),
+        c: on_pair(e.c, line, w.c, newer, older, t),
+        d: on_pair(e.d, line, w.d, newer, older, t),
     }
 }
 
 // The same by factor 2, two taps at a time.
-fn each_two(
-    taps: &[f32; Interp::COEFFICIENTS],
-    line: &[f32; LINE],
-    a: usize,
-    b: usize,
-    c: usize,
-    d: usize,
-) -> Twos
-    requires { ⌜ (a < block) × ((b < block) × ((c < block) × (d < block))) ⌝ }
-    ensures { λ r. ⌜ two (r .a) ≡ sumsBy (now (taps .entry)) twofold (back (now (line .entry)) a 24) ⌝ }
-    ensures { λ r. ⌜ two (r .b) ≡ sumsBy (now (taps .entry)) twofold (back (now (line .entry)) b 24) ⌝ }
-    ensures { λ r. ⌜ two (r .c) ≡ sumsBy (now (taps .entry)) twofold (back (now (line .entry)) c 24) ⌝ }
-    ensures { λ r. ⌜ two (r .d) ≡ sumsBy (now (taps .entry)) twofold (back (now (line .entry)) d 24) ⌝ }
+fn each_two(taps: &[f32; Interp::COEFFICIENTS], line: &[f32; LINE], w: Windows) -> Twos
+    requires { ⌜ Within w ⌝ }
+    ensures { λ r. ⌜ two (r .a) ≡ sumsBy (now (taps .entry)) twofold (back (now (line .entry)) (w .a) 24) ⌝ }
+    ensures { λ r. ⌜ two (r .b) ≡ sumsBy (now (taps .entry)) twofold (back (now (line .entry)) (w .b) 24) ⌝ }
+    ensures { λ r. ⌜ two (r .c) ≡ sumsBy (now (taps .entry)) twofold (back (now (line .entry)) (w .c) 24) ⌝ }
+    ensures { λ r. ⌜ two (r .d) ≡ sumsBy (now (taps .entry)) twofold (back (now (line .entry)) (w .d) 24) ⌝ }
 {
     let z = Two { p0: -0.0, p1: -0.0 };
     let none = Twos {
@@ -297,26 +291,26 @@ fn each_two(
         c: z,
         d: z,
     };
-    let e0 = tap_pair(taps, 0, line, 23, 22, a, b, c, d, none);
-    let e1 = tap_pair(taps, 4, line, 21, 20, a, b, c, d, e0);
-    let e2 = tap_pair(taps, 8, line, 19, 18, a, b, c, d, e1);
-    let e3 = tap_pair(taps, 12, line, 17, 16, a, b, c, d, e2);
-    let e4 = tap_pair(taps, 16, line, 15, 14, a, b, c, d, e3);
-    let e5 = tap_pair(taps, 20, line, 13, 12, a, b, c, d, e4);
-    let e6 = tap_pair(taps, 24, line, 11, 10, a, b, c, d, e5);
-    let e7 = tap_pair(taps, 28, line, 9, 8, a, b, c, d, e6);
-    let e8 = tap_pair(taps, 32, line, 7, 6, a, b, c, d, e7);
-    let e9 = tap_pair(taps, 36, line, 5, 4, a, b, c, d, e8);
-    let e10 = tap_pair(taps, 40, line, 3, 2, a, b, c, d, e9);
-    tap_pair(taps, 44, line, 1, 0, a, b, c, d, e10)
+    let e0 = tap_pair(taps, 0, line, 23, 22, w, none);
+    let e1 = tap_pair(taps, 4, line, 21, 20, w, e0);
+    let e2 = tap_pair(taps, 8, line, 19, 18, w, e1);
+    let e3 = tap_pair(taps, 12, line, 17, 16, w, e2);
+    let e4 = tap_pair(taps, 16, line, 15, 14, w, e3);
+    let e5 = tap_pair(taps, 20, line, 13, 12, w, e4);
+    let e6 = tap_pair(taps, 24, line, 11, 10, w, e5);
+    let e7 = tap_pair(taps, 28, line, 9, 8, w, e6);
+    let e8 = tap_pair(taps, 32, line, 7, 6, w, e7);
+    let e9 = tap_pair(taps, 36, line, 5, 4, w, e8);
+    let e10 = tap_pair(taps, 40, line, 3, 2, w, e9);
+    tap_pair(taps, 44, line, 1, 0, w, e10)
 }
 
 // What a frame's phases make of the peak, in the frame's place.
-fn store_two(loud: &mut [f32; BLOCK], at: usize, peak: f32, p: Two)
-    requires { ⌜ at < block ⌝ }
-    ensures { λ _. ⌜ now (loud .exit) ≡ set (now (loud .entry)) at (loudest peak (two p)) ⌝ }
+fn store_two(loud: &mut [f32; STRETCH], at: usize, peak: f32, p: Two)
+    requires { ⌜ at < stretch ⌝ }
+    ensures { λ _. ⌜ now (loud .exit) ≡ set (now (loud .entry)) at (largest peak (two p)) ⌝ }
 {
-    loud[at] = loudest_two(peak, p);
+    loud[at] = largest_two(peak, p);
 }
 
 // Every frame of a line raises the peak by itself, by factor 2: a frame of each of four runs at a time.
@@ -325,10 +319,10 @@ fn frames_twofold(
     line: &[f32; LINE],
     run: usize,
     peak: f32,
-    loud: &mut [f32; BLOCK],
+    loud: &mut [f32; STRETCH],
 )
-    requires { ⌜ run * 4 ≤ block ⌝ }
-    requires { ⌜ length (now loud) ≡ block ⌝ }
+    requires { ⌜ run * 4 ≤ stretch ⌝ }
+    requires { ⌜ length (now loud) ≡ stretch ⌝ }
     ensures { λ _. ⌜ Louds (phasesBy (now (taps .entry)) twofold) (now (line .entry)) peak (run * 4) (now (loud .exit)) ⌝ }
 {
     let mut at = 0;
@@ -336,7 +330,13 @@ fn frames_twofold(
         let second = at + run;
         let third = second + run;
         let fourth = third + run;
-        let e = each_two(taps, line, at, second, third, fourth);
+        let w = Windows {
+            a: at,
+            b: second,
+            c: third,
+            d: fourth,
+        };
+        let e = each_two(taps, line, w);
         store_two(loud, at, peak, e.a);
         store_two(loud, second, peak, e.b);
         store_two(loud, third, peak, e.c);
@@ -346,19 +346,19 @@ fn frames_twofold(
 }
 
 // The places from n on hold no frame's value but the peak.
-fn rest(loud: &mut [f32; BLOCK], n: usize, peak: f32)
-    requires { ⌜ length (now loud) ≡ block ⌝ }
+fn rest(loud: &mut [f32; STRETCH], n: usize, peak: f32)
+    requires { ⌜ length (now loud) ≡ stretch ⌝ }
     ensures { λ _. ⌜ ((j : ℕ) → j < n → getD (now (loud .exit)) j nan ≡ getD (now (loud .entry)) j nan) ⌝ }
-    ensures { λ _. ⌜ ((j : ℕ) → n ≤ j → j < block → getD (now (loud .exit)) j nan ≡ peak) ⌝ }
+    ensures { λ _. ⌜ ((j : ℕ) → n ≤ j → j < stretch → getD (now (loud .exit)) j nan ≡ peak) ⌝ }
 {
     let mut k = n;
-    while k < BLOCK {
+    while k < STRETCH {
         loud[k] = peak;
         k += 1;
     }
 }
 
-// The louder of each two neighbours, in their order: many fill a vector.
+// The greater of each two neighbours, in their order.
 fn neighbours(loud: &[f32], larger: &mut [f32])
     requires { ⌜ length (now loud) ≡ length (now larger) * 2 ⌝ }
     ensures { λ _. ⌜ Pairs (now (loud .entry)) (length (now (larger .entry))) (now (larger .exit)) ⌝ }
@@ -366,21 +366,21 @@ fn neighbours(loud: &[f32], larger: &mut [f32])
     let n = larger.len();
     let mut k = 0;
     while k < n {
-        larger[k] = louder(loud[2 * k], loud[2 * k + 1]);
+        larger[k] = greater(loud[2 * k], loud[2 * k + 1]);
         k += 1;
     }
 }
 
-fn louder_at(peak: f32, loud: &[f32; QUARTER], k: usize) -> f32
+fn greater_at(peak: f32, loud: &[f32; QUARTER], k: usize) -> f32
     requires { ⌜ k < quarter ⌝ }
-    ensures { λ r. ⌜ r ≡ louder peak (getD (now (loud .entry)) k nan) ⌝ }
+    ensures { λ r. ⌜ r ≡ greater peak (getD (now (loud .entry)) k nan) ⌝ }
 {
-    louder(peak, loud[k])
+    greater(peak, loud[k])
 }
 
 // The largest of a few values and the peak, the quarters side by side.
-fn loudest_few(loud: &[f32; QUARTER], peak: f32) -> f32
-    ensures { λ r. ⌜ r ≡ loudestOf (now (loud .entry)) 0 quarter peak ⌝ }
+fn greatest_few(loud: &[f32; QUARTER], peak: f32) -> f32
+    ensures { λ r. ⌜ r ≡ greatestOf (now (loud .entry)) 0 quarter peak ⌝ }
 {
     let mut a = peak;
     let mut b = peak;
@@ -388,33 +388,33 @@ fn loudest_few(loud: &[f32; QUARTER], peak: f32) -> f32
     let mut d = peak;
     let mut k = 0;
     while k < SECOND {
-        a = louder_at(a, loud, k);
-        b = louder_at(b, loud, SECOND + k);
-        c = louder_at(c, loud, THIRD + k);
-        d = louder_at(d, loud, FOURTH + k);
+        a = greater_at(a, loud, k);
+        b = greater_at(b, loud, SECOND + k);
+        c = greater_at(c, loud, THIRD + k);
+        d = greater_at(d, loud, FOURTH + k);
         k += 1;
     }
-    louder(louder(louder(a, b), c), d)
+    greater(greater(greater(a, b), c), d)
 }
 
-// The largest of a block's values, each raised from the peak.
-fn loudest_of(loud: &[f32; BLOCK], peak: f32) -> f32
-    requires { ⌜ ((j : ℕ) → j < block → Raised peak (getD (now loud) j nan)) ⌝ }
-    ensures { λ r. ⌜ r ≡ loudestOf (now (loud .entry)) 0 block peak ⌝ }
+// The largest of a stretch's values, each raised from the peak.
+fn greatest_of(loud: &[f32; STRETCH], peak: f32) -> f32
+    requires { ⌜ ((j : ℕ) → j < stretch → Raised peak (getD (now loud) j nan)) ⌝ }
+    ensures { λ r. ⌜ r ≡ greatestOf (now (loud .entry)) 0 stretch peak ⌝ }
 {
     let mut halved = [peak; HALF];
     neighbours(loud, &mut halved);
     let mut few = [peak; QUARTER];
     neighbours(&halved, &mut few);
-    loudest_few(&few, peak)
+    greatest_few(&few, peak)
 }
 
-// The frames of each of four runs that hold n: whole fours of them, so that they fill vectors.
+// The frames of each of four runs that hold n: whole fours of them.
 fn quarter(n: usize) -> usize
-    ensures { λ r. ⌜ r * 4 ≤ block ⌝ }
-    ensures { λ r. ⌜ ((j : ℕ) → j < n → j < block → j < r * 4) ⌝ }
+    ensures { λ r. ⌜ r * 4 ≤ stretch ⌝ }
+    ensures { λ r. ⌜ ((j : ℕ) → j < n → j < stretch → j < r * 4) ⌝ }
 {
-    if BLOCK <= n {
+    if STRETCH <= n {
         return QUARTER;
     }
     (n + 15) / 16 * 4
@@ -427,13 +427,13 @@ pub fn scan_fourfold(
     n: usize,
     peak: f32,
 ) -> f32
-    ensures { λ r. ⌜ r ≡ scanned (phasesBy (now (taps .entry)) fourfold) (now (line .entry)) 0 (min n block) peak ⌝ }
+    ensures { λ r. ⌜ r ≡ scanned (phasesBy (now (taps .entry)) fourfold) (now (line .entry)) 0 (min n stretch) peak ⌝ }
 {
     let run = quarter(n);
-    let mut loud = [peak; BLOCK];
+    let mut loud = [peak; STRETCH];
     frames_fourfold(taps, line, run, peak, &mut loud);
     rest(&mut loud, n, peak);
-    loudest_of(&loud, peak)
+    greatest_of(&loud, peak)
 }
 
 // The same, of factor 2.
@@ -443,11 +443,11 @@ pub fn scan_twofold(
     n: usize,
     peak: f32,
 ) -> f32
-    ensures { λ r. ⌜ r ≡ scanned (phasesBy (now (taps .entry)) twofold) (now (line .entry)) 0 (min n block) peak ⌝ }
+    ensures { λ r. ⌜ r ≡ scanned (phasesBy (now (taps .entry)) twofold) (now (line .entry)) 0 (min n stretch) peak ⌝ }
 {
     let run = quarter(n);
-    let mut loud = [peak; BLOCK];
+    let mut loud = [peak; STRETCH];
     frames_twofold(taps, line, run, peak, &mut loud);
     rest(&mut loud, n, peak);
-    loudest_of(&loud, peak)
+    greatest_of(&loud, peak)
 }

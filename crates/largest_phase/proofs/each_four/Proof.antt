@@ -1,10 +1,11 @@
 -- `largest_phase::each_four` meets its contract: twelve taps in order are the four phases of each frame. Assumes nothing.
 use mathlib.Core.Path.{ap, _∙_}
+use Prim.Native.Nat.{ℕ}
 use native.Mathlib.Omega.{arith}
 use lib.Ieee.{ofBits, neg}
 use Rattle.largest_phase.specs.declared.Fours.{Fours}
 use Rattle.largest_phase.specs.Line.{back}
-use Rattle.largest_phase.specs.Taps.{four, sumsBy, windows, tapFour}
+use Rattle.largest_phase.specs.Inner.{four, sumsBy, samplesAt, fourAt, tapFour}
 use Rattle.largest_phase.proofs.each_four.Statement.{statement}
 use Rattle.largest_phase.proofs.each_four.Tie as tie
 
@@ -48,7 +49,7 @@ returns : tie.Need-returns
 unfolding sumsBy back ofBits neg
 returns c =
     let a = c .before .before .before .before .before .before .before .before .before .before .before .before .args in
-    let more = tapFour (a .taps .now) (a .line .now) (windows (a .a) (a .b) (a .c) (a .d)) in
+    let more : ℕ → ℕ → Fours → Fours = λ j place. tapFour (fourAt (a .taps .now) j) (samplesAt (a .line .now) (a .w) place) in
     let e =
     c .tap-four12 .ensures ∙ ap (more 44 12) (
     c .before .tap-four11 .ensures ∙ ap (more 40 13) (

@@ -1,10 +1,11 @@
 -- `largest_phase::each_two` meets its contract: twenty-four taps in order are the two phases of each frame. Assumes nothing.
 use mathlib.Core.Path.{ap, _∙_}
+use Prim.Native.Nat.{ℕ}
 use native.Mathlib.Omega.{arith}
 use lib.Ieee.{ofBits, neg}
 use Rattle.largest_phase.specs.declared.Twos.{Twos}
 use Rattle.largest_phase.specs.Line.{back}
-use Rattle.largest_phase.specs.Taps.{two, sumsBy, windows, tapPair}
+use Rattle.largest_phase.specs.Inner.{two, sumsBy, samplesAt, fourAt, tapPair}
 use Rattle.largest_phase.proofs.each_two.Statement.{statement}
 use Rattle.largest_phase.proofs.each_two.Tie as tie
 
@@ -48,7 +49,7 @@ returns : tie.Need-returns
 unfolding sumsBy back ofBits neg
 returns c =
     let a = c .before .before .before .before .before .before .before .before .before .before .before .before .args in
-    let more = tapPair (a .taps .now) (a .line .now) (windows (a .a) (a .b) (a .c) (a .d)) in
+    let more : ℕ → ℕ → ℕ → Twos → Twos = λ j newer older. tapPair (fourAt (a .taps .now) j) (samplesAt (a .line .now) (a .w) newer) (samplesAt (a .line .now) (a .w) older) in
     let e =
     c .tap-pair12 .ensures ∙ ap (more 44 1 0) (
     c .before .tap-pair11 .ensures ∙ ap (more 40 3 2) (

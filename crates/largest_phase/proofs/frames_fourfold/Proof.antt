@@ -8,8 +8,8 @@ use lib.ListN.{set}
 use lib.Ieee.{Float}
 use Rattle.interp.specs.Interp.{fourfold}
 use Rattle.interp.specs.Phase.{phasesBy}
-use Rattle.largest_phase.specs.Taps.{four}
-use Rattle.largest_phase.specs.Largest.{loudest}
+use Rattle.largest_phase.specs.Inner.{four}
+use Rattle.floats.specs.Largest.{largest}
 use Rattle.largest_phase.proofs.Zeros.{raised-alike}
 use Rattle.largest_phase.proofs.Quarters.{Quarters, quarters-start, quarters-turn, quarters-end}
 use Rattle.largest_phase.proofs.frames_fourfold.Statement.{statement}
@@ -69,12 +69,12 @@ loop-again c =
     let fourth = third + a .run in
     let stored =
     c .store-four4 .ensures
-    ∙ ap (λ (louds : List Float). set louds fourth (loudest (a .peak) (four (r .d)))) (c .before .before .store-four3 .ensures
-    ∙ ap (λ (louds : List Float). set louds third (loudest (a .peak) (four (r .c)))) (c .before .before .before .before .store-four2 .ensures
-    ∙ ap (λ (louds : List Float). set louds second (loudest (a .peak) (four (r .b)))) (c .before .before .before .before .before .before .store-four .ensures))) in (
+    ∙ ap (λ (louds : List Float). set louds fourth (largest (a .peak) (four (r .d)))) (c .before .before .store-four3 .ensures
+    ∙ ap (λ (louds : List Float). set louds third (largest (a .peak) (four (r .c)))) (c .before .before .before .before .store-four2 .ensures
+    ∙ ap (λ (louds : List Float). set louds second (largest (a .peak) (four (r .b)))) (c .before .before .before .before .before .before .store-four .ensures))) in (
       omega (arith, t),
       subst (λ (louds : List Float). Quarters by (a .line .now) (a .peak) (a .run) louds (l .at + 1)) (sym stored)
-          (quarters-turn by (a .line .now) (a .peak) (a .run) (l .loud) (l .at) second third fourth (loudest (a .peak) (four (r .a))) (loudest (a .peak) (four (r .b))) (loudest (a .peak) (four (r .c))) (loudest (a .peak) (four (r .d))) t (s .pre .0) refl refl refl
+          (quarters-turn by (a .line .now) (a .peak) (a .run) (l .loud) (l .at) second third fourth (largest (a .peak) (four (r .a))) (largest (a .peak) (four (r .b))) (largest (a .peak) (four (r .c))) (largest (a .peak) (four (r .d))) t (s .pre .0) refl refl refl
           (alike (l .at) (four (r .a)) (e .ensures .0))
           (alike second (four (r .b)) (e .ensures .1 .0))
           (alike third (four (r .c)) (e .ensures .1 .1 .0))

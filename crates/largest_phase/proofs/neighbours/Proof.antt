@@ -4,7 +4,7 @@ use mathlib.Core.Path.{_≡_, refl, _∙_}
 use Prim.Native.Nat.{_-_, _≤_, _<_}
 use native.Mathlib.Omega.{arith}
 use lib.ListN.{length, length-set}
-use Rattle.largest_phase.specs.Line.{Pairs}
+use Rattle.largest_phase.specs.Inner.{Pairs}
 use Rattle.largest_phase.proofs.Pairs.{pairs-more}
 use Rattle.largest_phase.proofs.neighbours.Statement.{statement}
 use Rattle.largest_phase.proofs.neighbours.Tie as tie
@@ -18,29 +18,29 @@ abbrev μ-loop : tie.MeasureT-loop
 loop-holds : tie.Need-loop-holds Inv-loop μ-loop
 loop-holds c = (search needs, (refl, λ k h. absurd (omega arith)))
 
-mul-louder : tie.Need-mul-louder Inv-loop μ-loop
-mul-louder c = search needs
+mul-greater : tie.Need-mul-greater Inv-loop μ-loop
+mul-greater c = search needs
 
-mul-louder-2 : tie.Need-mul-louder-2 Inv-loop μ-loop
-mul-louder-2 c = search needs
+mul-greater-2 : tie.Need-mul-greater-2 Inv-loop μ-loop
+mul-greater-2 c = search needs
 
-shared-slice-read-louder : tie.Need-shared-slice-read-louder Inv-loop μ-loop
-shared-slice-read-louder c = search needs
+shared-slice-read-greater : tie.Need-shared-slice-read-greater Inv-loop μ-loop
+shared-slice-read-greater c = search needs
 
-mul-louder-3 : tie.Need-mul-louder-3 Inv-loop μ-loop
-mul-louder-3 c = search needs
+mul-greater-3 : tie.Need-mul-greater-3 Inv-loop μ-loop
+mul-greater-3 c = search needs
 
-add-louder : tie.Need-add-louder Inv-loop μ-loop
-add-louder c = search needs
+add-greater : tie.Need-add-greater Inv-loop μ-loop
+add-greater c = search needs
 
-mul-louder-4 : tie.Need-mul-louder-4 Inv-loop μ-loop
-mul-louder-4 c = search needs
+mul-greater-4 : tie.Need-mul-greater-4 Inv-loop μ-loop
+mul-greater-4 c = search needs
 
-shared-slice-read-louder-2 : tie.Need-shared-slice-read-louder-2 Inv-loop μ-loop
-shared-slice-read-louder-2 c = search needs
+shared-slice-read-greater-2 : tie.Need-shared-slice-read-greater-2 Inv-loop μ-loop
+shared-slice-read-greater-2 c = search needs
 
-louder-requires : tie.Need-louder-requires Inv-loop μ-loop
-louder-requires c κs = search needs
+greater-requires : tie.Need-greater-requires Inv-loop μ-loop
+greater-requires c κs = search needs
 
 mul-larger : tie.Need-mul-larger Inv-loop μ-loop
 mul-larger c = search needs
@@ -60,7 +60,7 @@ loop-again c =
     let t = c .before .before .before .loop-test .taken in
     let a = c .before .before .before .before .before .before .before .args in
     let h : l .k < length (l .larger) = omega (arith, t, l .inv .1 .0) in
-    (omega (arith, t), (length-set (l .larger) (l .k) (c .louder .result) ∙ l .inv .1 .0, pairs-more (a .loud .now) (l .larger) (l .k) (c .louder .result) h (c .louder .ensures) (l .inv .1 .1)))
+    (omega (arith, t), (length-set (l .larger) (l .k) (c .greater .result) ∙ l .inv .1 .0, pairs-more (a .loud .now) (l .larger) (l .k) (c .greater .result) h (c .greater .ensures) (l .inv .1 .1)))
 
 same-length : tie.Need-same-length Inv-loop μ-loop
 same-length c = search needs
@@ -75,14 +75,14 @@ neighbours-spec =
     Inv-loop
     μ-loop
     loop-holds
-    mul-louder
-    mul-louder-2
-    shared-slice-read-louder
-    mul-louder-3
-    add-louder
-    mul-louder-4
-    shared-slice-read-louder-2
-    louder-requires
+    mul-greater
+    mul-greater-2
+    shared-slice-read-greater
+    mul-greater-3
+    add-greater
+    mul-greater-4
+    shared-slice-read-greater-2
+    greater-requires
     mul-larger
     slice-write-larger
     add-k

@@ -2,7 +2,7 @@
 use borrow.Author.Needs.{needs}
 use Prim.Native.Nat.{_-_, _≤_}
 use native.Mathlib.Omega.{arith}
-use Rattle.largest_phase.specs.Line.{block}
+use Rattle.largest_phase.specs.Line.{stretch}
 use Rattle.largest_phase.proofs.Quarters.{Filled, filled-start, filled-turn}
 use Rattle.largest_phase.proofs.rest.Statement.{statement}
 use Rattle.largest_phase.proofs.rest.Tie as tie
@@ -11,7 +11,7 @@ abbrev Inv-loop : tie.InvT-loop
 Inv-loop loud₀ n peak k₀ loud k = (n ≤ k) × Filled loud₀ loud n k peak
 
 abbrev μ-loop : tie.MeasureT-loop
-μ-loop loud₀ n peak k₀ loud k = block - k
+μ-loop loud₀ n peak k₀ loud k = stretch - k
 
 loop-holds : tie.Need-loop-holds Inv-loop μ-loop
 loop-holds c = (search needs, filled-start (c .args .loud .now) (c .args .n) (c .args .peak) (c .pre))

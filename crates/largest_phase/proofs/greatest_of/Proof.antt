@@ -1,9 +1,9 @@
--- `largest_phase::loudest_of` meets its contract: neighbours compared twice leave the same largest. Assumes nothing.
+-- `largest_phase::greatest_of` meets its contract: neighbours compared twice leave the same largest. Assumes nothing.
 use borrow.Author.Needs.{needs}
 use mathlib.Core.Path.{_∙_}
 use Rattle.largest_phase.proofs.Pairs.{twice}
-use Rattle.largest_phase.proofs.loudest_of.Statement.{statement}
-use Rattle.largest_phase.proofs.loudest_of.Tie as tie
+use Rattle.largest_phase.proofs.greatest_of.Statement.{statement}
+use Rattle.largest_phase.proofs.greatest_of.Tie as tie
 
 slice-aggregate-neighbours : tie.Need-slice-aggregate-neighbours
 slice-aggregate-neighbours c = search needs
@@ -20,18 +20,18 @@ slice-aggregate-neighbours-3 c = search needs
 neighbours-requires-2 : tie.Need-neighbours-requires-2
 neighbours-requires-2 c κs = search needs
 
-loudest-few-requires : tie.Need-loudest-few-requires
-loudest-few-requires c κs = search needs
+greatest-few-requires : tie.Need-greatest-few-requires
+greatest-few-requires c κs = search needs
 
 returns : tie.Need-returns
 returns c =
     let n = c .before .before .before in
     let m = n .before .before .before .before in
     let s = m .before .before .before in
-    c .loudest-few .ensures ∙ twice (s .args .peak) (s .args .loud .now) (m .neighbours .last .1 .0) (n .neighbours2 .last .1 .0) (m .neighbours .ensures) (n .neighbours2 .ensures) (s .pre)
+    c .greatest-few .ensures ∙ twice (s .args .peak) (s .args .loud .now) (m .neighbours .last .1 .0) (n .neighbours2 .last .1 .0) (m .neighbours .ensures) (n .neighbours2 .ensures) (s .pre)
 
-pub loudest-of-spec : {M : Type 1} → statement M
-loudest-of-spec =
+pub greatest-of-spec : {M : Type 1} → statement M
+greatest-of-spec =
     tie.close
     (tie.spec
     slice-aggregate-neighbours
@@ -39,5 +39,5 @@ loudest-of-spec =
     slice-aggregate-neighbours-2
     slice-aggregate-neighbours-3
     neighbours-requires-2
-    loudest-few-requires
+    greatest-few-requires
     returns)

@@ -1,0 +1,12 @@
+-- `largest_phase::greater` meets its contract, by its one test. Assumes nothing.
+use Rattle.largest_phase.proofs.greater.Statement.{statement}
+use Rattle.largest_phase.proofs.greater.Tie as tie
+
+returns : tie.Need-returns
+returns c = simp (c .if1 .taken)
+
+returns-2 : tie.Need-returns-2
+returns-2 c = simp (c .if1 .left)
+
+pub greater-spec : {M : Type 1} → statement M
+greater-spec = tie.close (tie.spec returns returns-2)
