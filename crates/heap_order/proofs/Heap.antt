@@ -13,7 +13,8 @@ use lib.Ieee.{Float, nan, le, lt}
 use mathlib.Core.Bool.{true, false}
 use Rattle.floats.proofs.Order.{float-le-trans, lt→le}
 use lib.Ieee.Positive.{above}
-use Rattle.rising_order.specs.Arrangement.{Reordered, unmoved, after, All, Above, Ordered, at, exchanged}
+use Rattle.floats.specs.Entry.{at}
+use Rattle.rising_order.specs.Arrangement.{Reordered, unmoved, after, All, Above, Ordered, exchanged}
 use Rattle.heap_order.specs.Inner.{Child, Larger, HeapFrom, Heaped}
 use Rattle.rising_order.proofs.Perms.{perm-length, front-perm, exchange-perm, all-perm, all-at, all-of, all-take}
 use Rattle.rising_order.proofs.Energies.{same-at-most, not-below, not-at-most}

@@ -14,7 +14,8 @@ use lib.Seq.{set-comm}
 use lib.Ieee.{Float, binary64, ofBits, le, lt}
 use lib.Ieee.Positive.{above}
 use Rattle.floats.proofs.Order.{float-le-trans}
-use Rattle.rising_order.specs.Arrangement.{Reordered, unmoved, after, Above, Rising, Ordered, at, exchanged}
+use Rattle.floats.specs.Entry.{at}
+use Rattle.rising_order.specs.Arrangement.{Reordered, unmoved, after, Above, Rising, Ordered, exchanged}
 use Rattle.ordering.specs.Inner.{Climbs, Sinks, Falling, mirrored, Turned}
 use Rattle.rising_order.proofs.Perms.{perm-length, exchange-perm, all-of}
 use Rattle.rising_order.proofs.Energies.{above-up, zero-below}

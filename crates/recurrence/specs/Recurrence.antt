@@ -3,16 +3,12 @@
 use Prim.Native.Nat.{ℕ}
 use mathlib.Core.Bool.{cond, false}
 use mathlib.Core.List.{List, [], _∷_}
-use lib.IntN.{pos, negsuc}
-use lib.ListN.{getD}
-use lib.Ieee.{Float, nan, fin, binary64, add, sub, mul, lt, neg}
+use lib.IntN.{negsuc}
+use lib.Ieee.{Float, fin, binary64, add, sub, mul, lt, neg}
+use Rattle.floats.specs.Entry.{plusZero, at}
 use Rattle.recurrence.specs.declared.Memory.{Memory}
 
 -- ---- one frame of one channel
-
--- entry i of a list of floats
-abbrev pub at : List Float → ℕ → Float
-at l i = getD l i nan
 
 -- the new s0
 abbrev pub head : List Float → Memory → Float → Float
@@ -42,7 +38,7 @@ smallest = fin false 1 (negsuc 1021)
 
 -- "At the end of each call every state value of magnitude below 2^-1022, negative zero too, becomes +0."
 abbrev pub flush : Float → Float
-flush v = cond (lt (neg smallest) v) (cond (lt v smallest) (fin false 0 (pos 0)) v) v
+flush v = cond (lt (neg smallest) v) (cond (lt v smallest) plusZero v) v
 
 unfoldable pub flushed : Memory → Memory
 flushed m = record { s0 = flush (m .s0); s1 = flush (m .s1); s2 = flush (m .s2); s3 = flush (m .s3); s4 = flush (m .s4) }

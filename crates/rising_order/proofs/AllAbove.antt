@@ -11,7 +11,8 @@ use lib.Ieee.{Float, nan, binary64, ofBits, lt}
 use lib.Ieee.Positive.{above}
 use Rattle.floats.proofs.Order.{is-true}
 use Rattle.rising_order.specs.Order.{allAbove}
-use Rattle.rising_order.specs.Arrangement.{Above, at}
+use Rattle.floats.specs.Entry.{at}
+use Rattle.rising_order.specs.Arrangement.{Above}
 use Rattle.rising_order.proofs.Energies.{zero-below}
 
 pub all-above : (l : List Float) → Above l → allAbove l ≡ true

@@ -7,7 +7,8 @@ use Prim.Native.Nat.{ℕ}
 use lib.Dec.{T}
 use lib.Ieee.{Float, fits, binary64}
 use Rattle.rising_order.specs.Order.{inOrder, allAbove, ordered}
-use Rattle.rising_order.specs.Arrangement.{Above, Rising, Ordered, at}
+use Rattle.floats.specs.Entry.{at}
+use Rattle.rising_order.specs.Arrangement.{Above, Rising, Ordered}
 use Rattle.rising_order.proofs.InOrder.{energies, in-order, rising-is, the-order}
 use Rattle.rising_order.proofs.AllAbove.{all-above}
 

@@ -11,7 +11,8 @@ use lib.Ieee.{Float, le, fits, binary64}
 use Rattle.floats.proofs.Order.{float-le-trans}
 use lib.Ieee.Positive.{above}
 use Rattle.rising_order.specs.Order.{put, inOrder}
-use Rattle.rising_order.specs.Arrangement.{Reordered, unmoved, under, swap, after, All, Above, Rising, Ordered, at}
+use Rattle.floats.specs.Entry.{at}
+use Rattle.rising_order.specs.Arrangement.{Reordered, unmoved, under, swap, after, All, Above, Rising, Ordered}
 use Rattle.rising_order.proofs.Perms.{perm-length, all-perm, all-map, all-at, all-of}
 use Rattle.rising_order.proofs.Energies.{not-at-most, same-value}
 

@@ -2,9 +2,10 @@
 use Prim.Native.Nat.{ℕ}
 use mathlib.Core.List.{List, [], _∷_}
 use lib.Dec.{T}
-use lib.ListN.{getD, set}
-use lib.Ieee.{Float, nan, le}
+use lib.ListN.{set}
+use lib.Ieee.{Float, le}
 use lib.Ieee.Positive.{above}
+use Rattle.floats.specs.Entry.{at}
 
 -- a list in another order: two neighbours swapped, below what stands first, as often as one likes
 pub data Reordered {A : Type 0} : List A → List A → Type 0 where
@@ -12,9 +13,6 @@ pub data Reordered {A : Type 0} : List A → List A → Type 0 where
   under : (x : A) {l k : List A} → Reordered l k → Reordered (x ∷ l) (x ∷ k)
   swap : (x y : A) (l : List A) → Reordered (x ∷ y ∷ l) (y ∷ x ∷ l)
   after : {l k j : List A} → Reordered l k → Reordered k j → Reordered l j
-
-abbrev pub at : List Float → ℕ → Float
-at l i = getD l i nan
 
 abbrev pub All : (Float → Type 0) → List Float → Type 0
 All P [] = Unit

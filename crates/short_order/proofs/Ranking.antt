@@ -16,7 +16,8 @@ use lib.Ieee.{Float, nan, le, lt}
 use lib.Ieee.Positive.{above}
 use Rattle.floats.proofs.Order.{is-true, is-false, float-le-trans, lt→le, lt-not-le}
 use Rattle.rising_order.specs.Order.{inOrder}
-use Rattle.rising_order.specs.Arrangement.{All, Above, Rising, at}
+use Rattle.floats.specs.Entry.{at}
+use Rattle.rising_order.specs.Arrangement.{All, Above, Rising}
 use Rattle.short_order.specs.Inner.{count, placeOf}
 use Rattle.rising_order.proofs.Perms.{perm-length, all-perm, all-at, all-map}
 use Rattle.rising_order.proofs.Energies.{not-below, same-at-most, same-value}

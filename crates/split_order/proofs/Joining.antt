@@ -11,7 +11,8 @@ use lib.ListN.{length, take, drop, length-drop, drop-of-length-le, List·getD-ap
 use lib.Seq.{length-take-le, getD-take, getD-drop, getD-append-add}
 use lib.Ieee.{Float, nan, le}
 use lib.Ieee.Positive.{above}
-use Rattle.rising_order.specs.Arrangement.{Reordered, after, All, Above, Ordered, at}
+use Rattle.floats.specs.Entry.{at}
+use Rattle.rising_order.specs.Arrangement.{Reordered, after, All, Above, Ordered}
 use Rattle.split_order.specs.Inner.{Lowest, Parted}
 use Rattle.rising_order.proofs.Perms.{perm-length, front-perm, back-perm, all-perm, all-at, all-of}
 use Rattle.rising_order.proofs.Energies.{same-at-most}

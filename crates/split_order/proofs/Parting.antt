@@ -11,7 +11,8 @@ use lib.ListN.{length}
 use lib.Ieee.{Float, le, lt}
 use Rattle.floats.proofs.Order.{float-le-trans, lt→le}
 use lib.Ieee.Positive.{above}
-use Rattle.rising_order.specs.Arrangement.{Reordered, unmoved, after, All, Above, at, exchanged}
+use Rattle.floats.specs.Entry.{at}
+use Rattle.rising_order.specs.Arrangement.{Reordered, unmoved, after, All, Above, exchanged}
 use Rattle.split_order.specs.Inner.{Lowest, Parting, Parted}
 use Rattle.rising_order.proofs.Perms.{exchange-perm, all-perm, all-at, all-of}
 use Rattle.rising_order.proofs.Energies.{not-below}

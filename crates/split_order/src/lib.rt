@@ -5,7 +5,8 @@ ghost use Prim.Native.Nat.{_+_, _*_, _<_, _^_};
 ghost use lib.ListN.{length};
 ghost use lib.Ieee.{size};
 ghost use Rattle.rising_order.specs.Order.{allAbove, ordered};
-ghost use Rattle.rising_order.specs.Arrangement.{Above, Ordered, at, exchanged};
+ghost use Rattle.floats.specs.Entry.{at};
+ghost use Rattle.rising_order.specs.Arrangement.{Above, Ordered, exchanged};
 ghost use Rattle.split_order.specs.Inner.{Parting, Parted};
 
 fn exchange(part: &mut [f64], i: usize, j: usize)

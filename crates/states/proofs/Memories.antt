@@ -15,7 +15,8 @@ use Rattle.calls.specs.Calls.{mostChannels, used}
 use Rattle.sources.proofs.Stores.{at-before, at-after, at-within}
 use Rattle.recurrence.specs.declared.Memory.{Memory}
 use Rattle.samples.specs.Frames.{column}
-use Rattle.recurrence.specs.Recurrence.{at, outs}
+use Rattle.floats.specs.Entry.{at}
+use Rattle.recurrence.specs.Recurrence.{outs}
 use Rattle.states.specs.Channels.{statePlaces, memoryOf, withMemory, overUsed}
 
 -- the outputs that the frames of a block give channel k, from the flat state `values`

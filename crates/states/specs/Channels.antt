@@ -10,7 +10,8 @@ use Rattle.calls.specs.Calls.{used}
 use Rattle.recurrence.specs.declared.Memory.{Memory}
 use Rattle.recurrence.specs.declared.Coefficients.{Coefficients}
 use Rattle.states.specs.declared.State.{State}
-use Rattle.recurrence.specs.Recurrence.{at, after, flushed}
+use Rattle.floats.specs.Entry.{at}
+use Rattle.recurrence.specs.Recurrence.{after, flushed}
 
 -- five places of the flat state a channel
 abbrev pub statePlaces : ℕ

@@ -12,7 +12,7 @@ use lib.Ieee.{Float, nan}
 use Rattle.interp.specs.declared.Interp.{Interp}
 use Rattle.interp.specs.Phase.{phases}
 use Rattle.true_peak_state.specs.Channel.{Channel, hear, heard, past}
-use Rattle.largest_phase.specs.Largest.{loudest}
+use Rattle.floats.specs.Largest.{largest}
 use Rattle.largest_phase.specs.Line.{back, scanned}
 use Rattle.samples.specs.Frames.{silence, column}
 use Rattle.samples.proofs.Columns.{within}
@@ -38,9 +38,9 @@ back-next l at (suc n) =
 -- ---- hearing samples is scanning the line that holds them
 hear-line : (i : Interp) (l : List Float) (at : ℕ) (peak : Float)
     → hear i (record { history = back l at past; peak = peak }) (getD l (at + past) nan)
-    ≡ record { history = back l (suc at) past; peak = loudest peak (phases i (back l at 24)) }
+    ≡ record { history = back l (suc at) past; peak = largest peak (phases i (back l at 24)) }
 unfolding hear back
-hear-line i l at peak = ap (λ (h : List Float). record { history = h; peak = loudest peak (phases i (back l at 24)) }) (back-next l at 23)
+hear-line i l at peak = ap (λ (h : List Float). record { history = h; peak = largest peak (phases i (back l at 24)) }) (back-next l at 23)
 
 -- the line holds the samples from place at + past on
 heard-line : (i : Interp) (l xs : List Float) (at : ℕ) (peak : Float) → ((k : ℕ) → k < length xs → getD l (at + past + k) nan ≡ getD xs k nan)
@@ -56,8 +56,8 @@ heard-line i l (x ∷ xs) at peak h =
     λ k g. (let q : suc at + past + k ≡ at + past + suc k = omega arith in ap (λ (p : ℕ). getD l p nan) q ∙ h (suc k) (omega arith)) in
     ap (λ (y : Float). heard i (hear i (record { history = back l at past; peak = peak }) y) xs) first
     ∙ ap (λ (ch : Channel). heard i ch xs) (hear-line i l at peak)
-    ∙ heard-line i l xs (suc at) (loudest peak (phases i (back l at 24))) later
-    ∙ ap (λ (p : ℕ). record { history = back l p past; peak = scanned (phases i) l (suc at) (length xs) (loudest peak (phases i (back l at 24))) }) f
+    ∙ heard-line i l xs (suc at) (largest peak (phases i (back l at 24))) later
+    ∙ ap (λ (p : ℕ). record { history = back l p past; peak = scanned (phases i) l (suc at) (length xs) (largest peak (phases i (back l at 24))) }) f
 
 -- a line with samples stored after its history
 pub heard-stored : (i : Interp) (l xs : List Float) (peak : Float) → past + length xs ≤ length l

@@ -7,9 +7,9 @@ ghost use Rattle.refusals.specs.Answer.{said};
 ghost use Rattle.refusals.specs.Outcome.{saidBy, keptBy};
 ghost use Rattle.interp.specs.Interp.{upsampled, kindOf, Known};
 ghost use Rattle.interp.specs.Phase.{coefficients, phases};
-ghost use Rattle.largest_phase.specs.Line.{back, block, scanned};
+ghost use Rattle.largest_phase.specs.Line.{back, stretch, scanned};
 ghost use Rattle.true_peak_state.specs.Channel.{channel, heard, past};
-ghost use Rattle.true_peak.specs.Line.{room};
+ghost use Rattle.true_peak.specs.Inner.{room};
 ghost use Rattle.samples.specs.Frames.{column};
 ghost use Rattle.calls.specs.Calls.{mostChannels};
 ghost use Rattle.true_peak_state.specs.TruePeak.{historyAt, channelOf, withChannel, measured};
@@ -35,7 +35,7 @@ fn scan(
 ) -> f32
     requires { ⌜ Known i ⌝ }
     requires { ⌜ now taps ≡ coefficients (i .factor) ⌝ }
-    requires { ⌜ n ≤ block ⌝ }
+    requires { ⌜ n ≤ stretch ⌝ }
     ensures { λ r. ⌜ r ≡ scanned (phases i) (now (line .entry)) 0 n peak ⌝ }
 {
     if i.factor == Interp::FOURFOLD {
@@ -67,7 +67,7 @@ fn gather_four(
     k: usize,
     line: &mut [f32; largest_phase::LINE],
 )
-    requires { ⌜ k + 4 ≤ block ⌝ }
+    requires { ⌜ k + 4 ≤ stretch ⌝ }
     requires { ⌜ first + step + step + step < length (now samples) ⌝ }
     requires { ⌜ length (now samples) < 2 ^ 64 ⌝ }
     ensures { λ _. ⌜ now (line .exit) ≡ sets (now (line .entry)) (past + k) (column (now (samples .entry)) first step 4) ⌝ }
@@ -90,7 +90,7 @@ fn gather(
     n: usize,
     line: &mut [f32; largest_phase::LINE],
 )
-    requires { ⌜ n ≤ block ⌝ }
+    requires { ⌜ n ≤ stretch ⌝ }
     requires { ⌜ first + n * step < length (now samples) + step ⌝ }
     requires { ⌜ length (now samples) + step < 2 ^ 64 ⌝ }
     ensures { λ _. ⌜ now (line .exit) ≡ sets (now (line .entry)) past (column (now (samples .entry)) first step n) ⌝ }
@@ -112,7 +112,7 @@ fn gather(
 
 // The last 23 samples of a line with n new ones become its first.
 fn carry(line: &mut [f32; largest_phase::LINE], n: usize)
-    requires { ⌜ n ≤ block ⌝ }
+    requires { ⌜ n ≤ stretch ⌝ }
     requires { ⌜ length (now line) ≡ room ⌝ }
     ensures { λ _. ⌜ back (now (line .exit)) 0 past ≡ back (now (line .entry)) n past ⌝ }
     ensures { λ _. ⌜ length (now (line .exit)) ≡ room ⌝ }
@@ -137,8 +137,7 @@ fn keep(line: &[f32; largest_phase::LINE], c: usize, memory: &mut [f32; 184])
 }
 
 // A channel hears n samples from place first on, its history in the line's first places. Answers its peak.
-// Called for whole blocks and for what is left, so that its code stands once, by itself: the taps are then read and not written out as constants.
-fn hear_block(
+fn hear_stretch(
     i: Interp,
     taps: &[f32; Interp::COEFFICIENTS],
     samples: &[f32],
@@ -150,7 +149,7 @@ fn hear_block(
 ) -> f32
     requires { ⌜ Known i ⌝ }
     requires { ⌜ now taps ≡ coefficients (i .factor) ⌝ }
-    requires { ⌜ n ≤ block ⌝ }
+    requires { ⌜ n ≤ stretch ⌝ }
     requires { ⌜ first + n * channels < length (now samples) + channels ⌝ }
     requires { ⌜ length (now samples) + channels < 2 ^ 64 ⌝ }
     requires { ⌜ length (now line) ≡ room ⌝ }
@@ -163,7 +162,7 @@ fn hear_block(
     loud
 }
 
-// One channel hears its samples, block by block. Answers its peak.
+// One channel hears its samples, stretch by stretch. Answers its peak.
 fn one_channel(
     i: Interp,
     taps: &[f32; Interp::COEFFICIENTS],
@@ -179,29 +178,29 @@ fn one_channel(
     requires { ⌜ (c < channels) × (channels ≤ mostChannels) ⌝ }
     requires { ⌜ frames * channels ≤ length (now samples) ⌝ }
     requires { ⌜ length (now memory) ≡ mostChannels * past ⌝ }
-    ensures { λ r. ⌜ r ≡ heard i (channel (historyAt (now (memory .entry)) c) peak) (column (now (samples .entry)) c channels frames) .peak ⌝ }
-    ensures { λ r. ⌜ now (memory .exit) ≡ sets (now (memory .entry)) (c * past) (heard i (channel (historyAt (now (memory .entry)) c) peak) (column (now (samples .entry)) c channels frames) .history) ⌝ }
+    ensures { λ r. ⌜ (let after = heard i (channel (historyAt (now (memory .entry)) c) peak) (column (now (samples .entry)) c channels frames) in
+        (r ≡ after .peak) × (now (memory .exit) ≡ sets (now (memory .entry)) (c * past) (after .history))) ⌝ }
 {
     let mut line = [0.0; largest_phase::LINE];
     recall(memory, c, &mut line);
     let mut loud = peak;
     let mut first = c;
     let mut left = frames;
-    while largest_phase::BLOCK < left {
-        loud = hear_block(
+    while largest_phase::STRETCH < left {
+        loud = hear_stretch(
             i,
             taps,
             samples,
             first,
             channels,
-            largest_phase::BLOCK,
+            largest_phase::STRETCH,
             &mut line,
             loud,
         );
-        first += largest_phase::BLOCK * channels;
-        left -= largest_phase::BLOCK;
+        first += largest_phase::STRETCH * channels;
+        left -= largest_phase::STRETCH;
     }
-    loud = hear_block(i, taps, samples, first, channels, left, &mut line, loud);
+    loud = hear_stretch(i, taps, samples, first, channels, left, &mut line, loud);
     keep(&line, c, memory);
     loud
 }
@@ -256,7 +255,7 @@ fn measure(rate: u32, t: TruePeak, channels: usize, samples: &[f32]) -> TruePeak
     }
 }
 
-// The true peaks after a block of interleaved samples. Calls may be cut between any two frames.
+// The true peaks after a call over interleaved samples. Calls may be cut between any two frames.
 pub fn process(rate: u32, t: TruePeak, channels: usize, samples: &[f32]) -> Measured
     ensures { λ r. ⌜ said (r .answer) ≡ saidBy (processed rate (record { channels = channels; samples = now (samples .entry) }) t) ⌝ }
     ensures { λ r. ⌜ r .state ≡ keptBy t (processed rate (record { channels = channels; samples = now (samples .entry) }) t) ⌝ }

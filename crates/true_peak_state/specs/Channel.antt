@@ -6,7 +6,7 @@ use lib.Ieee.{Float}
 use Rattle.interp.specs.declared.Interp.{Interp}
 use Rattle.interp.specs.Interp.{twofold}
 use Rattle.interp.specs.Phase.{phases}
-use Rattle.largest_phase.specs.Largest.{loudest}
+use Rattle.floats.specs.Largest.{largest}
 
 -- How many samples a channel remembers: those before a frame's own that the interpolator with the most taps looks at.
 abbrev pub past : ℕ
@@ -22,7 +22,7 @@ channel history peak = record { history = history; peak = peak }
 
 -- one sample more: the phases at its frame may raise the peak, and the oldest sample is forgotten
 unfoldable pub hear : Interp → Channel → Float → Channel
-hear i ch x = record { history = take past (x ∷ ch .history); peak = loudest (ch .peak) (phases i (x ∷ ch .history)) }
+hear i ch x = record { history = take past (x ∷ ch .history); peak = largest (ch .peak) (phases i (x ∷ ch .history)) }
 
 -- a channel's samples, one after another
 unfoldable pub heard : Interp → Channel → List Float → Channel

@@ -4,11 +4,11 @@ use Prim.Native.Nat.{ℕ, zero, suc, _*_, _/_}
 use lib.ListN.{length, getD, take, drop, set, replicate}
 use lib.Seq.{sets}
 use lib.Ieee.{Float, nan}
+use Rattle.floats.specs.Entry.{plusZero}
 use Rattle.samples.specs.Frames.{column}
 use Rattle.calls.specs.Calls.{mostChannels}
 use Rattle.interp.specs.declared.Interp.{Interp}
 use Rattle.interp.specs.Interp.{Kind, upsampled, noTruePeak}
-use Rattle.interp.specs.Phase.{nought}
 use Rattle.true_peak_state.specs.declared.TruePeak.{TruePeak}
 use Rattle.true_peak_state.specs.Channel.{Channel, past, heard}
 
@@ -52,4 +52,4 @@ heardBy noTruePeak ch xs = ch
 
 -- before the start
 abbrev pub silent : TruePeak
-silent = record { memory = replicate (mostChannels * past) nought; peaks = replicate mostChannels nought }
+silent = record { memory = replicate (mostChannels * past) plusZero; peaks = replicate mostChannels plusZero }

@@ -25,7 +25,7 @@ use Rattle.true_peak_state.specs.TruePeak.{Block, channelOf, channelSamples, me
 use Rattle.true_peak.specs.TruePeak.{processed}
 use Rattle.true_peak_state.proofs.Independence.{Sized, either, measured-sized, own-channel, other-channel, same-state}
 use Rattle.true_peak_state.proofs.Cuts.{cut}
-use Rattle.true_peaks.specs.Blocks.{places}
+use Rattle.true_peaks.specs.Inner.{places}
 
 -- ---- no samples: nothing moves
 

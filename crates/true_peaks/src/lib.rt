@@ -12,7 +12,7 @@ ghost use Rattle.interp.specs.Interp.{kindOf};
 ghost use Rattle.true_peak_state.specs.Channel.{past};
 ghost use Rattle.true_peak_state.specs.TruePeak.{measured};
 ghost use Rattle.true_peak.specs.TruePeak.{processed, seeded};
-ghost use Rattle.true_peaks.specs.Blocks.{places};
+ghost use Rattle.true_peaks.specs.Inner.{places};
 use refusals::Answer;
 use true_peak::Measured;
 use true_peak_state::TruePeak;

@@ -6,7 +6,7 @@ use borrow.Author.Needs.{needs}
 use lib.ListN.{take, drop, length-drop}
 use lib.Seq.{length-take-le}
 use lib.Ieee.{le, lt}
-use Rattle.rising_order.specs.Arrangement.{at}
+use Rattle.floats.specs.Entry.{at}
 use Rattle.short_order.specs.Inner.{count, placeOf}
 use Rattle.short_order.proofs.Counting.{count-within}
 use Rattle.rising_order.proofs.Places.{last-part}

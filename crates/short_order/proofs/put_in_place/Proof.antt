@@ -7,7 +7,8 @@ use native.Mathlib.Omega.{arith}
 use borrow.Author.Needs.{needs}
 use lib.ListN.{length, drop, set, length-set}
 use Rattle.rising_order.specs.Order.{allAbove}
-use Rattle.rising_order.specs.Arrangement.{All, at}
+use Rattle.floats.specs.Entry.{at}
+use Rattle.rising_order.specs.Arrangement.{All}
 use Rattle.rising_order.proofs.AllAbove.{above-all, fine-on, fine-end}
 use Rattle.rising_order.proofs.InOrder.{Energy, energies}
 use Rattle.short_order.proofs.Ranking.{Placed, placed-on, all-placed, place-inside}

@@ -5,7 +5,7 @@ use Prim.Native.Nat.{_-_, _≤_}
 use native.Mathlib.Omega.{arith}
 use lib.ListN.{length}
 use Rattle.true_peak_state.specs.Channel.{past}
-use Rattle.true_peak.specs.Line.{room}
+use Rattle.true_peak.specs.Inner.{room}
 use Rattle.true_peak.proofs.Lines.{Moved, moved-start, moved-turn, moved-end}
 use Rattle.true_peak.proofs.carry.Statement.{statement}
 use Rattle.true_peak.proofs.carry.Tie as tie

@@ -1,4 +1,4 @@
--- `true_peak::one_channel` meets its contract: the blocks that are left give what the whole call gives. Assumes nothing.
+-- `true_peak::one_channel` meets its contract: the stretches that are left give what the whole call gives. Assumes nothing.
 use borrow.Author.Needs.{needs}
 use mathlib.Core.List.{List}
 use mathlib.Core.Path.{_≡_, ap, _∙_}
@@ -9,15 +9,15 @@ use lib.Ieee.{Float}
 use lib.Seq.{sets}
 use Rattle.true_peak_state.specs.Channel.{Channel, channel, heard, past}
 use Rattle.largest_phase.specs.Line.{back}
-use Rattle.true_peak.specs.Line.{room}
+use Rattle.true_peak.specs.Inner.{room}
 use Rattle.samples.specs.Frames.{column}
 use Rattle.calls.specs.Calls.{mostChannels}
 use Rattle.true_peak_state.specs.TruePeak.{historyAt}
-use Rattle.true_peak.proofs.Blocks.{blocks-turn, places}
+use Rattle.true_peak.proofs.Stretches.{stretches-turn, places}
 use Rattle.true_peak.proofs.one_channel.Statement.{statement}
 use Rattle.true_peak.proofs.one_channel.Tie as tie
 
--- more than a block is left: a whole one is
+-- more than a stretch is left: a whole one is
 whole : (left : ℕ) → 128 < left → 128 ≤ left
 whole left h = omega arith
 
@@ -45,8 +45,8 @@ loop-holds c =
       ),
     )
 
-hear-block-requires : tie.Need-hear-block-requires Inv-loop μ-loop
-hear-block-requires c κs =
+hear-stretch-requires : tie.Need-hear-stretch-requires Inv-loop μ-loop
+hear-stretch-requires c κs =
     let l = c .before .before .loop in
     let s = c .before .before .before .before .before .before .before in (
       s .pre .0,
@@ -56,8 +56,8 @@ hear-block-requires c κs =
       ),
     )
 
--- the next block begins where this one ends
-further : (c : tie.After-hear-block Inv-loop μ-loop)
+-- the next stretch begins where this one ends
+further : (c : tie.After-hear-stretch Inv-loop μ-loop)
     → c .before .before .before .loop .first + 128 * c .before .before .before .before .before .before .before .before .args .channels < length (c .before .before .before .before .before .before .before .before .args .samples .now) + mostChannels
 further c =
     let l = c .before .before .before .loop in
@@ -81,18 +81,18 @@ loop-again c =
     let l = c .before .before .before .loop in
     let a = c .before .before .before .before .before .before .before .before .args in
     let t = whole (l .left) (c .before .before .loop-test .taken) in (
-      c .hear-block .ensures .1,
+      c .hear-stretch .ensures .1,
       (
         omega (arith, places 128 (l .left) (a .channels) t, l .inv .1 .0),
-        blocks-turn (a .i) (a .samples .now) (l .first) (a .channels) (l .left) 128 (channel (back (l .line) 0 past) (l .loud)) (channel (back (c .hear-block .last .1 .1 .1 .1 .1 .1 .0) 0 past) (c .hear-block .result))
+        stretches-turn (a .i) (a .samples .now) (l .first) (a .channels) (l .left) 128 (channel (back (l .line) 0 past) (l .loud)) (channel (back (c .hear-stretch .last .1 .1 .1 .1 .1 .1 .0) 0 past) (c .hear-stretch .result))
             t
-            (c .hear-block .ensures .0)
+            (c .hear-stretch .ensures .0)
             ∙ l .inv .1 .1,
       ),
     )
 
-hear-block-requires-2 : tie.Need-hear-block-requires-2 Inv-loop μ-loop
-hear-block-requires-2 c κs =
+hear-stretch-requires-2 : tie.Need-hear-stretch-requires-2 Inv-loop μ-loop
+hear-stretch-requires-2 c κs =
     let l = c .before .before .loop in
     let s = c .before .before .before .before .before .before .before in
     (s .pre .0, (s .pre .1 .0, (omega (arith, c .before .loop-test .left), (l .inv .1 .0, (omega (arith, s .good, s .pre), l .inv .0)))))
@@ -102,7 +102,7 @@ keep-requires c κs = search needs
 
 returns : tie.Need-returns Inv-loop μ-loop
 returns c =
-    let h = c .before .before .before .hear-block2 in
+    let h = c .before .before .before .hear-stretch2 in
     let l = c .before .before .before .before .before .before .loop in
     let a = c .before .before .before .before .before .before .before .before .before .before .before .args in
     let e = h .ensures .0 ∙ l .inv .1 .1 in
@@ -116,12 +116,12 @@ one-channel-spec =
     μ-loop
     recall-requires
     loop-holds
-    hear-block-requires
+    hear-stretch-requires
     mul-first
     add-first
     sub-left
     loop-less
     loop-again
-    hear-block-requires-2
+    hear-stretch-requires-2
     keep-requires
     returns)

@@ -9,13 +9,13 @@ use Rattle.interp.specs.declared.Interp.{Interp}
 use Rattle.interp.specs.Interp.{fourfold, twofold}
 use Rattle.interp.specs.Phase.{coefficients, phases, phasesBy}
 use Rattle.interp.proofs.Rates.{known-fourfold, known-twofold}
-use Rattle.largest_phase.specs.Line.{block, scanned}
+use Rattle.largest_phase.specs.Line.{stretch, scanned}
 use Rattle.true_peak.proofs.scan.Statement.{statement}
 use Rattle.true_peak.proofs.scan.Tie as tie
 
 -- a scan by a table of an interpolator's own coefficients is a scan by its phases
-own-taps : (k i : Interp) → k ≡ i → (taps line : List Float) (n : ℕ) (peak r : Float) → taps ≡ coefficients (i .factor) → n ≤ block
-    → r ≡ scanned (phasesBy taps k) line 0 (min n block) peak → r ≡ scanned (phases i) line 0 n peak
+own-taps : (k i : Interp) → k ≡ i → (taps line : List Float) (n : ℕ) (peak r : Float) → taps ≡ coefficients (i .factor) → n ≤ stretch
+    → r ≡ scanned (phasesBy taps k) line 0 (min n stretch) peak → r ≡ scanned (phases i) line 0 n peak
 own-taps k i e taps line n peak r t h f =
     f
     ∙ ap (λ (m : ℕ). scanned (phasesBy taps k) line 0 m peak) (min-eq-left h)

@@ -15,7 +15,7 @@ use Rattle.interp.specs.Interp.{kindOf}
 use Rattle.true_peak_state.specs.declared.TruePeak.{TruePeak}
 use Rattle.true_peak_state.specs.TruePeak.{measured}
 use Rattle.true_peak_state.proofs.Independence.{Sized}
-use Rattle.true_peaks.specs.Blocks.{places}
+use Rattle.true_peaks.specs.Inner.{places}
 use Rattle.true_peaks.proofs.Turns.{whole, turn, turn-sized, last}
 use Rattle.true_peaks.proofs.measure.Statement.{statement}
 use Rattle.true_peaks.proofs.measure.Tie as tie

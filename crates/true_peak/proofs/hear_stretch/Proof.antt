@@ -1,11 +1,11 @@
--- `true_peak::hear_block` meets its contract: the block is stored after the history, scanned, and its last samples carried to the front. Assumes nothing.
+-- `true_peak::hear_stretch` meets its contract: the stretch is stored after the history, scanned, and its last samples carried to the front. Assumes nothing.
 use borrow.Author.Needs.{needs}
 use native.Mathlib.Omega.{arith}
 use Rattle.samples.specs.Frames.{column}
-use Rattle.true_peak.specs.Line.{room}
-use Rattle.true_peak.proofs.Blocks.{block-heard, stored-length}
-use Rattle.true_peak.proofs.hear_block.Statement.{statement}
-use Rattle.true_peak.proofs.hear_block.Tie as tie
+use Rattle.true_peak.specs.Inner.{room}
+use Rattle.true_peak.proofs.Stretches.{stretch-heard, stored-length}
+use Rattle.true_peak.proofs.hear_stretch.Statement.{statement}
+use Rattle.true_peak.proofs.hear_stretch.Tie as tie
 
 gather-requires : tie.Need-gather-requires
 gather-requires c κs = search needs
@@ -25,7 +25,7 @@ returns c =
     let s = c .before .before .before .before .before .before .before in
     let a = s .args in
     let g = c .before .before .before .before .gather in (
-      block-heard (a .i) (a .samples .now) (a .line .now) (g .last .1 .1 .1 .1 .0) (c .carry .last .0) (a .first) (a .channels) (a .n) (a .peak) (c .before .before .scan .result)
+      stretch-heard (a .i) (a .samples .now) (a .line .now) (g .last .1 .1 .1 .1 .0) (c .carry .last .0) (a .first) (a .channels) (a .n) (a .peak) (c .before .before .scan .result)
           (omega (arith, s .pre .1 .1 .0, s .pre .1 .1 .1 .1 .1))
           (g .ensures)
           (c .before .before .scan .ensures)
@@ -33,5 +33,5 @@ returns c =
       c .carry .ensures .1,
     )
 
-pub hear-block-spec : {M : Type 1} → statement M
-hear-block-spec = tie.close (tie.spec gather-requires scan-requires carry-requires returns)
+pub hear-stretch-spec : {M : Type 1} → statement M
+hear-stretch-spec = tie.close (tie.spec gather-requires scan-requires carry-requires returns)

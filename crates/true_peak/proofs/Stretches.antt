@@ -1,4 +1,4 @@
--- A channel's samples taken block by block: the blocks one after another are the whole, so hearing the first block and then the rest is hearing all. Assumes nothing.
+-- A channel's samples taken stretch by stretch: the stretches one after another are the whole, so hearing the first stretch and then the rest is hearing all. Assumes nothing.
 use mathlib.Core.Path.{_≡_, sym, ap, _∙_, subst}
 use mathlib.Core.List.{List}
 use Prim.Native.Nat.{ℕ, _+_, _*_, _-_, _≤_}
@@ -16,12 +16,12 @@ use Rattle.samples.proofs.Columns.{length-column, column-append}
 use Rattle.true_peak_state.proofs.Cuts.{heard-append}
 use Rattle.true_peak.proofs.Lines.{heard-stored}
 
--- one block of n samples: the line with it stored, scanned, and carried
-pub block-heard : (i : Interp) (samples old stored new : List Float) (at step n : ℕ) (peak loud : Float)
+-- one stretch of n samples: the line with it stored, scanned, and carried
+pub stretch-heard : (i : Interp) (samples old stored new : List Float) (at step n : ℕ) (peak loud : Float)
     → past + n ≤ length old
     → stored ≡ sets old past (column samples at step n) → loud ≡ scanned (phases i) stored 0 n peak → back new 0 past ≡ back stored n past
     → channel (back new 0 past) loud ≡ heard i (channel (back old 0 past) peak) (column samples at step n)
-block-heard i samples old stored new at step n peak loud r es el en =
+stretch-heard i samples old stored new at step n peak loud r es el en =
     let xs = column samples at step n in
     let k : length xs ≡ n = length-column samples at step n in
     ap (λ (q : List Float). channel q loud) en
@@ -30,17 +30,17 @@ block-heard i samples old stored new at step n peak loud r es el en =
     ∙ ap (λ (m : ℕ). channel (back (sets old past xs) m past) (scanned (phases i) (sets old past xs) 0 m peak)) (sym k)
     ∙ sym (heard-stored i old xs peak (subst (λ (m : ℕ). past + m ≤ length old) (sym k) r))
 
--- a block heard, and what is left after it
-pub blocks-turn : (i : Interp) (samples : List Float) (at step left n : ℕ) (old new : Channel) → n ≤ left → new ≡ heard i old (column samples at step n)
+-- a stretch heard, and what is left after it
+pub stretches-turn : (i : Interp) (samples : List Float) (at step left n : ℕ) (old new : Channel) → n ≤ left → new ≡ heard i old (column samples at step n)
     → heard i new (column samples (at + n * step) step (left - n)) ≡ heard i old (column samples at step left)
-blocks-turn i samples at step left n old new h e =
+stretches-turn i samples at step left n old new h e =
     let rest = column samples (at + n * step) step (left - n) in
     let f : n + (left - n) ≡ left = omega arith in
     ap (λ (ch : Channel). heard i ch rest) e
     ∙ sym (heard-append i old (column samples at step n) rest)
     ∙ ap (heard i old) (sym (column-append samples at step n (left - n)) ∙ ap (column samples at step) f)
 
--- the places that the frames left take, and those that a block of n takes
+-- the places that the frames left take, and those that a stretch of n takes
 pub places : (n left step : ℕ) → n ≤ left → left * step ≡ (left - n) * step + n * step
 places n left step h = let e : left ≡ (left - n) + n = omega arith in ap (λ (m : ℕ). m * step) e ∙ add-mul (left - n) n step
 
