@@ -3,7 +3,7 @@ use Prim.Native.Nat.{ℕ}
 use mathlib.Core.List.{List}
 use lib.ListN.{replicate}
 use lib.Ieee.{Float}
-use Rattle.samples.specs.Frames.{silence}
+use Rattle.floats.specs.Entry.{plusZero}
 use Rattle.calls.specs.Calls.{mostChannels}
 use Rattle.recurrence.specs.declared.Coefficients.{Coefficients}
 use Rattle.states.specs.declared.State.{State}
@@ -16,10 +16,10 @@ use Rattle.filter.specs.declared.Filter.{Filter}
 
 -- every channel's weighting at rest, and every channel's peak 0
 abbrev pub atRest : State
-atRest = record { values = replicate statePlaces silence }
+atRest = record { values = replicate statePlaces plusZero }
 
 abbrev pub noPeaks : List Float
-noPeaks = replicate mostChannels silence
+noPeaks = replicate mostChannels plusZero
 
 -- a filter that has heard nothing
 abbrev pub resting : ℕ → ℕ → Switches → Coefficients → Filter

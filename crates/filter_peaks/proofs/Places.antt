@@ -6,17 +6,17 @@ use mathlib.Core.Path.{_≡_, sym}
 use mathlib.Core.List.{List}
 use lib.ListN.{length, getD, List·getD-eq-default}
 use lib.Ieee.{Float, nan}
-use Rattle.samples.specs.Frames.{silence}
+use Rattle.floats.specs.Entry.{plusZero}
 use Rattle.samples.proofs.Columns.{within}
 use Rattle.filter.specs.declared.Filter.{Filter}
 use Rattle.filter_peaks.specs.Peaks.{peakOf}
 
 module _ (f : Filter) (stored : List Float) (channel : ℕ) where
-  pub no-channel : f .channels ≤ channel → silence ≡ peakOf f stored channel
+  pub no-channel : f .channels ≤ channel → plusZero ≡ peakOf f stored channel
   no-channel h = rw (le-ltb _ _ h)
 
-  pub no-place : length stored ≡ 8 → channel < f .channels → 8 ≤ channel → silence ≡ peakOf f stored channel
-  no-place eight h past = rw (lt-ltb _ _ h) (sym (List·getD-eq-default stored silence (omega arith)))
+  pub no-place : length stored ≡ 8 → channel < f .channels → 8 ≤ channel → plusZero ≡ peakOf f stored channel
+  no-place eight h past = rw (lt-ltb _ _ h) (sym (List·getD-eq-default stored plusZero (omega arith)))
 
   pub place : length stored ≡ 8 → channel < f .channels → channel < 8 → getD stored channel nan ≡ peakOf f stored channel
-  place eight h there = rw (lt-ltb _ _ h) (within stored channel nan silence (omega arith))
+  place eight h there = rw (lt-ltb _ _ h) (within stored channel nan plusZero (omega arith))

@@ -1,4 +1,4 @@
--- A NaN, and nothing else, differs from itself; and which patterns are a NaN's, by the two fields that are tested. Assumes nothing.
+-- A NaN, and nothing else, differs from itself; which patterns are a NaN's, by the two fields that are tested; and +0's. Assumes nothing.
 use mathlib.Core.Path.{_≡_, refl, sym}
 use mathlib.Core.Bool.{Bool, true, false, not, _&&_, true≢false}
 use Prim.Native.Nat.{ℕ, _*_, _%_, _/_, _<_, _≤_}
@@ -6,6 +6,7 @@ use native.Mathlib.Omega.{arith}
 use lib.Dec.{T, eqb, eqb-refl}
 use lib.Ieee.{Float, nan, inf, fin, up, down, ne, isNan, nanBits, ofBits, ofFields, binary64}
 use borrow.Author.Tests.{ne-eqb, eq-eqb, eqb-true, eqb-false}
+use Rattle.floats.specs.Entry.{plusZero}
 use Rattle.floats.proofs.Order.{is-true}
 
 pub differs : (x : Float) → ne x x ≡ isNan x
@@ -54,3 +55,8 @@ nan-pattern pattern h k = rw (h, ne-eqb (digits pattern) 0 k)
 
 pub past-infinity : (pattern : ℕ) → 0x7FF0_0000_0000_0000 < pattern % 0x8000_0000_0000_0000 → ofBits binary64 pattern ≡ nan
 past-infinity pattern h = nan-pattern pattern (omega (arith, h)) (λ z. omega (arith, h, z))
+
+-- the code's 0.0
+pub zero-pattern : ofBits binary64 0 ≡ plusZero
+unfolding ofBits
+zero-pattern = refl

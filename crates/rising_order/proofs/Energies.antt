@@ -13,7 +13,9 @@ use lib.Ieee.{Float, nan, inf, fin, binary64, up, down, low, lt, le, fits, toBit
 use lib.Ieee.Bits.{ofBits-toBits}
 use lib.Ieee.Nearest.{div-same}
 use lib.Ieee.Fits.{up-pos, down-pos, eq→eqb, and-i}
+use Rattle.floats.specs.Entry.{plusZero}
 use Rattle.floats.proofs.Order.{is-false, lt→le}
+use Rattle.floats.proofs.Nan.{zero-pattern}
 use lib.Ieee.Positive.{above, above-of-le}
 
 or-l : (a b : Bool) → T a → T (a || b)
@@ -130,11 +132,7 @@ size-above a (suc m) u z h =
     lt-ltb a (suc m * u * 1) (omega (arith, sized)) ∙ sym (lt-ltb 0 (suc m) (omega arith))
 
 -- the code's 0.0
-zero-is : ofBits binary64 0 ≡ fin false 0 (pos 0)
-unfolding ofBits
-zero-is = refl
-
-below-is : (x : Float) → lt (fin false 0 (pos 0)) x ≡ above x
+below-is : (x : Float) → lt plusZero x ≡ above x
 unfolding lt
 below-is nan = refl
 below-is (inf s) = refl
@@ -142,4 +140,4 @@ below-is (fin true m e) = refl
 below-is (fin false m e) = size-above (0 * 1 * down e) m (up e) (zero-mul (down e)) (up-pos e)
 
 pub zero-below : (x : Float) → lt (ofBits binary64 0) x ≡ above x
-zero-below x = ap (λ (z : Float). lt z x) zero-is ∙ below-is x
+zero-below x = ap (λ (z : Float). lt z x) zero-pattern ∙ below-is x

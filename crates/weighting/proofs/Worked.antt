@@ -5,18 +5,18 @@ use mathlib.Core.Bool.{true, false}
 use lib.IntN.{pos, negsuc}
 use lib.Ieee.{Float, fin, add, sub, mul, div, neg, lt, ofInt}
 use Rattle.samples.specs.Sample.{sampleIn, samplesOf16}
-use Rattle.samples.specs.Frames.{silence}
+use Rattle.floats.specs.Entry.{plusZero}
 use Rattle.recurrence.specs.declared.Memory.{Memory}
 use Rattle.recurrence.specs.Recurrence.{next, out, outs, smallest, flush}
 
 unfoldable pub a : List Float
-a = fin false 1 (pos 0) ∷ fin true 1 (negsuc 0) ∷ silence ∷ silence ∷ silence ∷ []
+a = fin false 1 (pos 0) ∷ fin true 1 (negsuc 0) ∷ plusZero ∷ plusZero ∷ plusZero ∷ []
 
 unfoldable pub b : List Float
-b = fin false 1 (pos 0) ∷ silence ∷ silence ∷ silence ∷ silence ∷ []
+b = fin false 1 (pos 0) ∷ plusZero ∷ plusZero ∷ plusZero ∷ plusZero ∷ []
 
 unfoldable pub rest : Memory
-rest = record { s0 = silence; s1 = silence; s2 = silence; s3 = silence; s4 = silence }
+rest = record { s0 = plusZero; s1 = plusZero; s2 = plusZero; s3 = plusZero; s4 = plusZero }
 
 -- "i16 samples 16384, 0, 0 give 0.5, 0.25, 0.125"
 pub halving : outs a b rest (samplesOf16 (pos 16384 ∷ pos 0 ∷ pos 0 ∷ [])) ≡ fin false 1 (negsuc 0) ∷ fin false 1 (negsuc 1) ∷ fin false 1 (negsuc 2) ∷ []
@@ -28,10 +28,10 @@ pub flush-kept : flush smallest ≡ smallest
 unfolding lt neg
 flush-kept = refl
 
-pub flush-below : flush (fin true 1 (negsuc 1022)) ≡ silence
+pub flush-below : flush (fin true 1 (negsuc 1022)) ≡ plusZero
 unfolding lt neg
 flush-below = refl
 
-pub flush-minus : flush (fin true 0 (pos 0)) ≡ silence
+pub flush-minus : flush (fin true 0 (pos 0)) ≡ plusZero
 unfolding lt neg
 flush-minus = refl
