@@ -8,7 +8,8 @@ use mathlib.Core.Path.{_≡_}
 use mathlib.Core.Bool.{true, false}
 use mathlib.Core.List.{List, [], _∷_, map}
 use lib.IntN.{pos}
-use lib.Ieee.{Float, nan, inf, binary64, round, ofBits}
+use lib.Ieee.{Float, nan, inf, binary64, round}
+use Rattle.floats.specs.Entry.{plusZero}
 use Rattle.tables.specs.Tables.{boundaryAt}
 use Rattle.histogram_bins.specs.Bin.{binOf}
 use Rattle.ranks.specs.Ranks.{lowRank, highRank}
@@ -30,20 +31,17 @@ abbrev pub gives : Result → Result → Case
 gives given said = record { given = given; said = said }
 
 -- ---- the filter: whole numbers and halves are floats as they stand
-abbrev pub zero : Float
-zero = ofBits binary64 0
-
 abbrev pub over : ℕ → ℕ → Float
 over numerator denominator = round binary64 false numerator denominator
 
 abbrev pub a : List Float
-a = over 1 1 ∷ round binary64 true 1 2 ∷ zero ∷ zero ∷ zero ∷ []
+a = over 1 1 ∷ round binary64 true 1 2 ∷ plusZero ∷ plusZero ∷ plusZero ∷ []
 
 abbrev pub b : List Float
-b = over 1 1 ∷ zero ∷ zero ∷ zero ∷ zero ∷ []
+b = over 1 1 ∷ plusZero ∷ plusZero ∷ plusZero ∷ plusZero ∷ []
 
 abbrev pub atRest : Memory
-atRest = record { s0 = zero; s1 = zero; s2 = zero; s3 = zero; s4 = zero }
+atRest = record { s0 = plusZero; s1 = plusZero; s2 = plusZero; s3 = plusZero; s4 = plusZero }
 
 -- ---- the table
 abbrev pub cases : List Case

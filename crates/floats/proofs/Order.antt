@@ -1,13 +1,15 @@
--- The order of floats, infinities and NaN among them: `le` is transitive, `lt` is within `le`, and no two floats are in `lt` one way and `le` the other.
+-- The order of floats, infinities and NaN among them: `le` is transitive, `lt` is within `le`, no two floats are in `lt` one way and `le` the other, and floats that are no NaN
+-- are in one of them.
 -- Two finite floats compare as the whole numbers that stand over their common denominator, so each law is one on signed whole numbers. Assumes nothing.
 use mathlib.Core.Path.{_≡_, refl, sym, subst}
 use mathlib.Core.Logic.{_⊎_, inl, inr}
-use mathlib.Core.Bool.{Bool, true, false, _&&_, _||_}
+use mathlib.Core.Bool.{Bool, true, false, _&&_, _||_, true≢false}
 use Prim.Native.Nat.{ℕ, _+_, _*_, _≤_, _<_, zero-le}
 use native.Mathlib.Nat.{le-trans, le-of-eq, le-of-lt, lt-irrefl, eq-or-lt-of-le, eq-zero-or-pos, mul-pos, zero-mul}
 use native.Mathlib.Omega.{arith}
+use borrow.Author.Tests.{ltb-false}
 use lib.Dec.{T, ltb, eqb, ltb→lt, lt→ltb, eqb→eq}
-use lib.Ieee.{Float, nan, inf, fin, up, down, below, level, lt, eq, le}
+use lib.Ieee.{Float, nan, inf, fin, up, down, below, level, lt, eq, le, isNan}
 use lib.Ieee.Fits.{down-pos, and-l, and-r, and-i, eq→eqb}
 use lib.Ieee.Positive.{positive, through}
 
@@ -168,3 +170,61 @@ unfolding le
 le-infinity nan h = absurd h
 le-infinity (inf s) h = absurd h
 le-infinity (fin s m e) h = refl
+
+-- ---- the order of floats that are no NaN is total
+-- ±b ≤ ±a where not ±a < ±b
+other-way : (s : Bool) (a : ℕ) (t : Bool) (b : ℕ) → below s a t b ≡ false → Fact t b s a
+other-way false a false b h = ltb-false a b h
+other-way false a true b h = tt
+other-way true a false b h =
+    let z : a + b ≤ 0 = ltb-false 0 (a + b) h in
+    (omega arith, omega arith)
+other-way true a true b h = ltb-false b a h
+
+pub total : (x y : Float) → isNan x ≡ false → isNan y ≡ false → lt x y ≡ false → T (le y x)
+unfolding isNan lt le eq
+total nan y p q h = absurd (true≢false p)
+total (inf s) nan p q h = absurd (true≢false q)
+total (inf true) (inf true) p q h = tt
+total (inf true) (inf false) p q h = absurd (true≢false h)
+total (inf false) (inf true) p q h = tt
+total (inf false) (inf false) p q h = tt
+total (inf true) (fin t n d) p q h = absurd (true≢false h)
+total (inf false) (fin t n d) p q h = tt
+total (fin s m e) nan p q h = absurd (true≢false q)
+total (fin s m e) (inf true) p q h = tt
+total (fin s m e) (inf false) p q h = absurd (true≢false h)
+total (fin s m e) (fin t n d) p q h = to-test t (n * up d * down e) s (m * up e * down d) (other-way s (m * up e * down d) t (n * up d * down e) h)
+
+pub left-number : (x y : Float) → T (lt x y) → isNan x ≡ false
+unfolding isNan lt
+left-number nan y h = absurd h
+left-number (inf s) y h = refl
+left-number (fin s m e) y h = refl
+
+pub right-number : (x y : Float) → T (lt x y) → isNan y ≡ false
+unfolding isNan lt
+right-number nan y h = absurd h
+right-number (inf s) nan h = absurd h
+right-number (inf s) (inf t) h = refl
+right-number (inf s) (fin t n d) h = refl
+right-number (fin s m e) nan h = absurd h
+right-number (fin s m e) (inf t) h = refl
+right-number (fin s m e) (fin t n d) h = refl
+
+pub irreflexive : (x : Float) → T (lt x x) → ⊥
+irreflexive x h = lt-not-le x x h (lt→le x x h)
+
+pub le-lt : (x y z : Float) → isNan x ≡ false → T (le x y) → T (lt y z) → T (lt x z)
+le-lt x y z n h k = go (lt x z) refl
+  where
+    go : (b : Bool) → lt x z ≡ b → T b
+    go true e = tt
+    go false e = lt-not-le y z k (float-le-trans z x y (total x z n (right-number y z k) e) h)
+
+pub lt-lt : (x y z : Float) → T (lt x y) → T (lt y z) → T (lt x z)
+lt-lt x y z h k = le-lt x y z (left-number x y h) (lt→le x y h) k
+
+-- what is not below v, and beaten by a, has v beaten by a
+pub beaten : (q v a : Float) → isNan v ≡ false → lt q v ≡ false → T (lt q a) → T (lt v a)
+beaten q v a n h k = le-lt v q a n (total q v (left-number q a k) n h) k

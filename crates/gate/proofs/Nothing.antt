@@ -18,6 +18,8 @@ use lib.Ieee.Exact.{HasValue, round-exact}
 use lib.Ieee.Nearest.{div-same}
 use lib.Ieee.Bits.{ofBits-toBits, ofBits-fits}
 use lib.Ieee.Positive.{positive}
+use Rattle.floats.specs.Entry.{plusZero}
+use Rattle.floats.proofs.Nan.{zero-pattern}
 use Rattle.tables.specs.Tables.{energyAt}
 use Rattle.tables.proofs.Rules.{energy-positive, energy-past}
 use Rattle.gate.specs.declared.blocks.Totals.{Totals}
@@ -90,7 +92,7 @@ module _ (f : Format) (s : Bool) where
   own-rounding m e p = same-value m e (round f s (m * up e) (down e)) p (round-fits f s (m * up e) (down e)) (of-fitting m e p)
 
 -- ---- 0 added
-add-nothing : (x : Float) → T (fits binary64 x) → T (unsigned x) → add binary64 x (fin false 0 (pos 0)) ≡ x
+add-nothing : (x : Float) → T (fits binary64 x) → T (unsigned x) → add binary64 x plusZero ≡ x
 unfolding add sum unsigned
 add-nothing nan p u = refl
 add-nothing (inf minus) p u = refl
@@ -100,15 +102,11 @@ add-nothing (fin false m e) p u =
     ∙ ap (round binary64 false (m * up e)) (mul-one (down e))
     ∙ own-rounding binary64 false m e p
 
-nothing : ofBits binary64 0 ≡ fin false 0 (pos 0)
-unfolding ofBits
-nothing = refl
-
 pub nothing-added : (x : Float) → Steady x → add binary64 x (ofBits binary64 0) ≡ x
-nothing-added x p = ap (add binary64 x) nothing ∙ add-nothing x (p .0) (p .1)
+nothing-added x p = ap (add binary64 x) zero-pattern ∙ add-nothing x (p .0) (p .1)
 
 -- and added to 0
-swapped : (x : Float) → T (unsigned x) → add binary64 (fin false 0 (pos 0)) x ≡ add binary64 x (fin false 0 (pos 0))
+swapped : (x : Float) → T (unsigned x) → add binary64 plusZero x ≡ add binary64 x plusZero
 unfolding add sum unsigned
 swapped nan u = refl
 swapped (inf s) u = refl
@@ -118,7 +116,7 @@ swapped (fin false m e) u =
     ∙ ap (round binary64 false (m * up e * down (pos 0) + 0 * up (pos 0) * down e)) (mul-comm (down (pos 0)) (down e))
 
 pub to-nothing : (x : Float) → Steady x → add binary64 (ofBits binary64 0) x ≡ x
-to-nothing x p = ap (λ (z : Float). add binary64 z x) nothing ∙ swapped x (p .1) ∙ add-nothing x (p .0) (p .1)
+to-nothing x p = ap (λ (z : Float). add binary64 z x) zero-pattern ∙ swapped x (p .1) ∙ add-nothing x (p .0) (p .1)
 
 -- ---- no block times an energy is 0
 times-none : (a c : ℕ) → 0 < c → a * c ≡ 0 → a ≡ 0
@@ -127,7 +125,7 @@ times-none a c h e = elim (eq-zero-or-pos a) [
   | inr p ↦ absurd (lt-irrefl 0 (lt-of-lt-of-le (mul-pos p h) (omega (arith, e))))
 ]
 
-only-nothing : (c : ℕ) → 0 < c → (x : Float) → T (fits binary64 x) → HasValue x false 0 c → x ≡ fin false 0 (pos 0)
+only-nothing : (c : ℕ) → 0 < c → (x : Float) → T (fits binary64 x) → HasValue x false 0 c → x ≡ plusZero
 unfolding fits
 only-nothing c h nan q v = absurd v
 only-nothing c h (inf t) q v = absurd v
@@ -135,7 +133,7 @@ only-nothing c h (fin t n d) q v =
     same-value binary64 false 0 (pos 0) (fin t n d) tt q
     (v .0, mul-one (n * up d) ∙ times-none (n * up d) c h (v .1 ∙ zero-mul (down d)) ∙ sym (zero-mul (down d)))
 
-round-nothing : (c : ℕ) → 0 < c → round binary64 false 0 c ≡ fin false 0 (pos 0)
+round-nothing : (c : ℕ) → 0 < c → round binary64 false 0 c ≡ plusZero
 round-nothing c h =
     only-nothing c h (round binary64 false 0 c) (round-fits binary64 false 0 c)
     (round-exact binary64 false 0 c 0 0 h (pow-pos (prec binary64)) (pow-pos (low binary64 + suc (emax binary64))) (zero-mul (2 ^ low binary64) ∙ sym (zero-mul c)))
@@ -146,7 +144,7 @@ none-times (fin false n d) p =
     ap (λ (z : Float). mul binary64 z (fin false n d)) (round-nothing 1 (omega arith))
     ∙ ap (λ (k : ℕ). round binary64 false k (1 * down d)) (zero-mul (n * up d))
     ∙ round-nothing (1 * down d) (omega (arith, down-pos d))
-    ∙ sym nothing
+    ∙ sym zero-pattern
 
 -- ---- no minus comes of two without one
 odd-unsigned : (d q k l : ℕ) → T (unsigned (odd d false q k l))
@@ -172,7 +170,7 @@ nan-unsigned : T (unsigned nan)
 unfolding unsigned
 nan-unsigned = tt
 
-zero-unsigned : T (unsigned (fin false 0 (pos 0)))
+zero-unsigned : T (unsigned plusZero)
 unfolding unsigned
 zero-unsigned = tt
 
@@ -205,7 +203,7 @@ mul-unsigned (fin false m e) (inf false) p q = nan-or-infinity (eqb m 0)
 mul-unsigned (fin false m e) (fin false n d) p q = round-unsigned binary64 (m * up e * (n * up d)) (down e * down d)
 
 pub nothing-steady : Steady (ofBits binary64 0)
-nothing-steady = (ofBits-fits binary64 0, subst (λ (x : Float). T (unsigned x)) (sym nothing) zero-unsigned)
+nothing-steady = (ofBits-fits binary64 0, subst (λ (x : Float). T (unsigned x)) (sym zero-pattern) zero-unsigned)
 
 -- ---- the energies of blocks have none
 positive-unsigned : (x : Float) → T (positive x) → T (unsigned x)

@@ -8,9 +8,8 @@ use native.Mathlib.Nat.{eq-zero-or-pos}
 use native.Mathlib.Omega.{arith}
 use lib.Dec.{T}
 use lib.Ieee.{Float, lt, isNan}
-use Rattle.floats.proofs.Order.{is-false, lt→le, lt-not-le}
+use Rattle.floats.proofs.Order.{is-false, lt→le, lt-not-le, total, left-number, right-number, le-lt, lt-lt}
 use Rattle.floats.proofs.Nan.{only-nan}
-use Rattle.floats.proofs.Larger.{total, left-number, right-number, le-lt, lt-lt}
 use Rattle.tables.specs.Tables.{boundaryAt, energyAt}
 use Rattle.histogram_bins.specs.Bin.{bins, binOf}
 use Rattle.tables.proofs.Rules.{boundary-below-energy, energy-below-next, boundaries-rise}

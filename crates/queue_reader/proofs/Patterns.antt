@@ -14,9 +14,8 @@ use lib.Dec.{T, eqb, leb, ltb, eqb→eq}
 use lib.Ieee.Positive.{positive, above, above-of-le}
 use lib.Ieee.Bits.{nanBits-is}
 use lib.Ieee.{Float, nan, inf, fin, Format, prec, low, hid, ones, odd, ofFields, ofBits, binary64, isNan, nanBits, lt, le}
-use Rattle.floats.proofs.Order.{is-true, is-false, lt-not-le, le-nan, le-infinity}
+use Rattle.floats.proofs.Order.{is-true, is-false, lt-not-le, le-nan, le-infinity, total}
 use Rattle.floats.proofs.Nan.{only-nan, nan-pattern, to-infinity, past-infinity}
-use Rattle.floats.proofs.Larger.{total}
 use Rattle.histogram_bins.specs.Energy.{dropped}
 use Rattle.tables.specs.Tables.{boundaryAt}
 use Rattle.tables.proofs.Rules.{boundary-positive}

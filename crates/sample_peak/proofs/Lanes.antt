@@ -10,8 +10,7 @@ use mathlib.Core.List.{List, [], _∷_}
 use lib.Dec.{T}
 use lib.ListN.{length, getD}
 use lib.Ieee.{Float, nan, inf, fin, binary64, lt, isNan, fits}
-use Rattle.floats.proofs.Order.{is-true, is-false}
-use Rattle.floats.proofs.Largest.{right-number, beaten}
+use Rattle.floats.proofs.Order.{is-true, is-false, right-number, beaten}
 use Rattle.samples.specs.Frames.{silence, column}
 use Rattle.samples.proofs.Columns.{within, column-append}
 use Rattle.floats.specs.Entry.{plusZero}

@@ -1,2 +1,2 @@
 pub mod Peak
-pub mod Lanes
+pub mod Inner

@@ -10,7 +10,7 @@ ghost use Rattle.sources.specs.Blocks.{Reach};
 ghost use Rattle.floats.specs.Entry.{plusZero};
 ghost use Rattle.floats.specs.Largest.{magnitude, greater, largest};
 ghost use Rattle.sample_peak.specs.Peak.{overChannels};
-ghost use Rattle.sample_peak.specs.Lanes.{mostLanes};
+ghost use Rattle.sample_peak.specs.Inner.{mostLanes};
 use super::Peaks;
 use super::greater_of;
 
