@@ -1,4 +1,4 @@
--- A call in blocks: the largest magnitude of the frames before a block, and then of the block's own, is that of all of them. Assumes nothing.
+-- A call in stretches: the largest magnitude of the frames before a stretch, and then of the stretch's own, is that of all of them. Assumes nothing.
 use Prim.Native.Nat.{ℕ, _+_, _/_, _<_}
 use native.Mathlib.Omega.{arith}
 use mathlib.Core.Path.{_≡_, ap, sym, _∙_}
@@ -13,13 +13,13 @@ use Rattle.sample_peak.specs.Peak.{overChannels, peaksAfter}
 use Rattle.floats.proofs.Magnitude.{largest-append}
 use Rattle.sample_peak.proofs.Loudest.{peaks, channels-same}
 
-pub cut-peaks : (src block : List Float) (channels done count : ℕ) → Next src block channels done count
+pub cut-peaks : (src stretch : List Float) (channels done count : ℕ) → Next src stretch channels done count
     → (j : ℕ) (top : Float) → j < channels → top ≡ largest plusZero (column src j channels done)
-    → peaks block channels count j top ≡ largest plusZero (column src j channels (done + count))
-cut-peaks src block channels done count next j top h e =
-    ap (λ (t : Float). largest t (column block j channels count)) e
-    ∙ sym (largest-append plusZero (column src j channels done) (column block j channels count))
-    ∙ ap (largest plusZero) (joined src block channels done count next j h)
+    → peaks stretch channels count j top ≡ largest plusZero (column src j channels (done + count))
+cut-peaks src stretch channels done count next j top h e =
+    ap (λ (t : Float). largest t (column stretch j channels count)) e
+    ∙ sym (largest-append plusZero (column src j channels done) (column stretch j channels count))
+    ∙ ap (largest plusZero) (joined src stretch channels done count next j h)
 
 -- the call, from each channel's largest magnitude over the frames that the code counts
 pub peaks-are : (channels counted : ℕ) (src stored tops : List Float) → 0 < channels → counted ≡ length src

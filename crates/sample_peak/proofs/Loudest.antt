@@ -33,9 +33,9 @@ pub start-tops : (n : ℕ) (l : List Float) (s k : ℕ) → k < n → getD (repl
 unfolding greatest column
 start-tops n l s k h = getD-replicate n k plusZero nan h
 
--- what the frames of a block do to channel k's top
+-- what the frames of a stretch do to channel k's top
 abbrev pub peaks : List Float → ℕ → ℕ → ℕ → Float → Float
-peaks block channels count k top = largest top (column block k channels count)
+peaks stretch channels count k top = largest top (column stretch k channels count)
 
 -- ---- channels: n of them from channel k on
 

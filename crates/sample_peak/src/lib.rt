@@ -13,7 +13,7 @@ ghost use Rattle.floats.specs.Entry.{plusZero};
 ghost use Rattle.floats.specs.Largest.{greater, largest};
 ghost use Rattle.sample_peak.specs.Peak.{overChannels, raised};
 
-mod block;
+mod stretch;
 
 // The sample peaks, channel c's at place c.
 pub struct Peaks {
@@ -26,22 +26,22 @@ pub struct Peaked {
     pub peaks: Peaks,
 }
 
-// The places of a block. At eight channels they are 128 frames.
-const BLOCK: usize = 1024;
+// The places of a stretch. At eight channels they are 128 frames.
+const STRETCH: usize = 1024;
 
 // Every channel's largest magnitude over all frames.
 fn largest_all(channels: usize, frames: usize, ints: &[i16], floats: &[f32]) -> Peaks
     requires { ⌜ Whole channels frames (length (sourceOf (now ints) (now floats))) ⌝ }
     ensures { λ r. ⌜ ((k : ℕ) → k < channels → getD (r .values) k nan ≡ largest plusZero (column (sourceOf (now (ints .entry)) (now (floats .entry))) k channels frames)) ⌝ }
 {
-    let mut block: [f64; BLOCK] = [0.0; BLOCK];
-    let most = BLOCK / channels;
+    let mut stretch: [f64; STRETCH] = [0.0; STRETCH];
+    let most = STRETCH / channels;
     let mut tops = Peaks { values: [0.0; 8] };
     let mut done = 0;
     while done < frames {
         let count = sources::shorter(frames - done, most);
-        sources::fill(&mut block, ints, floats, done * channels);
-        tops = block::peak_block(tops, channels, count, &block);
+        sources::fill(&mut stretch, ints, floats, done * channels);
+        tops = stretch::peak_stretch(tops, channels, count, &stretch);
         done += count;
     }
     tops

@@ -20,14 +20,14 @@ use Rattle.sample_peak.proofs.largest_all.Statement.{statement}
 use Rattle.sample_peak.proofs.largest_all.Tie as tie
 
 abbrev Inv-loop : tie.InvT-loop
-Inv-loop channels frames ints floats block₀ most tops₀ done₀ block tops done =
+Inv-loop channels frames ints floats stretch₀ most tops₀ done₀ stretch tops done =
     (done ≤ frames)
-    × ((length block ≡ blockPlaces)
+    × ((length stretch ≡ blockPlaces)
     × ((length (tops .values) ≡ 8)
     × ((k : ℕ) → k < channels → getD (tops .values) k nan ≡ largest plusZero (column (sourceOf ints floats) k channels done))))
 
 abbrev μ-loop : tie.MeasureT-loop
-μ-loop channels frames ints floats block₀ most tops₀ done₀ block tops done = frames - done
+μ-loop channels frames ints floats stretch₀ most tops₀ done₀ stretch tops done = frames - done
 
 div-most : tie.Need-div-most Inv-loop μ-loop
 div-most c = c .before .pre .some
@@ -42,7 +42,7 @@ sub-shorter c = search needs
 shorter-requires : tie.Need-shorter-requires Inv-loop μ-loop
 shorter-requires c κs = search needs
 
--- the frames of the block
+-- the frames of the stretch
 sizes : (c : tie.After-shorter Inv-loop μ-loop) → let s = c .before .before .before .before in
     Step blockPlaces (s .args .channels) (s .args .frames) (length (sourceOf (s .args .ints .now) (s .args .floats .now))) (c .before .before .loop .done) (c .shorter .result)
 sizes c = let s = c .before .before .before .before in step (s .pre) (c .before .loop-test .taken) (c .shorter .ensures)
@@ -64,13 +64,13 @@ next : (c : tie.After-fill Inv-loop μ-loop) → let q = c .before .before .befo
 next c =
     let n = sizes (c .before .before) in
     let q = c .before .before .before in
-    record { agrees = filled _ (q .before .loop .block) _ _ _ (c .fill .ensures) (n .samples-end) (omega (arith, n .block-fits, q .before .loop .inv .1 .0)) }
+    record { agrees = filled _ (q .before .loop .stretch) _ _ _ (c .fill .ensures) (n .samples-end) (omega (arith, n .block-fits, q .before .loop .inv .1 .0)) }
 
-slice-aggregate-peak-block : tie.Need-slice-aggregate-peak-block Inv-loop μ-loop
-slice-aggregate-peak-block c = sym (size (c .before .before))
+slice-aggregate-peak-stretch : tie.Need-slice-aggregate-peak-stretch Inv-loop μ-loop
+slice-aggregate-peak-stretch c = sym (size (c .before .before))
 
-peak-block-requires : tie.Need-peak-block-requires Inv-loop μ-loop
-peak-block-requires c κs =
+peak-stretch-requires : tie.Need-peak-stretch-requires Inv-loop μ-loop
+peak-stretch-requires c κs =
     let f = c .before .before in
     let q = f .before .before .before in
     let s = q .before .before .before in
@@ -101,9 +101,9 @@ loop-again c =
       (
         size f,
         (
-          ap length (c .peak-block .ensures) ∙ channels-length change (a .channels) 0 (l .tops .values) ∙ l .inv .1 .1 .0,
+          ap length (c .peak-stretch .ensures) ∙ channels-length change (a .channels) 0 (l .tops .values) ∙ l .inv .1 .1 .0,
           λ k g.
-              ap (λ (v : List Float). getD v k nan) (c .peak-block .ensures)
+              ap (λ (v : List Float). getD v k nan) (c .peak-stretch .ensures)
               ∙ channels-first change (a .channels) k (l .tops .values) g (omega (arith, s .pre .few, l .inv .1 .1 .0))
               ∙ cut-peaks (sourceOf (a .ints .now) (a .floats .now)) (f .fill .last .0) (a .channels) (l .done) (h .shorter .result) (next f) k _ g (l .inv .1 .1 .1 k g),
         ),
@@ -130,8 +130,8 @@ largest-all-spec =
     slice-aggregate-fill
     mul-fill
     fill-requires
-    slice-aggregate-peak-block
-    peak-block-requires
+    slice-aggregate-peak-stretch
+    peak-stretch-requires
     add-done
     loop-less
     loop-again

@@ -1,4 +1,4 @@
--- `block::peak_block` meets its contract: the channels left, from the tops as they are, give what all of them give.
+-- `stretch::peak_stretch` meets its contract: the channels left, from the tops as they are, give what all of them give.
 -- A channel that is left has the top that it came with; its lanes give what the frames of the turns give. Assumes nothing.
 use borrow.Author.Needs.{needs}
 use Prim.Native.Nat.{ℕ, _-_, _*_, _/_, _≤_, _<_}
@@ -16,17 +16,17 @@ use Rattle.floats.proofs.Magnitude.{High, largest-high}
 use Rattle.sample_peak.proofs.Loudest.{peaks, channels-again, channels-end}
 use Rattle.sample_peak.proofs.Rest.{reach-after, after-first}
 use Rattle.sample_peak.proofs.Lanes.{some-each, within-lanes, turns-fit, lanes-give}
-use Rattle.sample_peak.proofs.block.peak_block.Statement.{statement}
-use Rattle.sample_peak.proofs.block.peak_block.Tie as tie
+use Rattle.sample_peak.proofs.stretch.peak_stretch.Statement.{statement}
+use Rattle.sample_peak.proofs.stretch.peak_stretch.Tie as tie
 
 abbrev Inv-loop : tie.InvT-loop
-Inv-loop channels count block each turns done values w₀ k₀ w k =
+Inv-loop channels count stretch each turns done values w₀ k₀ w k =
     (k ≤ channels)
-    × ((overChannels (peaks block channels count) (channels - k) k (w .values) ≡ overChannels (peaks block channels count) channels 0 (w₀ .values))
+    × ((overChannels (peaks stretch channels count) (channels - k) k (w .values) ≡ overChannels (peaks stretch channels count) channels 0 (w₀ .values))
     × ((j : ℕ) → k ≤ j → getD (w .values) j nan ≡ getD (w₀ .values) j nan))
 
 abbrev μ-loop : tie.MeasureT-loop
-μ-loop channels count block each turns done values w₀ k₀ w k = channels - k
+μ-loop channels count stretch each turns done values w₀ k₀ w k = channels - k
 
 -- ---- the lanes
 
@@ -37,8 +37,8 @@ some s = some-each (s .args .channels) (s .pre .0 .0) (s .pre .0 .1)
 part : (s : tie.Start Inv-loop μ-loop) → let each = 24 / s .args .channels in s .args .count / each * each ≤ s .args .count
 part s = let each = 24 / s .args .channels in omega (arith, div-add-mod' (s .args .count) each)
 
--- and end within the block
-end : (s : tie.Start Inv-loop μ-loop) → let each = 24 / s .args .channels in s .args .count / each * each * s .args .channels ≤ length (s .args .block .now)
+-- and end within the stretch
+end : (s : tie.Start Inv-loop μ-loop) → let each = 24 / s .args .channels in s .args .count / each * each * s .args .channels ≤ length (s .args .stretch .now)
 end s = omega (arith, mul-le-mul-right (s .args .channels) (part s), s .pre .1 .0)
 
 div-each : tie.Need-div-each Inv-loop μ-loop
@@ -62,7 +62,7 @@ loop-holds : tie.Need-loop-holds Inv-loop μ-loop
 loop-holds c =
     let a = c .before .before .before .args in
     let e : a .channels - 0 ≡ a .channels = omega arith in
-    (omega arith, (ap (λ (n : ℕ). overChannels (peaks (a .block .now) (a .channels) (a .count)) n 0 (a .tops .values)) e, λ j h. refl))
+    (omega arith, (ap (λ (n : ℕ). overChannels (peaks (a .stretch .now) (a .channels) (a .count)) n 0 (a .tops .values)) e, λ j h. refl))
 
 -- a channel that is left has the top that it came with
 top-high : (c : tie.In-loop Inv-loop μ-loop) → High (getD (c .before .loop .w .values) (c .before .loop .k) nan)
@@ -126,12 +126,12 @@ loop-again c =
     let each = 24 / a .channels in
     let turns = a .count / each in
     let top = getD (l .w .values) (l .k) nan in
-    let lanes = lanes-give (a .block .now) (v .before .lanes-of .result .values) (a .channels) each turns (l .k) (q .loop-test .taken)
+    let lanes = lanes-give (a .stretch .now) (v .before .lanes-of .result .values) (a .channels) each turns (l .k) (q .loop-test .taken)
     (omega (arith, within-lanes (a .channels), v .before .lanes-of .ensures .0)) (v .before .lanes-of .ensures .1) top (top-high q) (v .before .before .shared-slice-known .given) in
-    let own = c .largest-on2 .ensures ∙ after-first top (c .before .largest-on .result) (a .block .now) (l .k) (a .channels) (a .count) (turns * each) (part s) (c .before .largest-on .ensures ∙ lanes) in (
+    let own = c .largest-on2 .ensures ∙ after-first top (c .before .largest-on .result) (a .stretch .now) (l .k) (a .channels) (a .count) (turns * each) (part s) (c .before .largest-on .ensures ∙ lanes) in (
       search needs,
       (
-        channels-again (peaks (a .block .now) (a .channels) (a .count)) (a .channels) (l .k) (l .w .values) _ (q .loop-test .taken) (ap (set (l .w .values) (l .k)) own) ∙ l .inv .1 .0,
+        channels-again (peaks (a .stretch .now) (a .channels) (a .count)) (a .channels) (l .k) (l .w .values) _ (q .loop-test .taken) (ap (set (l .w .values) (l .k)) own) ∙ l .inv .1 .0,
         λ j h. getD-set-other (l .w .values) (l .k) j (c .largest-on2 .result) nan (λ e. omega arith) ∙ l .inv .1 .1 j (omega arith),
       ),
     )
@@ -140,10 +140,10 @@ returns : tie.Need-returns Inv-loop μ-loop
 returns c =
     let l = c .before .loop in
     let a = c .before .before .before .before .before .args in
-    sym (channels-end (peaks (a .block .now) (a .channels) (a .count)) (a .channels) (l .k) (l .w .values) (c .loop-test .left)) ∙ l .inv .1 .0
+    sym (channels-end (peaks (a .stretch .now) (a .channels) (a .count)) (a .channels) (l .k) (l .w .values) (c .loop-test .left)) ∙ l .inv .1 .0
 
-pub peak-block-spec : {M : Type 1} → statement M
-peak-block-spec =
+pub peak-stretch-spec : {M : Type 1} → statement M
+peak-stretch-spec =
     tie.close
     (tie.spec
     Inv-loop

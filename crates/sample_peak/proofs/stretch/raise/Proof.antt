@@ -1,11 +1,11 @@
--- `block::raise` meets its contract: of x and -x only the one that is the magnitude can be above a top that is not below 0. Assumes nothing.
+-- `stretch::raise` meets its contract: of x and -x only the one that is the magnitude can be above a top that is not below 0. Assumes nothing.
 use borrow.Author.Needs.{needs}
 use mathlib.Core.Path.{ap, _∙_}
 use lib.Ieee.{neg}
 use Rattle.floats.specs.Largest.{greater}
 use Rattle.floats.proofs.Magnitude.{both-ways}
-use Rattle.sample_peak.proofs.block.raise.Statement.{statement}
-use Rattle.sample_peak.proofs.block.raise.Tie as tie
+use Rattle.sample_peak.proofs.stretch.raise.Statement.{statement}
+use Rattle.sample_peak.proofs.stretch.raise.Tie as tie
 
 greater-of-requires : tie.Need-greater-of-requires
 greater-of-requires c κs = search needs

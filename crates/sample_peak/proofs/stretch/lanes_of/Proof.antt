@@ -1,4 +1,4 @@
--- `block::lanes_of` meets its contract: either way it is what `raise_turns` gives. Assumes nothing.
+-- `stretch::lanes_of` meets its contract: either way it is what `raise_turns` gives. Assumes nothing.
 use borrow.Author.Needs.{needs}
 use Prim.Native.Nat.{ℕ, _*_, _≤_, _<_}
 use mathlib.Core.Path.{_≡_, sym, subst}
@@ -8,18 +8,18 @@ use lib.Ieee.{nan}
 use Rattle.samples.specs.Frames.{column}
 use Rattle.floats.specs.Entry.{plusZero}
 use Rattle.floats.specs.Largest.{largest}
-use Rattle.sample_peak.proofs.block.lanes_of.Statement.{statement}
-use Rattle.sample_peak.proofs.block.lanes_of.Tie as tie
+use Rattle.sample_peak.proofs.stretch.lanes_of.Statement.{statement}
+use Rattle.sample_peak.proofs.stretch.lanes_of.Tie as tie
 
 raise-turns-requires : tie.Need-raise-turns-requires
 raise-turns-requires c κs =
     let s = c .before .before in
-    (lit≤ tt, subst (λ (n : ℕ). s .args .turns * n ≤ length (s .args .block .now)) (c .if1 .taken) (s .pre .1))
+    (lit≤ tt, subst (λ (n : ℕ). s .args .turns * n ≤ length (s .args .stretch .now)) (c .if1 .taken) (s .pre .1))
 
 returns : tie.Need-returns
 returns c =
     let a = c .before .before .before .args in
-    (c .raise-turns .ensures .0, subst (λ (n : ℕ). (j : ℕ) → j < n → getD (c .raise-turns .result .values) j nan ≡ largest plusZero (column (a .block .now) j n (a .turns))) (sym (c .before .if1 .taken)) (c .raise-turns .ensures .1))
+    (c .raise-turns .ensures .0, subst (λ (n : ℕ). (j : ℕ) → j < n → getD (c .raise-turns .result .values) j nan ≡ largest plusZero (column (a .stretch .now) j n (a .turns))) (sym (c .before .if1 .taken)) (c .raise-turns .ensures .1))
 
 raise-turns-requires-2 : tie.Need-raise-turns-requires-2
 raise-turns-requires-2 c κs = search needs

@@ -1,4 +1,4 @@
--- `block::largest_on` meets its contract: the samples left, from the top as it is, give what all of them give. Assumes nothing.
+-- `stretch::largest_on` meets its contract: the samples left, from the top as it is, give what all of them give. Assumes nothing.
 use Prim.Native.Nat.{_<_}
 use native.Mathlib.Omega.{arith}
 use mathlib.Core.Path.{_≡_, refl, sym, subst, _∙_}
@@ -10,17 +10,17 @@ use Rattle.sources.specs.Blocks.{Reach}
 use Rattle.sources.proofs.Reaching.{reach-here, reach-next, reach-rest}
 use Rattle.floats.proofs.Magnitude.{High, raised-high}
 use Rattle.sample_peak.proofs.Loudest.{turn-largest, none-largest}
-use Rattle.sample_peak.proofs.block.largest_on.Statement.{statement}
-use Rattle.sample_peak.proofs.block.largest_on.Tie as tie
+use Rattle.sample_peak.proofs.stretch.largest_on.Statement.{statement}
+use Rattle.sample_peak.proofs.stretch.largest_on.Tie as tie
 
 abbrev Inv-loop : tie.InvT-loop
-Inv-loop top block first step count high₀ left₀ i₀ high left i =
-    Reach i step left (length block) × (High high × (largest high (column block i step left) ≡ largest top (column block first step count)))
+Inv-loop top stretch first step count high₀ left₀ i₀ high left i =
+    Reach i step left (length stretch) × (High high × (largest high (column stretch i step left) ≡ largest top (column stretch first step count)))
 
 abbrev μ-loop : tie.MeasureT-loop
-μ-loop top block first step count high₀ left₀ i₀ high left i = left
+μ-loop top stretch first step count high₀ left₀ i₀ high left i = left
 
-here : (c : tie.In-loop Inv-loop μ-loop) → c .before .loop .i < length (c .before .before .before .args .block .now)
+here : (c : tie.In-loop Inv-loop μ-loop) → c .before .loop .i < length (c .before .before .before .args .stretch .now)
 here c = reach-here _ _ _ _ (c .loop-test .taken) (c .before .loop .inv .0)
 
 loop-holds : tie.Need-loop-holds Inv-loop μ-loop
@@ -53,8 +53,8 @@ loop-again c =
     let e = c .raise .ensures in (
       reach-rest _ _ _ _ h (l .inv .0),
       (
-        subst High (sym e) (raised-high (l .high) (getD (a .block .now) (l .i) nan) (l .inv .1 .0)),
-        turn-largest (l .high) (a .block .now) (l .i) (a .step) (l .left) h (here q) _ e ∙ l .inv .1 .1,
+        subst High (sym e) (raised-high (l .high) (getD (a .stretch .now) (l .i) nan) (l .inv .1 .0)),
+        turn-largest (l .high) (a .stretch .now) (l .i) (a .step) (l .left) h (here q) _ e ∙ l .inv .1 .1,
       ),
     )
 
@@ -63,7 +63,7 @@ returns c =
     let l = c .before .loop in
     let a = c .before .before .before .args in
     let z : l .left ≡ 0 = omega (arith, c .loop-test .left) in
-    sym (none-largest (l .high) (a .block .now) (l .i) (a .step) (l .left) z) ∙ l .inv .1 .1
+    sym (none-largest (l .high) (a .stretch .now) (l .i) (a .step) (l .left) z) ∙ l .inv .1 .1
 
 pub largest-on-spec : {M : Type 1} → statement M
 largest-on-spec =

@@ -1,4 +1,4 @@
--- `block::raise_turn` meets its contract: the lanes left, from the tops as they are, give what all of them give. Assumes nothing.
+-- `stretch::raise_turn` meets its contract: the lanes left, from the tops as they are, give what all of them give. Assumes nothing.
 use borrow.Author.Needs.{needs}
 use Prim.Native.Nat.{ℕ, _-_, _≤_}
 use native.Mathlib.Omega.{arith}
@@ -10,23 +10,23 @@ use Rattle.floats.specs.Entry.{plusZero}
 use Rattle.sample_peak.specs.Peak.{overChannels}
 use Rattle.sample_peak.proofs.Loudest.{channels-again, channels-end}
 use Rattle.sample_peak.proofs.Lanes.{turn}
-use Rattle.sample_peak.proofs.block.raise_turn.Statement.{statement}
-use Rattle.sample_peak.proofs.block.raise_turn.Tie as tie
+use Rattle.sample_peak.proofs.stretch.raise_turn.Statement.{statement}
+use Rattle.sample_peak.proofs.stretch.raise_turn.Tie as tie
 
 abbrev Inv-loop : tie.InvT-loop
-Inv-loop lanes block at w₀ j₀ w j =
+Inv-loop lanes stretch at w₀ j₀ w j =
     (j ≤ lanes)
-    × ((overChannels (turn block at) (lanes - j) j (w .values) ≡ overChannels (turn block at) lanes 0 (w₀ .values))
+    × ((overChannels (turn stretch at) (lanes - j) j (w .values) ≡ overChannels (turn stretch at) lanes 0 (w₀ .values))
     × ((i : ℕ) → j ≤ i → getD (w .values) i nan ≡ getD (w₀ .values) i nan))
 
 abbrev μ-loop : tie.MeasureT-loop
-μ-loop lanes block at w₀ j₀ w j = lanes - j
+μ-loop lanes stretch at w₀ j₀ w j = lanes - j
 
 loop-holds : tie.Need-loop-holds Inv-loop μ-loop
 loop-holds c =
     let a = c .before .args in
     let e : a .lanes - 0 ≡ a .lanes = omega arith in
-    (omega arith, (ap (λ (n : ℕ). overChannels (turn (a .block .now) (a .at)) n 0 (a .tops .values)) e, λ j h. refl))
+    (omega arith, (ap (λ (n : ℕ). overChannels (turn (a .stretch .now) (a .at)) n 0 (a .tops .values)) e, λ j h. refl))
 
 mul-top : tie.Need-mul-top Inv-loop μ-loop
 mul-top c = search needs
@@ -69,7 +69,7 @@ loop-again c =
     let a = q .before .before .before .args in (
       search needs,
       (
-        channels-again (turn (a .block .now) (a .at)) (a .lanes) (l .j) (l .w .values) _ (q .loop-test .taken) (ap (set (l .w .values) (l .j)) (c .raise .ensures)) ∙ l .inv .1 .0,
+        channels-again (turn (a .stretch .now) (a .at)) (a .lanes) (l .j) (l .w .values) _ (q .loop-test .taken) (ap (set (l .w .values) (l .j)) (c .raise .ensures)) ∙ l .inv .1 .0,
         λ i h. getD-set-other (l .w .values) (l .j) i (c .raise .result) nan (λ e. omega arith) ∙ l .inv .1 .1 i (omega arith),
       ),
     )
@@ -78,7 +78,7 @@ returns : tie.Need-returns Inv-loop μ-loop
 returns c =
     let l = c .before .loop in
     let a = c .before .before .before .args in
-    sym (channels-end (turn (a .block .now) (a .at)) (a .lanes) (l .j) (l .w .values) (c .loop-test .left)) ∙ l .inv .1 .0
+    sym (channels-end (turn (a .stretch .now) (a .at)) (a .lanes) (l .j) (l .w .values) (c .loop-test .left)) ∙ l .inv .1 .0
 
 pub raise-turn-spec : {M : Type 1} → statement M
 raise-turn-spec =

@@ -1,4 +1,4 @@
--- `block::raise_turns` meets its contract: each lane has the largest magnitude of its places in the turns done. Assumes nothing.
+-- `stretch::raise_turns` meets its contract: each lane has the largest magnitude of its places in the turns done. Assumes nothing.
 use borrow.Author.Needs.{needs}
 use Prim.Native.Nat.{ℕ, _+_, _-_, _*_, _≤_, _<_}
 use native.Mathlib.Nat.{zero-mul, suc-mul, mul-le-mul-right}
@@ -14,30 +14,30 @@ use Rattle.floats.specs.Largest.{largest}
 use Rattle.floats.proofs.Magnitude.{largest-high, zero-high}
 use Rattle.sample_peak.proofs.Loudest.{channels-length, channels-first, start-tops}
 use Rattle.sample_peak.proofs.Lanes.{turn, next-turn}
-use Rattle.sample_peak.proofs.block.raise_turns.Statement.{statement}
-use Rattle.sample_peak.proofs.block.raise_turns.Tie as tie
+use Rattle.sample_peak.proofs.stretch.raise_turns.Statement.{statement}
+use Rattle.sample_peak.proofs.stretch.raise_turns.Tie as tie
 
 abbrev Inv-loop : tie.InvT-loop
-Inv-loop lanes block turns w₀ done₀ at₀ w done at =
+Inv-loop lanes stretch turns w₀ done₀ at₀ w done at =
     (done ≤ turns)
     × ((at ≡ done * lanes)
     × ((length (w .values) ≡ 24)
-    × ((j : ℕ) → j < lanes → getD (w .values) j nan ≡ largest plusZero (column block j lanes done))))
+    × ((j : ℕ) → j < lanes → getD (w .values) j nan ≡ largest plusZero (column stretch j lanes done))))
 
 abbrev μ-loop : tie.MeasureT-loop
-μ-loop lanes block turns w₀ done₀ at₀ w done at = turns - done
+μ-loop lanes stretch turns w₀ done₀ at₀ w done at = turns - done
 
 loop-holds : tie.Need-loop-holds Inv-loop μ-loop
 unfolding ofBits
 loop-holds c =
     let a = c .before .args in
-    (omega arith, (sym (zero-mul (a .lanes)), (refl, λ j h. start-tops 24 (a .block .now) (a .lanes) j (omega (arith, h, c .before .pre .0)))))
+    (omega arith, (sym (zero-mul (a .lanes)), (refl, λ j h. start-tops 24 (a .stretch .now) (a .lanes) j (omega (arith, h, c .before .pre .0)))))
 
 after-turn : (lanes done : ℕ) → (done + 1) * lanes ≡ done * lanes + lanes
 after-turn lanes done = ap (λ (n : ℕ). n * lanes) (add-one done) ∙ suc-mul done lanes
 
--- the places of the turn lie within the block
-fits : (c : tie.In-loop Inv-loop μ-loop) → let a = c .before .before .before .args in c .before .loop .done * a .lanes + a .lanes ≤ length (a .block .now)
+-- the places of the turn lie within the stretch
+fits : (c : tie.In-loop Inv-loop μ-loop) → let a = c .before .before .before .args in c .before .loop .done * a .lanes + a .lanes ≤ length (a .stretch .now)
 fits c =
     let s = c .before .before .before in
     let l = c .before .loop in
@@ -53,7 +53,7 @@ raise-turn-requires c κs =
       s .pre .0,
       (
         omega (arith, fits c, l .inv .1 .0),
-        λ j h. ap (λ (x : Float). lt x plusZero) (l .inv .1 .1 .1 j h) ∙ largest-high plusZero (column (s .args .block .now) j (s .args .lanes) (l .done)) zero-high,
+        λ j h. ap (λ (x : Float). lt x plusZero) (l .inv .1 .1 .1 j h) ∙ largest-high plusZero (column (s .args .stretch .now) j (s .args .lanes) (l .done)) zero-high,
       ),
     )
 
@@ -72,7 +72,7 @@ loop-again c =
     let s = q .before .before .before in
     let a = s .args in
     let l = q .before .loop in
-    let change = turn (a .block .now) (l .at) in (
+    let change = turn (a .stretch .now) (l .at) in (
       search needs,
       (
         ap (λ (n : ℕ). n + a .lanes) (l .inv .1 .0) ∙ sym (after-turn (a .lanes) (l .done)),
@@ -81,8 +81,8 @@ loop-again c =
           λ j h.
               ap (λ (v : List Float). getD v j nan) (c .raise-turn .ensures)
               ∙ channels-first change (a .lanes) j (l .w .values) h (omega (arith, s .pre .0, l .inv .1 .1 .0))
-              ∙ ap (λ (at : ℕ). turn (a .block .now) at j (getD (l .w .values) j nan)) (l .inv .1 .0)
-              ∙ next-turn (a .block .now) (a .lanes) (l .done) j (getD (l .w .values) j nan) (omega (arith, h, fits q)) (l .inv .1 .1 .1 j h),
+              ∙ ap (λ (at : ℕ). turn (a .stretch .now) at j (getD (l .w .values) j nan)) (l .inv .1 .0)
+              ∙ next-turn (a .stretch .now) (a .lanes) (l .done) j (getD (l .w .values) j nan) (omega (arith, h, fits q)) (l .inv .1 .1 .1 j h),
         ),
       ),
     )
@@ -92,7 +92,7 @@ returns c =
     let l = c .before .loop in
     let a = c .before .before .before .args in
     let e : l .done ≡ a .turns = omega (arith, c .loop-test .left, l .inv .0) in
-    (l .inv .1 .1 .0, λ j h. l .inv .1 .1 .1 j h ∙ ap (λ (n : ℕ). largest plusZero (column (a .block .now) j (a .lanes) n)) e)
+    (l .inv .1 .1 .0, λ j h. l .inv .1 .1 .1 j h ∙ ap (λ (n : ℕ). largest plusZero (column (a .stretch .now) j (a .lanes) n)) e)
 
 pub raise-turns-spec : {M : Type 1} → statement M
 raise-turns-spec =

@@ -1,4 +1,4 @@
-// The sample peak over one block of samples as floats, channel by channel.
+// The sample peak over one stretch of samples as floats, channel by channel.
 ghost use mathlib.Core.Path.{_≡_};
 ghost use mathlib.Core.Bool.{false};
 ghost use Prim.Native.Nat.{ℕ, _+_, _*_, _<_, _≤_};
@@ -23,97 +23,97 @@ fn raise(top: f64, x: f64) -> f64
     greater_of(high, -x)
 }
 
-// Lane j of n has the largest magnitude of every n-th place from j on. No lane waits for another, and where n is a multiple of the channels a lane is of one channel.
+// Lane j of n has the largest magnitude of every n-th place from j on. Where n is a multiple of the channels, a lane is of one channel.
 struct Lanes {
     values: [f64; 24],
 }
 
-// As many lanes as the processor's registers hold. Of 1, 2, 3, 4, 6 and 8 channels they are a multiple.
+// The most lanes. Of 1, 2, 3, 4, 6 and 8 channels they are a multiple.
 const LANES: usize = 24;
 
-// One place of the block more in each of the first `lanes` lanes, from place `at` on.
-fn raise_turn(tops: Lanes, lanes: usize, block: &[f64], at: usize) -> Lanes
+// One place of the stretch more in each of the first `lanes` lanes, from place `at` on.
+fn raise_turn(tops: Lanes, lanes: usize, stretch: &[f64], at: usize) -> Lanes
     requires { ⌜ lanes ≤ mostLanes ⌝ }
-    requires { ⌜ at + lanes ≤ length (now block) ⌝ }
+    requires { ⌜ at + lanes ≤ length (now stretch) ⌝ }
     requires { ⌜ ((j : ℕ) → j < lanes → lt (getD (tops .values) j nan) plusZero ≡ false) ⌝ }
-    ensures { λ r. ⌜ r .values ≡ overChannels (λ j top. greater top (magnitude (getD (now (block .entry)) (at + j) nan))) lanes 0 (tops .values) ⌝ }
+    ensures { λ r. ⌜ r .values ≡ overChannels (λ j top. greater top (magnitude (getD (now (stretch .entry)) (at + j) nan))) lanes 0 (tops .values) ⌝ }
 {
     let mut w = tops;
     let mut j = 0;
     while j < lanes {
         let top = w.values[j];
-        w.values[j] = raise(top, block[at + j]);
+        w.values[j] = raise(top, stretch[at + j]);
         j += 1;
     }
     w
 }
 
 // So many turns, each with one place for every lane.
-fn raise_turns(lanes: usize, block: &[f64], turns: usize) -> Lanes
+fn raise_turns(lanes: usize, stretch: &[f64], turns: usize) -> Lanes
     requires { ⌜ lanes ≤ mostLanes ⌝ }
-    requires { ⌜ turns * lanes ≤ length (now block) ⌝ }
+    requires { ⌜ turns * lanes ≤ length (now stretch) ⌝ }
     ensures { λ r. ⌜ length (r .values) ≡ mostLanes ⌝ }
-    ensures { λ r. ⌜ ((j : ℕ) → j < lanes → getD (r .values) j nan ≡ largest plusZero (column (now (block .entry)) j lanes turns)) ⌝ }
+    ensures { λ r. ⌜ ((j : ℕ) → j < lanes → getD (r .values) j nan ≡ largest plusZero (column (now (stretch .entry)) j lanes turns)) ⌝ }
 {
     let mut w = Lanes { values: [0.0; 24] };
     let mut done = 0;
     let mut at = 0;
     while done < turns {
-        w = raise_turn(w, lanes, block, at);
+        w = raise_turn(w, lanes, stretch, at);
         at += lanes;
         done += 1;
     }
     w
 }
 
-// The same. All the lanes that there are stand by themselves, for a loop of a known length is unrolled.
-fn lanes_of(lanes: usize, block: &[f64], turns: usize) -> Lanes
+// The same, with all the lanes that there are as a case of their own.
+fn lanes_of(lanes: usize, stretch: &[f64], turns: usize) -> Lanes
     requires { ⌜ lanes ≤ mostLanes ⌝ }
-    requires { ⌜ turns * lanes ≤ length (now block) ⌝ }
+    requires { ⌜ turns * lanes ≤ length (now stretch) ⌝ }
     ensures { λ r. ⌜ length (r .values) ≡ mostLanes ⌝ }
-    ensures { λ r. ⌜ ((j : ℕ) → j < lanes → getD (r .values) j nan ≡ largest plusZero (column (now (block .entry)) j lanes turns)) ⌝ }
+    ensures { λ r. ⌜ ((j : ℕ) → j < lanes → getD (r .values) j nan ≡ largest plusZero (column (now (stretch .entry)) j lanes turns)) ⌝ }
 {
     if lanes == LANES {
-        return raise_turns(LANES, block, turns);
+        return raise_turns(LANES, stretch, turns);
     }
-    raise_turns(lanes, block, turns)
+    raise_turns(lanes, stretch, turns)
 }
 
 // A channel's frames one after another.
-fn largest_on(top: f64, block: &[f64], first: usize, step: usize, count: usize) -> f64
+fn largest_on(top: f64, stretch: &[f64], first: usize, step: usize, count: usize) -> f64
     requires { ⌜ lt top plusZero ≡ false ⌝ }
-    requires { ⌜ Reach first step count (length (now block)) ⌝ }
-    ensures { λ r. ⌜ r ≡ largest top (column (now (block .entry)) first step count) ⌝ }
+    requires { ⌜ Reach first step count (length (now stretch)) ⌝ }
+    ensures { λ r. ⌜ r ≡ largest top (column (now (stretch .entry)) first step count) ⌝ }
 {
     let mut high = top;
     let mut left = count;
     let mut i = first;
     while 0 < left {
-        high = raise(high, block[i]);
+        high = raise(high, stretch[i]);
         i += step;
         left -= 1;
     }
     high
 }
 
-// Every channel's frames of a block: its lanes, and the few frames that are left.
-pub(crate) fn peak_block(tops: Peaks, channels: usize, count: usize, block: &[f64]) -> Peaks
+// Every channel's frames of a stretch: its lanes, and the few frames that are left.
+pub(crate) fn peak_stretch(tops: Peaks, channels: usize, count: usize, stretch: &[f64]) -> Peaks
     requires { ⌜ (0 < channels) × (channels ≤ mostChannels) ⌝ }
-    requires { ⌜ count * channels ≤ length (now block) ⌝ }
+    requires { ⌜ count * channels ≤ length (now stretch) ⌝ }
     requires { ⌜ ((k : ℕ) → k < channels → lt (getD (tops .values) k nan) plusZero ≡ false) ⌝ }
-    ensures { λ r. ⌜ r .values ≡ overChannels (λ k top. largest top (column (now (block .entry)) k channels count)) channels 0 (tops .values) ⌝ }
+    ensures { λ r. ⌜ r .values ≡ overChannels (λ k top. largest top (column (now (stretch .entry)) k channels count)) channels 0 (tops .values) ⌝ }
 {
     let each = LANES / channels;
     let turns = count / each;
     let done = turns * each;
-    let lanes = lanes_of(each * channels, block, turns);
+    let lanes = lanes_of(each * channels, stretch, turns);
     let values = lanes.values;
     let mut w = tops;
     let mut k = 0;
     while k < channels {
         let top = w.values[k];
         let high = largest_on(top, &values, k, channels, each);
-        w.values[k] = largest_on(high, block, k + done * channels, channels, count - done);
+        w.values[k] = largest_on(high, stretch, k + done * channels, channels, count - done);
         k += 1;
     }
     w
