@@ -1,7 +1,7 @@
 -- The greater of two floats, and the greatest of a list: the first where neither is greater, so NaN never wins; and runs that begin anew may be compared in order.
 -- What beats the greater of two also beats the other, and NaN beats nothing, so no run loses a value and none lets NaN win. Assumes nothing.
 use mathlib.Core.Path.{_≡_, refl, sym, ap, _∙_, subst}
-use mathlib.Core.Logic.{_⊎_, inl, inr}
+use mathlib.Core.Logic.{inl, inr}
 use mathlib.Core.List.{List, [], _∷_}
 use mathlib.Core.Bool.{Bool, true, false, cond}
 use lib.Dec.{T}

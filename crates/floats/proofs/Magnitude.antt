@@ -1,15 +1,16 @@
 -- Magnitudes: they fit where their floats do, none is below +0, and NaN is greater than nothing.
 -- A top that is not below +0 is raised by x and then by -x as by the magnitude, for of the two only the magnitude can be above it. Assumes nothing.
-use mathlib.Core.Path.{_≡_, refl, ap, _∙_}
+use mathlib.Core.Path.{_≡_, refl, ap, sym, _∙_}
 use mathlib.Core.Bool.{Bool, true, false, cond, true≢false}
 use mathlib.Core.List.{List, [], _∷_, _++_}
-use Prim.Native.Nat.{ℕ, zero, suc, _+_, _*_}
-use native.Mathlib.Nat.{zero-mul}
+use Prim.Native.Nat.{ℕ, zero, suc, _+_, _*_, _<_}
+use native.Mathlib.Nat.{zero-mul, mul-pos}
 use native.Mathlib.Omega.{arith}
-use borrow.Author.Tests.{ltb-false, le-ltb}
+use borrow.Author.Tests.{ltb-false, le-ltb, lt-ltb}
 use lib.Dec.{T, ltb}
 use lib.IntN.{ℤ}
 use lib.Ieee.{Float, Format, nan, inf, fin, up, down, lt, neg, fits}
+use lib.Ieee.Fits.{up-pos, down-pos}
 use Rattle.floats.specs.Entry.{plusZero}
 use Rattle.floats.specs.Largest.{magnitude, greater, greatest, largest}
 
@@ -98,3 +99,16 @@ both-ways top (inf true) h = ap (λ (t : Float). greater t (inf false)) (kept to
 both-ways top (inf false) h = kept (greater top (inf false)) (inf true) (above-bottom (greater top (inf false)) (raised-high top (inf false) h))
 both-ways top (fin true m e) h = ap (λ (t : Float). greater t (fin false m e)) (kept top (fin true m e) (above-negative top h m e))
 both-ways top (fin false m e) h = kept (greater top (fin false m e)) (fin true m e) (above-negative (greater top (fin false m e)) (raised-high top (fin false m e) h) m e)
+
+-- ---- a magnitude below ±m·2^e: the float is between the two
+pub between : (m : ℕ) (e : ℤ) → 0 < m → (v z : Float) → cond (lt (magnitude v) (fin false m e)) z v ≡ cond (lt (fin true m e) v) (cond (lt v (fin false m e)) z v) v
+unfolding lt
+between m e h nan z = refl
+between m e h (inf true) z = refl
+between m e h (inf false) z = refl
+between m e h (fin true n d) z =
+    let p : 0 < m * up e * down d = mul-pos (mul-pos h (up-pos e)) (down-pos d) in
+    sym (ap (λ (b : Bool). cond (ltb (n * up d * down e) (m * up e * down d)) (cond b z (fin true n d)) (fin true n d)) (lt-ltb 0 (n * up d * down e + m * up e * down d) (omega (arith, p))))
+between m e h (fin false n d) z =
+    let p : 0 < m * up e * down d = mul-pos (mul-pos h (up-pos e)) (down-pos d) in
+    sym (ap (λ (b : Bool). cond b (cond (ltb (n * up d * down e) (m * up e * down d)) z (fin false n d)) (fin false n d)) (lt-ltb 0 (m * up e * down d + n * up d * down e) (omega (arith, p))))

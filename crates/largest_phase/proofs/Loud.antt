@@ -1,14 +1,11 @@
 -- Largest values taken in several independent runs: values that are each raised from one peak, and then compared in order, give what comparing all in order gives.
 -- What beats the larger of two also beats the smaller, and NaN beats nothing, so no run loses a value and none lets NaN win. Assumes nothing.
-use mathlib.Core.Path.{_≡_, refl, sym, ap, _∙_, subst}
-use mathlib.Core.Logic.{inl}
-use mathlib.Core.List.{List, [], _∷_, map}
-use mathlib.Core.Bool.{Bool, true, false, cond}
+use mathlib.Core.Path.{_≡_, refl, sym, ap, _∙_}
+use mathlib.Core.List.{List, map}
 use Prim.Native.Nat.{ℕ, zero, suc, _+_, _≤_, _<_}
 use native.Mathlib.Omega.{arith}
-use lib.Dec.{T}
-use lib.ListN.{length, getD}
-use lib.Ieee.{Float, nan, lt}
+use lib.ListN.{getD}
+use lib.Ieee.{Float, nan}
 use Rattle.floats.proofs.Largest.{Over, greater-old, over-greatest, apart}
 use Rattle.floats.specs.Largest.{magnitude, greater, greatest, largest}
 use Rattle.largest_phase.specs.Line.{back, scanned}

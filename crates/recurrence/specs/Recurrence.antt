@@ -1,11 +1,11 @@
 -- The weighting filter (01, step 4): "State s0..s4 per channel. s0 = x - a1·s1 - a2·s2 - a3·s3 - a4·s4; y = b0·s0 + b1·s1 + b2·s2 + b3·s3 + b4·s4;
 -- left to right, each operation rounded; then s4=s3, s3=s2, s2=s1, s1=s0."
-use Prim.Native.Nat.{ℕ}
 use mathlib.Core.Bool.{cond, false}
 use mathlib.Core.List.{List, [], _∷_}
 use lib.IntN.{negsuc}
-use lib.Ieee.{Float, fin, binary64, add, sub, mul, lt, neg}
+use lib.Ieee.{Float, fin, binary64, add, sub, mul, lt}
 use Rattle.floats.specs.Entry.{plusZero, at}
+use Rattle.floats.specs.Largest.{magnitude}
 use Rattle.recurrence.specs.declared.Memory.{Memory}
 
 -- ---- one frame of one channel
@@ -38,7 +38,7 @@ smallest = fin false 1 (negsuc 1021)
 
 -- "At the end of each call every state value of magnitude below 2^-1022, negative zero too, becomes +0."
 abbrev pub flush : Float → Float
-flush v = cond (lt (neg smallest) v) (cond (lt v smallest) plusZero v) v
+flush v = cond (lt (magnitude v) smallest) plusZero v
 
 unfoldable pub flushed : Memory → Memory
 flushed m = record { s0 = flush (m .s0); s1 = flush (m .s1); s2 = flush (m .s2); s3 = flush (m .s3); s4 = flush (m .s4) }

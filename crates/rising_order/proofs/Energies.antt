@@ -8,7 +8,7 @@ use native.Mathlib.Nat.{zero-mul, mul-pos, le-antisymm, mul-assoc, mul-comm, eq-
 use native.Mathlib.Omega.{arith}
 use mathlib.Core.Logic.{_⊎_, inl, inr}
 use lib.Dec.{T, ltb, eqb, ltb→lt, nltb→le, lt→ltb}
-use lib.IntN.{ℤ, pos}
+use lib.IntN.{ℤ}
 use lib.Ieee.{Float, nan, inf, fin, binary64, up, down, low, lt, le, fits, toBits, ofBits, size, hid}
 use lib.Ieee.Bits.{ofBits-toBits}
 use lib.Ieee.Nearest.{div-same}

@@ -9,7 +9,7 @@ use mathlib.Core.Bool.{true, false, true≢false}
 use mathlib.Core.List.{List, [], _∷_}
 use lib.Dec.{T}
 use lib.ListN.{length, getD}
-use lib.Ieee.{Float, nan, inf, fin, binary64, lt, isNan, fits}
+use lib.Ieee.{Float, nan, binary64, lt, isNan, fits}
 use Rattle.floats.proofs.Order.{is-true, is-false, right-number, beaten}
 use Rattle.samples.specs.Frames.{silence, column}
 use Rattle.samples.proofs.Columns.{within, column-append}

@@ -1,19 +1,23 @@
--- `flushing::flush_one` meets its contract: its two tests are the definition's. Assumes nothing.
+-- `flushing::flush_one` meets its contract: a magnitude is below 2^-1022 where the value is between that and its negative. Assumes nothing.
+use native.Mathlib.Omega.{arith}
+use lib.IntN.{negsuc}
 use lib.Ieee.{neg, ofBits}
+use Rattle.floats.specs.Entry.{plusZero}
+use Rattle.floats.proofs.Magnitude.{between}
 use Rattle.flushing.proofs.flush_one.Statement.{statement}
 use Rattle.flushing.proofs.flush_one.Tie as tie
 
 returns : tie.Need-returns
 unfolding neg ofBits
-returns c = simp (c .before .if1 .taken, c .if2 .taken)
+returns c = rw (between 1 (negsuc 1021) (omega arith) (c .before .before .args .v) plusZero) (simp (c .before .if1 .taken, c .if2 .taken))
 
 returns-2 : tie.Need-returns-2
 unfolding neg ofBits
-returns-2 c = simp (c .before .if1 .taken, c .if2 .left)
+returns-2 c = rw (between 1 (negsuc 1021) (omega arith) (c .before .before .args .v) plusZero) (simp (c .before .if1 .taken, c .if2 .left))
 
 returns-3 : tie.Need-returns-3
 unfolding neg ofBits
-returns-3 c = simp (c .if1 .left)
+returns-3 c = rw (between 1 (negsuc 1021) (omega arith) (c .before .args .v) plusZero) (simp (c .if1 .left))
 
 pub flush-one-spec : {M : Type 1} → statement M
 flush-one-spec = tie.close (tie.spec returns returns-2 returns-3)
