@@ -7,8 +7,9 @@ use native.Mathlib.Omega.{arith}
 use lib.ListN.{getD}
 use lib.Ieee.{Float, nan}
 use Rattle.floats.proofs.Largest.{Over, greater-old, over-greatest, apart}
+use Rattle.floats.proofs.Magnitude.{largest-append}
 use Rattle.floats.specs.Largest.{magnitude, greater, greatest, largest}
-use Rattle.largest_phase.specs.Line.{back, scanned}
+use Rattle.largest_phase.specs.Line.{back, phasesOver}
 use Rattle.largest_phase.specs.Inner.{valuesFrom, greatestOf}
 
 -- a run of n and of m values more
@@ -36,9 +37,10 @@ greatest-none l at (suc n) p q o h =
 
 -- ---- n frames, each raised from p by itself
 pub scanned-louds : (phases : List Float → List Float) (line louds : List Float) (at n : ℕ) (p q : Float) → Over p q
-    → ((j : ℕ) → at ≤ j → j < at + n → getD louds j nan ≡ largest p (phases (back line j 24))) → scanned phases line at n q ≡ greatestOf louds at n q
-unfolding scanned greatest valuesFrom
+    → ((j : ℕ) → at ≤ j → j < at + n → getD louds j nan ≡ largest p (phases (back line j 24))) → largest q (phasesOver phases line at n) ≡ greatestOf louds at n q
+unfolding phasesOver greatest valuesFrom
 scanned-louds phases line louds at zero p q o h = refl
 scanned-louds phases line louds at (suc n) p q o h =
-    scanned-louds phases line louds (suc at) n p (largest q (phases (back line at 24))) (over-greatest p q (map magnitude (phases (back line at 24))) o) (λ j a b. h j (omega arith) (omega arith))
+    largest-append q (phases (back line at 24)) (phasesOver phases line (suc at) n)
+    ∙ scanned-louds phases line louds (suc at) n p (largest q (phases (back line at 24))) (over-greatest p q (map magnitude (phases (back line at 24))) o) (λ j a b. h j (omega arith) (omega arith))
     ∙ ap (greatestOf louds (suc at) n) (apart p q (map magnitude (phases (back line at 24))) o ∙ ap (greater q) (sym (h at (omega arith) (omega arith))))

@@ -10,7 +10,7 @@ use lib.ListN.{length, getD, set, length-set}
 use lib.Seq.{getD-set-other, getD-set-same}
 use lib.Ieee.{Float, nan}
 use Rattle.floats.specs.Largest.{magnitude, greater, greatest, largest, Raised}
-use Rattle.largest_phase.specs.Line.{stretch, back, scanned}
+use Rattle.largest_phase.specs.Line.{stretch, back, phasesOver}
 use Rattle.largest_phase.specs.Inner.{valuesFrom, quarter, greatestOf, Louds}
 use Rattle.floats.proofs.Largest.{Over, over-self, over-greatest, apart, raised-greatest}
 use Rattle.largest_phase.proofs.Loud.{greatest-join, greatest-none, scanned-louds}
@@ -134,7 +134,7 @@ module _ (l : List Float) (p : Float) where
 -- ---- n frames of a stretch, the places after them at the peak
 scanned-stretch : (phases : List Float → List Float) (line louds : List Float) (n : ℕ) (p : Float) → n ≤ stretch
     → ((j : ℕ) → j < n → getD louds j nan ≡ largest p (phases (back line j 24))) → ((j : ℕ) → n ≤ j → j < stretch → getD louds j nan ≡ p)
-    → greatestOf louds 0 stretch p ≡ scanned phases line 0 n p
+    → greatestOf louds 0 stretch p ≡ largest p (phasesOver phases line 0 n)
 scanned-stretch phases line louds n p h raised after =
     let e : stretch ≡ n + (stretch - n) = omega arith in
     let z : 0 + n ≡ n = omega arith in
@@ -146,16 +146,16 @@ scanned-stretch phases line louds n p h raised after =
 -- a stretch has no more frames than its own
 pub scanned-some : (phases : List Float → List Float) (line louds : List Float) (n : ℕ) (p : Float)
     → ((j : ℕ) → j < n → j < stretch → getD louds j nan ≡ largest p (phases (back line j 24))) → ((j : ℕ) → n ≤ j → j < stretch → getD louds j nan ≡ p)
-    → greatestOf louds 0 stretch p ≡ scanned phases line 0 (min n stretch) p
+    → greatestOf louds 0 stretch p ≡ largest p (phasesOver phases line 0 (min n stretch))
 scanned-some phases line louds n p raised after = by (either n stretch)
   where
-    by : (n < stretch) ⊎ (stretch ≤ n) → greatestOf louds 0 stretch p ≡ scanned phases line 0 (min n stretch) p
+    by : (n < stretch) ⊎ (stretch ≤ n) → greatestOf louds 0 stretch p ≡ largest p (phasesOver phases line 0 (min n stretch))
     by (inl h) =
         let e : n ≤ stretch = omega arith in
-        scanned-stretch phases line louds n p e (λ j a. raised j a (omega arith)) after ∙ ap (λ (m : ℕ). scanned phases line 0 m p) (sym (min-eq-left e))
+        scanned-stretch phases line louds n p e (λ j a. raised j a (omega arith)) after ∙ ap (λ (m : ℕ). largest p (phasesOver phases line 0 m)) (sym (min-eq-left e))
     by (inr h) =
         scanned-stretch phases line louds stretch p (omega arith) (λ j a. raised j (omega arith) a) (λ j a b. absurd (omega arith))
-        ∙ ap (λ (m : ℕ). scanned phases line 0 m p) (sym (min-eq-right h))
+        ∙ ap (λ (m : ℕ). largest p (phasesOver phases line 0 m)) (sym (min-eq-right h))
 
 -- each of a stretch's values was raised from the peak
 pub all-raised : (phases : List Float → List Float) (line louds : List Float) (n : ℕ) (p : Float)

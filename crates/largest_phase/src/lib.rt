@@ -8,7 +8,7 @@ ghost use lib.Ieee.{nan, isNan, lt};
 ghost use Rattle.interp.specs.Interp.{fourfold, twofold};
 ghost use Rattle.interp.specs.Phase.{phasesBy};
 ghost use Rattle.floats.specs.Largest.{magnitude, greater, largest, Raised};
-ghost use Rattle.largest_phase.specs.Line.{stretch, back, scanned};
+ghost use Rattle.largest_phase.specs.Line.{stretch, back, phasesOver};
 ghost use Rattle.largest_phase.specs.Inner.{four, two, sumsBy, Within, samplesAt, fourAt, onFour, tapFour, onPair, tapPair, Louds, greatestOf, Pairs, quarter};
 use interp::Interp;
 
@@ -427,7 +427,7 @@ pub fn scan_fourfold(
     n: usize,
     peak: f32,
 ) -> f32
-    ensures { λ r. ⌜ r ≡ scanned (phasesBy (now (taps .entry)) fourfold) (now (line .entry)) 0 (min n stretch) peak ⌝ }
+    ensures { λ r. ⌜ r ≡ largest peak (phasesOver (phasesBy (now (taps .entry)) fourfold) (now (line .entry)) 0 (min n stretch)) ⌝ }
 {
     let run = quarter(n);
     let mut loud = [peak; STRETCH];
@@ -443,7 +443,7 @@ pub fn scan_twofold(
     n: usize,
     peak: f32,
 ) -> f32
-    ensures { λ r. ⌜ r ≡ scanned (phasesBy (now (taps .entry)) twofold) (now (line .entry)) 0 (min n stretch) peak ⌝ }
+    ensures { λ r. ⌜ r ≡ largest peak (phasesOver (phasesBy (now (taps .entry)) twofold) (now (line .entry)) 0 (min n stretch)) ⌝ }
 {
     let run = quarter(n);
     let mut loud = [peak; STRETCH];

@@ -12,8 +12,9 @@ use lib.Ieee.{Float, nan}
 use Rattle.interp.specs.declared.Interp.{Interp}
 use Rattle.interp.specs.Phase.{phases}
 use Rattle.true_peak_state.specs.Channel.{Channel, hear, heard, past}
-use Rattle.floats.specs.Largest.{largest}
-use Rattle.largest_phase.specs.Line.{back, scanned}
+use Rattle.floats.specs.Largest.{greatest, largest}
+use Rattle.floats.proofs.Magnitude.{largest-append}
+use Rattle.largest_phase.specs.Line.{back, phasesOver}
 use Rattle.samples.specs.Frames.{silence, column}
 use Rattle.samples.proofs.Columns.{within}
 use Rattle.true_peak_state.specs.TruePeak.{historyAt}
@@ -45,8 +46,8 @@ hear-line i l at peak = ap (λ (h : List Float). record { history = h; peak = la
 -- the line holds the samples from place at + past on
 heard-line : (i : Interp) (l xs : List Float) (at : ℕ) (peak : Float) → ((k : ℕ) → k < length xs → getD l (at + past + k) nan ≡ getD xs k nan)
     → heard i (record { history = back l at past; peak = peak }) xs
-    ≡ record { history = back l (at + length xs) past; peak = scanned (phases i) l at (length xs) peak }
-unfolding heard scanned
+    ≡ record { history = back l (at + length xs) past; peak = largest peak (phasesOver (phases i) l at (length xs)) }
+unfolding heard phasesOver greatest
 heard-line i l [] at peak h = ap (λ (p : ℕ). record { history = back l p past; peak = peak }) (sym (add-zero at))
 heard-line i l (x ∷ xs) at peak h =
     let e : at + past + 0 ≡ at + past = omega arith in
@@ -57,18 +58,19 @@ heard-line i l (x ∷ xs) at peak h =
     ap (λ (y : Float). heard i (hear i (record { history = back l at past; peak = peak }) y) xs) first
     ∙ ap (λ (ch : Channel). heard i ch xs) (hear-line i l at peak)
     ∙ heard-line i l xs (suc at) (largest peak (phases i (back l at 24))) later
-    ∙ ap (λ (p : ℕ). record { history = back l p past; peak = scanned (phases i) l (suc at) (length xs) (largest peak (phases i (back l at 24))) }) f
+    ∙ ap (λ (p : ℕ). record { history = back l p past; peak = largest (largest peak (phases i (back l at 24))) (phasesOver (phases i) l (suc at) (length xs)) }) f
+    ∙ ap (λ (v : Float). record { history = back l (at + suc (length xs)) past; peak = v }) (sym (largest-append peak (phases i (back l at 24)) (phasesOver (phases i) l (suc at) (length xs))))
 
 -- a line with samples stored after its history
 pub heard-stored : (i : Interp) (l xs : List Float) (peak : Float) → past + length xs ≤ length l
     → heard i (record { history = back l 0 past; peak = peak }) xs
-    ≡ record { history = back (sets l past xs) (length xs) past; peak = scanned (phases i) (sets l past xs) 0 (length xs) peak }
+    ≡ record { history = back (sets l past xs) (length xs) past; peak = largest peak (phasesOver (phases i) (sets l past xs) 0 (length xs)) }
 heard-stored i l xs peak h =
     let stored = sets l past xs in
     let e : 0 + length xs ≡ length xs = omega arith in
     ap (λ (r : List Float). heard i (record { history = r; peak = peak }) xs) (back-same l stored 0 0 past (λ j g. sym (sets-before xs l past (0 + j) (omega arith))))
     ∙ heard-line i stored xs 0 peak (λ k g. (let q : 0 + past + k ≡ past + k = omega arith in ap (λ (p : ℕ). getD stored p nan) q ∙ sets-at xs l past k g h))
-    ∙ ap (λ (p : ℕ). record { history = back stored p past; peak = scanned (phases i) stored 0 (length xs) peak }) e
+    ∙ ap (λ (p : ℕ). record { history = back stored p past; peak = largest peak (phasesOver (phases i) stored 0 (length xs)) }) e
 
 -- ---- the last samples of a line become its first
 pub record Moved (old l : List Float) (n k : ℕ) : Type 0 where

@@ -10,7 +10,8 @@ use lib.Ieee.{Float}
 use Rattle.interp.specs.declared.Interp.{Interp}
 use Rattle.interp.specs.Phase.{phases}
 use Rattle.true_peak_state.specs.Channel.{Channel, channel, heard, past}
-use Rattle.largest_phase.specs.Line.{back, scanned}
+use Rattle.floats.specs.Largest.{largest}
+use Rattle.largest_phase.specs.Line.{back, phasesOver}
 use Rattle.samples.specs.Frames.{column}
 use Rattle.samples.proofs.Columns.{length-column, column-append}
 use Rattle.true_peak_state.proofs.Cuts.{heard-append}
@@ -19,15 +20,15 @@ use Rattle.true_peak.proofs.Lines.{heard-stored}
 -- one stretch of n samples: the line with it stored, scanned, and carried
 pub stretch-heard : (i : Interp) (samples old stored new : List Float) (at step n : ℕ) (peak loud : Float)
     → past + n ≤ length old
-    → stored ≡ sets old past (column samples at step n) → loud ≡ scanned (phases i) stored 0 n peak → back new 0 past ≡ back stored n past
+    → stored ≡ sets old past (column samples at step n) → loud ≡ largest peak (phasesOver (phases i) stored 0 n) → back new 0 past ≡ back stored n past
     → channel (back new 0 past) loud ≡ heard i (channel (back old 0 past) peak) (column samples at step n)
 stretch-heard i samples old stored new at step n peak loud r es el en =
     let xs = column samples at step n in
     let k : length xs ≡ n = length-column samples at step n in
     ap (λ (q : List Float). channel q loud) en
     ∙ ap (channel (back stored n past)) el
-    ∙ ap (λ (q : List Float). channel (back q n past) (scanned (phases i) q 0 n peak)) es
-    ∙ ap (λ (m : ℕ). channel (back (sets old past xs) m past) (scanned (phases i) (sets old past xs) 0 m peak)) (sym k)
+    ∙ ap (λ (q : List Float). channel (back q n past) (largest peak (phasesOver (phases i) q 0 n))) es
+    ∙ ap (λ (m : ℕ). channel (back (sets old past xs) m past) (largest peak (phasesOver (phases i) (sets old past xs) 0 m))) (sym k)
     ∙ sym (heard-stored i old xs peak (subst (λ (m : ℕ). past + m ≤ length old) (sym k) r))
 
 -- a stretch heard, and what is left after it

@@ -7,7 +7,8 @@ ghost use Rattle.refusals.specs.Answer.{said};
 ghost use Rattle.refusals.specs.Outcome.{saidBy, keptBy};
 ghost use Rattle.interp.specs.Interp.{upsampled, kindOf, Known};
 ghost use Rattle.interp.specs.Phase.{coefficients, phases};
-ghost use Rattle.largest_phase.specs.Line.{back, stretch, scanned};
+ghost use Rattle.floats.specs.Largest.{largest};
+ghost use Rattle.largest_phase.specs.Line.{back, stretch, phasesOver};
 ghost use Rattle.true_peak_state.specs.Channel.{channel, heard, past};
 ghost use Rattle.true_peak.specs.Inner.{room};
 ghost use Rattle.samples.specs.Frames.{column};
@@ -36,7 +37,7 @@ fn scan(
     requires { ⌜ Known i ⌝ }
     requires { ⌜ now taps ≡ coefficients (i .factor) ⌝ }
     requires { ⌜ n ≤ stretch ⌝ }
-    ensures { λ r. ⌜ r ≡ scanned (phases i) (now (line .entry)) 0 n peak ⌝ }
+    ensures { λ r. ⌜ r ≡ largest peak (phasesOver (phases i) (now (line .entry)) 0 n) ⌝ }
 {
     if i.factor == Interp::FOURFOLD {
         return largest_phase::scan_fourfold(taps, line, n, peak);

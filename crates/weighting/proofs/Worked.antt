@@ -3,7 +3,7 @@ use mathlib.Core.Path.{_≡_, refl}
 use mathlib.Core.List.{List, [], _∷_}
 use mathlib.Core.Bool.{true, false}
 use lib.IntN.{pos, negsuc}
-use lib.Ieee.{Float, fin, add, sub, mul, div, neg, lt, ofInt}
+use lib.Ieee.{Float, fin, add, sub, mul, div, lt, ofInt}
 use Rattle.samples.specs.Sample.{sampleIn, samplesOf16}
 use Rattle.floats.specs.Entry.{plusZero}
 use Rattle.recurrence.specs.declared.Memory.{Memory}
@@ -25,13 +25,13 @@ halving = refl
 
 -- the flush at 2^-1022, at half of it, and at -0: "every state value of magnitude below 2^-1022, negative zero too, becomes +0"
 pub flush-kept : flush smallest ≡ smallest
-unfolding lt neg
+unfolding lt
 flush-kept = refl
 
 pub flush-below : flush (fin true 1 (negsuc 1022)) ≡ plusZero
-unfolding lt neg
+unfolding lt
 flush-below = refl
 
 pub flush-minus : flush (fin true 0 (pos 0)) ≡ plusZero
-unfolding lt neg
+unfolding lt
 flush-minus = refl

@@ -9,18 +9,19 @@ use Rattle.interp.specs.declared.Interp.{Interp}
 use Rattle.interp.specs.Interp.{fourfold, twofold}
 use Rattle.interp.specs.Phase.{coefficients, phases, phasesBy}
 use Rattle.interp.proofs.Rates.{known-fourfold, known-twofold}
-use Rattle.largest_phase.specs.Line.{stretch, scanned}
+use Rattle.floats.specs.Largest.{largest}
+use Rattle.largest_phase.specs.Line.{stretch, phasesOver}
 use Rattle.true_peak.proofs.scan.Statement.{statement}
 use Rattle.true_peak.proofs.scan.Tie as tie
 
 -- a scan by a table of an interpolator's own coefficients is a scan by its phases
 own-taps : (k i : Interp) → k ≡ i → (taps line : List Float) (n : ℕ) (peak r : Float) → taps ≡ coefficients (i .factor) → n ≤ stretch
-    → r ≡ scanned (phasesBy taps k) line 0 (min n stretch) peak → r ≡ scanned (phases i) line 0 n peak
+    → r ≡ largest peak (phasesOver (phasesBy taps k) line 0 (min n stretch)) → r ≡ largest peak (phasesOver (phases i) line 0 n)
 own-taps k i e taps line n peak r t h f =
     f
-    ∙ ap (λ (m : ℕ). scanned (phasesBy taps k) line 0 m peak) (min-eq-left h)
-    ∙ ap (λ (q : List Float). scanned (phasesBy q k) line 0 n peak) t
-    ∙ ap (λ (j : Interp). scanned (phasesBy (coefficients (i .factor)) j) line 0 n peak) e
+    ∙ ap (λ (m : ℕ). largest peak (phasesOver (phasesBy taps k) line 0 m)) (min-eq-left h)
+    ∙ ap (λ (q : List Float). largest peak (phasesOver (phasesBy q k) line 0 n)) t
+    ∙ ap (λ (j : Interp). largest peak (phasesOver (phasesBy (coefficients (i .factor)) j) line 0 n)) e
 
 scan-fourfold-requires : tie.Need-scan-fourfold-requires
 scan-fourfold-requires c κs = search needs
