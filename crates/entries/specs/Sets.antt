@@ -1,12 +1,13 @@
 -- A set of histories as the C interface takes it: five numbers an entry, which are its kind (0 a histogram, 1 a queue), start, maximum, head and held.
 use Prim.Native.Nat.{ℕ, zero, suc, _+_, _/_, _%_}
-use mathlib.Core.Bool.{cond}
+use mathlib.Core.Bool.{not, cond}
 use mathlib.Core.List.{List, [], _∷_}
 use lib.Dec.{eqb}
 use lib.ListN.{length, getD}
 use lib.Ieee.{Float}
 use Rattle.refusals.specs.Refusal.{SET}
-use Rattle.refusals.specs.Outcome.{Outcome, Question, refused}
+use Rattle.refusals.specs.Outcome.{Outcome, Question}
+use Rattle.refusals.specs.Rows.{Row, row, byRows}
 use Rattle.queue.specs.declared.Queue.{Queue}
 use Rattle.history.specs.declared.set.Entry.{Entry}
 use Rattle.history.specs.declared.set.Shape.the-variants.{Histogram, Queue as Queue-at}
@@ -41,11 +42,15 @@ abbrev pub setOf : List ℕ → List ℕ → List Float → Histories
 setOf numbers counters energies = histories (entriesFrom numbers 0 mostHistories) (length numbers / numbersAnEntry) counters energies
 
 -- a question over the set, and SET where the numbers are not whole entries
+abbrev pub uneven : List ℕ → Row
+uneven numbers = row SET (not (eqb (length numbers % numbersAnEntry) 0))
+
 abbrev pub asked : {Kept Values : Type 0} → (Histories → Outcome Kept Values) → List ℕ → List ℕ → List Float → Outcome Kept Values
-asked question numbers counters energies =
-    cond (eqb (length numbers % numbersAnEntry) 0) (question (setOf numbers counters energies)) (refused SET)
+asked question numbers counters energies = byRows (uneven numbers ∷ []) (question (setOf numbers counters energies))
 
 -- a question over a single history, and SET where the numbers are not one entry
+abbrev pub notOne : List ℕ → Row
+notOne numbers = row SET (not (eqb (length numbers) numbersAnEntry))
+
 abbrev pub askedAlone : {Values : Type 0} → (Entry → List ℕ → List Float → Question Values) → List ℕ → List ℕ → List Float → Question Values
-askedAlone question numbers counters energies =
-    cond (eqb (length numbers) numbersAnEntry) (question (entryAt numbers 0) counters energies) (refused SET)
+askedAlone question numbers counters energies = byRows (notOne numbers ∷ []) (question (entryAt numbers 0) counters energies)
