@@ -1,0 +1,94 @@
+-- Demand 1 at the C interface, proved: a code other than 0 is the number that is said, so that what refuses the operation refuses the function. Assumes nothing.
+use mathlib.Core.Path.{_≡_, refl, sym, ap, _∙_}
+use mathlib.Core.List.{List, _∷_}
+use Prim.Native.Nat.{ℕ}
+use lib.Ieee.{Float}
+use Rattle.refusals.specs.Refusal.{number}
+use Rattle.refusals.specs.Outcome.{Outcome, went, refused, Said, says, refusal, saidBy, keptBy, done}
+use Rattle.refusals.specs.Rows.{Row, FirstIs, RefusedBy}
+use Rattle.refusals.proofs.Rows.{refused-by}
+use Rattle.bin_search.specs.Reading.{readingRows, readingOf}
+use Rattle.histogram.specs.Histogram.{addRows, addTo, resetRows, cleared}
+use Rattle.histogram_merge.specs.Merge.{mergeRows, mergeInto}
+use Rattle.queue_add.specs.Adding.{queueRows, enqueued}
+use Rattle.history.specs.Set.{Histories, historiesOf, shows}
+use Rattle.gate.specs.Totals.{meanOf}
+use Rattle.gate.specs.Sums.{totalsOf}
+use Rattle.gate.specs.Relative.{levelOf, relativeRows, relativeOf}
+use Rattle.gate.specs.Gate.{leftOf, gateRows, gateOf}
+use Rattle.gated_energy.specs.GatedEnergy.{gatedEnergyOf}
+use Rattle.range.specs.Range.{Span, workAfter, spanOver, rangeRows, rangeOf}
+use Rattle.codes.specs.Codes.{code, valueOr}
+use Rattle.entries.specs.Sets.{entryAt, setOf, uneven, asked, notOne, askedAlone}
+use Rattle.exports_range.specs.Spans.{rangeAsked, spanCode, lowOr, highOr}
+use Rattle.acceptance_refusals.proofs.Table.{demand-1}
+use Rattle.acceptance_interface.specs.Interface.{Tells, Interface}
+
+number-said : {Values : Type 0} → Said Values → ℕ
+number-said (says values) = 0
+number-said (refusal n) = n
+
+module _ {Kept Values : Type 0} where
+  code-said : (call : Outcome Kept Values) (n : ℕ) → (n ≡ 0 → ⊥) → code call ≡ n → saidBy call ≡ refusal n
+  code-said (went kept values) n p e = absurd (p (sym e))
+  code-said (refused r) n p e = ap refusal e
+
+  said-code : (call : Outcome Kept Values) (n : ℕ) → (n ≡ 0 → ⊥) → saidBy call ≡ refusal n → code call ≡ n
+  unfolding number-said
+  said-code (went kept values) n p e = absurd (p (sym (ap number-said e)))
+  said-code (refused r) n p e = ap number-said e
+
+  nothing-changed : (call : Outcome Kept Values) → (code call ≡ 0 → ⊥) → (old : Values) (given : Kept) → (valueOr old call ≡ old) × (keptBy given call ≡ given)
+  nothing-changed (went kept values) p old given = absurd (p refl)
+  nothing-changed (refused r) p old given = (refl, refl)
+
+  pub tells : (rows : List Row) (call : Outcome Kept Values) → RefusedBy rows call → Tells rows call
+  tells rows call by = record {
+    exactly = λ n p. (λ e. by .exactly n .0 (code-said call n p e), λ f. said-code call n p (by .exactly n .1 f));
+    asGiven = nothing-changed call;
+  }
+
+refused-span : {Kept : Type 0} (call : Outcome Kept Span) → (code call ≡ 0 → ⊥) → (spanCode call ≡ code call) × ((old : Float) → (lowOr old call ≡ old) × (highOr old call ≡ old))
+refused-span (went kept span) p = absurd (p refl)
+refused-span (refused r) p = (refl, λ old. (refl, refl))
+
+-- ---- questions over a set that is given by its numbers
+module _ (numbers counters : List ℕ) (energies : List Float) where
+  abbrev set : Histories
+  set = setOf numbers counters energies
+
+  gates : Tells (uneven numbers ∷ gateRows set) (asked gateOf numbers counters energies)
+  unfolding gateOf
+  gates = tells (uneven numbers ∷ gateRows set) (asked gateOf numbers counters energies) (refused-by (uneven numbers ∷ gateRows set) tt (leftOf (historiesOf set)))
+
+  means : Tells (uneven numbers ∷ gateRows set) (asked gatedEnergyOf numbers counters energies)
+  unfolding gatedEnergyOf
+  means =
+      tells (uneven numbers ∷ gateRows set) (asked gatedEnergyOf numbers counters energies)
+      (refused-by (uneven numbers ∷ gateRows set) tt (meanOf (leftOf (historiesOf set))))
+
+  relates : Tells (notOne numbers ∷ relativeRows (entryAt numbers 0) counters energies) (askedAlone relativeOf numbers counters energies)
+  unfolding relativeOf
+  relates =
+      let rows = notOne numbers ∷ relativeRows (entryAt numbers 0) counters energies in
+      tells rows (askedAlone relativeOf numbers counters energies) (refused-by rows tt (levelOf (totalsOf (shows counters energies (entryAt numbers 0)))))
+
+  ranges : (work : List Float) → Tells (uneven numbers ∷ rangeRows set work) (rangeAsked numbers counters energies work)
+  unfolding rangeOf
+  ranges work =
+      let rows = uneven numbers ∷ rangeRows set work in
+      tells rows (rangeAsked numbers counters energies work) (refused-by rows (workAfter work (historiesOf set)) (spanOver (historiesOf set)))
+
+pub interface : Interface
+interface = record {
+  reading = λ x. tells (readingRows x) (readingOf x) (demand-1 .reading x);
+  histogramAdd = λ counters x. tells (addRows counters x) (addTo counters x) (demand-1 .histogramAdd counters x);
+  histogramMerge = λ into from. tells (mergeRows into from) (mergeInto into from) (demand-1 .histogramMerge into from);
+  histogramReset = λ counters. tells (resetRows counters) (cleared counters) (demand-1 .histogramReset counters);
+  queueAdd = λ s x. tells (queueRows s) (enqueued s x) (demand-1 .queueAdd s x);
+  gate = gates;
+  gatedEnergy = means;
+  relativeThreshold = relates;
+  loudnessRange = ranges;
+  spans = λ numbers counters energies work. refused-span (rangeAsked numbers counters energies work);
+}

@@ -1,0 +1,46 @@
+-- Demand 1 at the C interface: a function's result is 0, or n exactly when row n of its operation holds and no earlier one does; and then every value behind a pointer,
+-- and all that was lent, is as given. A contract of the `exports_` crates says that the result is `code` of an outcome (a range's `spanCode`); here
+-- these outcomes stand with their rows. proofs/Interface.antt proves `Interface`.
+use Prim.Native.Nat.{ℕ}
+use mathlib.Core.Path.{_≡_}
+use mathlib.Core.List.{List, _∷_}
+use lib.Ieee.{Float}
+use Rattle.refusals.specs.Outcome.{Outcome, keptBy}
+use Rattle.refusals.specs.Rows.{Row, FirstIs}
+use Rattle.bin_search.specs.Reading.{readingRows, readingOf}
+use Rattle.histogram.specs.Histogram.{addRows, addTo, resetRows, cleared}
+use Rattle.histogram_merge.specs.Merge.{mergeRows, mergeInto}
+use Rattle.queue.specs.Queue.{Stored}
+use Rattle.queue_add.specs.Adding.{queueRows, enqueued}
+use Rattle.gate.specs.Relative.{relativeRows, relativeOf}
+use Rattle.gate.specs.Gate.{gateRows, gateOf}
+use Rattle.gated_energy.specs.GatedEnergy.{gatedEnergyOf}
+use Rattle.range.specs.Range.{rangeRows}
+use Rattle.codes.specs.Codes.{code, valueOr}
+use Rattle.entries.specs.Sets.{entryAt, setOf, uneven, asked, notOne, askedAlone}
+use Rattle.exports_range.specs.Spans.{rangeAsked, spanCode, lowOr, highOr}
+
+pub record Tells {Kept Values : Type 0} (rows : List Row) (call : Outcome Kept Values) : Type 0 where
+  -- the result is n, other than 0, exactly when row n holds and no earlier row does
+  pub exactly : (n : ℕ) → (n ≡ 0 → ⊥) → (code call ≡ n → FirstIs n rows) × (FirstIs n rows → code call ≡ n)
+  -- and then nothing has changed
+  pub asGiven : (code call ≡ 0 → ⊥) → (old : Values) (given : Kept) → (valueOr old call ≡ old) × (keptBy given call ≡ given)
+
+pub record Interface : Type 0 where
+  pub reading : (energy : Float) → Tells (readingRows energy) (readingOf energy)
+  pub histogramAdd : (counters : List ℕ) (energy : Float) → Tells (addRows counters energy) (addTo counters energy)
+  pub histogramMerge : (into from : List ℕ) → Tells (mergeRows into from) (mergeInto into from)
+  pub histogramReset : (counters : List ℕ) → Tells (resetRows counters) (cleared counters)
+  pub queueAdd : (s : Stored) (energy : Float) → Tells (queueRows s) (enqueued s energy)
+  -- a set is given by five numbers an entry: SET where they are not whole entries, and then what refuses the operation
+  pub gate : (numbers counters : List ℕ) (energies : List Float) → Tells (uneven numbers ∷ gateRows (setOf numbers counters energies)) (asked gateOf numbers counters energies)
+  pub gatedEnergy : (numbers counters : List ℕ) (energies : List Float)
+      → Tells (uneven numbers ∷ gateRows (setOf numbers counters energies)) (asked gatedEnergyOf numbers counters energies)
+  pub relativeThreshold : (numbers counters : List ℕ) (energies : List Float)
+      → Tells (notOne numbers ∷ relativeRows (entryAt numbers 0) counters energies) (askedAlone relativeOf numbers counters energies)
+  pub loudnessRange : (numbers counters : List ℕ) (energies work : List Float)
+      → Tells (uneven numbers ∷ rangeRows (setOf numbers counters energies) work) (rangeAsked numbers counters energies work)
+  -- a range's result is that, or 128 for nothing and 129 for not a number, and then too its two energies are as given
+  pub spans : (numbers counters : List ℕ) (energies work : List Float) →
+      let call = rangeAsked numbers counters energies work in
+      (code call ≡ 0 → ⊥) → (spanCode call ≡ code call) × ((old : Float) → (lowOr old call ≡ old) × (highOr old call ≡ old))
