@@ -47,9 +47,11 @@ Fact false a true b = (a ≡ 0) × (b ≡ 0)
 Fact true a false b = Unit
 Fact true a true b = b ≤ a
 
+pub at-most : (a b : ℕ) → T (ltb a b || (eqb a b && true)) → a ≤ b
+at-most a b h = elim (or-split (ltb a b) (eqb a b && true) h) [ inl u ↦ le-of-lt (ltb→lt a b u) | inr u ↦ le-of-eq (eqb→eq a b (and-l (eqb a b) true u)) ]
+
 to-fact : (s : Bool) (a : ℕ) (t : Bool) (b : ℕ) → T (test s a t b) → Fact s a t b
-to-fact false a false b h =
-    elim (or-split (ltb a b) (eqb a b && true) h) [ inl u ↦ le-of-lt (ltb→lt a b u) | inr u ↦ le-of-eq (eqb→eq a b (and-l (eqb a b) true u)) ]
+to-fact false a false b h = at-most a b h
 to-fact false a true b h =
     let p : a ≡ b = eqb→eq a b (and-l (eqb a b) (eqb a 0) h) in
     let q : a ≡ 0 = eqb→eq a 0 (and-r (eqb a b) (eqb a 0) h) in

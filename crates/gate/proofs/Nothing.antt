@@ -2,24 +2,24 @@
 -- The exact sum is the number itself, which the format holds, and a number is written in one way: its bits say which. Assumes nothing.
 use mathlib.Core.Path.{_≡_, refl, sym, ap, _∙_, subst}
 use mathlib.Core.Logic.{inl, inr}
-use mathlib.Core.Bool.{Bool, true, false, not, _&&_, cond, true≢false}
+use mathlib.Core.Bool.{Bool, true, false, _&&_, cond, true≢false}
 use mathlib.Core.List.{List, [], _∷_}
 use Prim.Native.Nat.{ℕ, zero, suc, _+_, _-_, _*_, _/_, _%_, _^_, _≤_, _<_, compare}
-use native.Mathlib.Nat.{mul-assoc, mul-comm, mul-right-comm, mul-one, zero-mul, add-zero, add-comm, lt-of-lt-of-le, lt-of-not-le, lt-irrefl, mul-pos, eq-zero-or-pos}
+use native.Mathlib.Nat.{mul-assoc, mul-comm, mul-one, zero-mul, add-zero, add-comm, lt-of-lt-of-le, lt-of-not-le, lt-irrefl, mul-pos, eq-zero-or-pos}
 use native.Mathlib.Omega.{arith}
 use borrow.Author.Tests.{ltb-false}
 use lib.Dec.{T, eqb, ltb, leb, ltb→lt, leb→le}
 use lib.IntN.{ℤ, pos, negsuc}
 use lib.Pow.{pow-add, pow-pos, pow-mono, pow-lt, shl-lt}
-use lib.Ieee.{Float, nan, inf, fin, Format, binary64, prec, emax, low, up, down, size, nearest, odd, units, round, sum, add, mul, ofInt, ofBits, toBits, fits, lt}
+use lib.Ieee.{Float, nan, inf, fin, Format, binary64, prec, emax, low, up, down, size, nearest, odd, units, round, sum, add, mul, ofInt, ofBits, fits, lt}
 use lib.Ieee.Digits.{back}
 use lib.Ieee.Fits.{and-l, and-r, up-pos, down-pos, reach, round-is, round-fits, add-fits}
 use lib.Ieee.Exact.{HasValue, round-exact}
-use lib.Ieee.Nearest.{div-same}
-use lib.Ieee.Bits.{ofBits-toBits, ofBits-fits}
+use lib.Ieee.Bits.{ofBits-fits}
 use lib.Ieee.Positive.{positive}
 use Rattle.floats.specs.Entry.{plusZero}
 use Rattle.floats.proofs.Nan.{zero-pattern}
+use Rattle.floats.proofs.Value.{same-float, round-zero}
 use Rattle.tables.specs.Tables.{energyAt}
 use Rattle.tables.proofs.Rules.{energy-positive, energy-past}
 use Rattle.gate.specs.declared.blocks.Totals.{Totals}
@@ -28,25 +28,6 @@ use Rattle.gate.specs.Inner.{unsigned, Steady}
 
 -- ---- a number that the format holds is its own rounding
 module _ (f : Format) (s : Bool) where
-  -- the bits are told by the sign and the value
-  same-bits : (m : ℕ) (e : ℤ) (n : ℕ) (d : ℤ) → m * up e * 2 ^ low f / down e ≡ n * up d * 2 ^ low f / down d → toBits f (fin s m e) ≡ toBits f (fin s n d)
-  unfolding toBits
-  same-bits m e n d h = rw h
-
-  same-value : (m : ℕ) (e : ℤ) (x : Float) → T (fits f (fin s m e)) → T (fits f x) → HasValue x s (m * up e) (down e) → x ≡ fin s m e
-  same-value m e nan p q v = absurd v
-  same-value m e (inf t) p q v = absurd v
-  same-value m e (fin t n d) p q v =
-      let scaled = div-same (n * up d * 2 ^ low f) (down d) (m * up e * 2 ^ low f) (down e) (down-pos d) (down-pos e) (crossed (n * up d) (m * up e) (down d) (down e) (2 ^ low f) (v .1)) in
-      let renamed : fin t n d ≡ fin s n d = ap (λ (sign : Bool). fin sign n d) (v .0) in
-      renamed
-      ∙ sym (ofBits-toBits f (fin s n d) (subst (λ (x : Float). T (fits f x)) renamed q))
-      ∙ ap (ofBits f) (same-bits n d m e scaled)
-      ∙ ofBits-toBits f (fin s m e) p
-    where
-      crossed : (a b c d u : ℕ) → a * d ≡ b * c → a * u * d ≡ b * u * c
-      crossed a b c d u h = mul-right-comm a u d ∙ ap (λ (x : ℕ). x * u) h ∙ mul-right-comm b c u
-
   no-deeper : (k l : ℕ) → 2 ^ k ≤ 2 ^ l → k ≤ l
   no-deeper k l h =
       let below : k < suc l = lt-of-not-le (λ (g : suc l ≤ k). lt-irrefl (2 ^ l) (lt-of-lt-of-le (pow-lt g) h)) in
@@ -89,7 +70,7 @@ module _ (f : Format) (s : Bool) where
       (ltb→lt (suc m * up e) (2 ^ suc (emax f) * down e) (and-r (A && B && C) D p))
 
   own-rounding : (m : ℕ) (e : ℤ) → T (fits f (fin s m e)) → round f s (m * up e) (down e) ≡ fin s m e
-  own-rounding m e p = same-value m e (round f s (m * up e) (down e)) p (round-fits f s (m * up e) (down e)) (of-fitting m e p)
+  own-rounding m e p = same-float f (round f s (m * up e) (down e)) (fin s m e) s (m * up e) (down e) (down-pos e) (round-fits f s (m * up e) (down e)) p (of-fitting m e p) (refl, refl)
 
 -- ---- 0 added
 add-nothing : (x : Float) → T (fits binary64 x) → T (unsigned x) → add binary64 x plusZero ≡ x
@@ -119,31 +100,12 @@ pub to-nothing : (x : Float) → Steady x → add binary64 (ofBits binary64 0) x
 to-nothing x p = ap (λ (z : Float). add binary64 z x) zero-pattern ∙ swapped x (p .1) ∙ add-nothing x (p .0) (p .1)
 
 -- ---- no block times an energy is 0
-times-none : (a c : ℕ) → 0 < c → a * c ≡ 0 → a ≡ 0
-times-none a c h e = elim (eq-zero-or-pos a) [
-  | inl z ↦ z
-  | inr p ↦ absurd (lt-irrefl 0 (lt-of-lt-of-le (mul-pos p h) (omega (arith, e))))
-]
-
-only-nothing : (c : ℕ) → 0 < c → (x : Float) → T (fits binary64 x) → HasValue x false 0 c → x ≡ plusZero
-unfolding fits
-only-nothing c h nan q v = absurd v
-only-nothing c h (inf t) q v = absurd v
-only-nothing c h (fin t n d) q v =
-    same-value binary64 false 0 (pos 0) (fin t n d) tt q
-    (v .0, mul-one (n * up d) ∙ times-none (n * up d) c h (v .1 ∙ zero-mul (down d)) ∙ sym (zero-mul (down d)))
-
-round-nothing : (c : ℕ) → 0 < c → round binary64 false 0 c ≡ plusZero
-round-nothing c h =
-    only-nothing c h (round binary64 false 0 c) (round-fits binary64 false 0 c)
-    (round-exact binary64 false 0 c 0 0 h (pow-pos (prec binary64)) (pow-pos (low binary64 + suc (emax binary64))) (zero-mul (2 ^ low binary64) ∙ sym (zero-mul c)))
-
 pub none-times : (x : Float) → T (positive x) → mul binary64 (ofInt binary64 (pos 0)) x ≡ ofBits binary64 0
 unfolding mul ofInt
 none-times (fin false n d) p =
-    ap (λ (z : Float). mul binary64 z (fin false n d)) (round-nothing 1 (omega arith))
+    ap (λ (z : Float). mul binary64 z (fin false n d)) (round-zero binary64 false 1 (omega arith))
     ∙ ap (λ (k : ℕ). round binary64 false k (1 * down d)) (zero-mul (n * up d))
-    ∙ round-nothing (1 * down d) (omega (arith, down-pos d))
+    ∙ round-zero binary64 false (1 * down d) (omega (arith, down-pos d))
     ∙ sym zero-pattern
 
 -- ---- no minus comes of two without one

@@ -13,7 +13,7 @@ use lib.ListN.{getD, take}
 use lib.IntN.{pos}
 use lib.Ieee.{Float, nan, inf, fin, binary32, up, down, round, sum, add, mul, ofBits}
 use lib.Ieee.Fits.{down-pos}
-use lib.Ieee.Scale.{round-same}
+use Rattle.floats.proofs.Value.{round-zero}
 use Rattle.interp.specs.declared.Interp.{Interp}
 use Rattle.interp.specs.Phase.{plus, summed, phasesFrom, phasesBy}
 use Rattle.floats.specs.Entry.{plusZero}
@@ -34,10 +34,6 @@ alike-magnitude x y (same e) = ap magnitude e
 alike-magnitude x y (zeros s t e g) = ap magnitude e ∙ sym (ap magnitude g)
 
 -- ---- a zero added to
-round-zero : (s : Bool) (c : ℕ) → 0 < c → round binary32 s 0 c ≡ zeroOf s
-unfolding round
-round-zero s c h = round-same binary32 s 0 c 0 1 h (omega arith) (zero-mul 1 ∙ sym (zero-mul c))
-
 no-zero : (s u : Bool) (b c : ℕ) → 0 < b → sum binary32 s 0 u b c ≡ round binary32 u b c
 unfolding sum
 no-zero true true b c h = ap (λ (n : ℕ). round binary32 true n c) (zero-add b)
@@ -59,7 +55,7 @@ sums-alike s t u b c h = elim (eq-zero-or-pos b) [
 ]
   where
     zero-sum : (s : Bool) → b ≡ 0 → sum binary32 s 0 u b c ≡ zeroOf (s && u)
-    zero-sum s z = ap (λ (n : ℕ). sum binary32 s 0 u n c) z ∙ both-zero s u c ∙ round-zero (s && u) c h
+    zero-sum s z = ap (λ (n : ℕ). sum binary32 s 0 u n c) z ∙ both-zero s u c ∙ round-zero binary32 (s && u) c h
 
 zeros-alike : (s t : Bool) (y : Float) → Alike (add binary32 (zeroOf s) y) (add binary32 (zeroOf t) y)
 unfolding add

@@ -14,7 +14,7 @@ use lib.Ieee.{Float, nan, inf, fin, binary64, up, down, lt, isNan, fits}
 use lib.Ieee.Fits.{down-pos}
 use Rattle.floats.proofs.Order.{is-true, is-false, right-number, irreflexive, lt-lt}
 use Rattle.floats.proofs.Magnitude.{magnitude-fits}
-use Rattle.samples.proofs.Written.{same-float}
+use Rattle.floats.proofs.Value.{same-float}
 use Rattle.samples.specs.Frames.{silence, column}
 use Rattle.floats.specs.Largest.{magnitude, greater, greatest, largest}
 

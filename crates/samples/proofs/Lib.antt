@@ -1,3 +1,2 @@
-pub mod Written
 pub mod Exact
 pub mod Columns
