@@ -1,7 +1,7 @@
 -- Whether every sum fits, in a loop: each turn goes on from one counter to the next, so that what is left to look at is known by recursion on the counters.
 -- Assumes nothing.
 use mathlib.Core.Path.{_≡_, refl, sym}
-use mathlib.Core.Bool.{Bool, true, false, _&&_, true≢false}
+use mathlib.Core.Bool.{Bool, true, false, _&&_, true≢false, and-true, and-assoc}
 use mathlib.Core.List.{List, [], _∷_}
 use Prim.Native.Nat.{ℕ, zero, suc, _+_, _-_, _≤_, _<_}
 use native.Mathlib.Nat.{le-of-suc-le-suc, not-suc-le-zero}
@@ -21,14 +21,6 @@ fits-one x y h = go (leb y (largestCount - x)) refl
     go : (b : Bool) → leb y (largestCount - x) ≡ b → b ≡ leb (x + y) largestCount
     go true e = sym (le-leb (x + y) largestCount (omega (arith, leb-true y (largestCount - x) e)))
     go false e = sym (lt-leb (x + y) largestCount (omega (arith, leb-false y (largestCount - x) e)))
-
-and-assoc : (a b c : Bool) → (a && b) && c ≡ a && (b && c)
-and-assoc true b c = refl
-and-assoc false b c = refl
-
-and-true : (a : Bool) → a && true ≡ a
-and-true true = refl
-and-true false = refl
 
 module _ (into from : List ℕ) where
   -- what has been found before a bin, with what the bins from there on give

@@ -1,6 +1,6 @@
 -- All energies above zero, as a test and as a fact; and the test goes through them one after the other. Assumes nothing.
 use mathlib.Core.Path.{_≡_, refl, sym, subst}
-use mathlib.Core.Bool.{Bool, true, false, _&&_, cond}
+use mathlib.Core.Bool.{Bool, true, false, _&&_, cond, and-true, and-assoc}
 use mathlib.Core.List.{List, [], _∷_}
 use Prim.Native.Nat.{ℕ, suc, _+_, _≤_, _<_}
 use native.Mathlib.Omega.{arith}
@@ -26,14 +26,6 @@ and-both false b e = (absurd (false-true e), absurd (false-true e))
   where
     false-true : false ≡ true → ⊥
     false-true q = subst (λ (c : Bool). cond c ⊥ Unit) q tt
-
-and-assoc : (a b c : Bool) → (a && b) && c ≡ a && (b && c)
-and-assoc true b c = refl
-and-assoc false b c = refl
-
-and-true : (a : Bool) → a && true ≡ a
-and-true true = refl
-and-true false = refl
 
 pub above-all : (l : List Float) → allAbove l ≡ true → Above l
 unfolding allAbove

@@ -8,7 +8,7 @@ use Prim.Native.Nat.{ℕ}
 use lib.Dec.{T}
 use lib.ListN.{length}
 use lib.Ieee.{Float, le, fits, binary64}
-use Rattle.floats.proofs.Order.{float-le-trans}
+use Rattle.floats.proofs.Order.{is-true, float-le-trans}
 use lib.Ieee.Positive.{above}
 use Rattle.rising_order.specs.Order.{put, inOrder}
 use Rattle.floats.specs.Entry.{at}
@@ -105,11 +105,7 @@ same-order (after p q) a = same-order p a ∙ same-order q (all-perm Energy p a)
 put-first : (x : Float) (l : List Float) → All (λ z. T (le x z)) l → put x l ≡ x ∷ l
 unfolding put
 put-first x [] h = refl
-put-first x (y ∷ l) h = rw (true-of (le x y) (h .0))
-  where
-    true-of : (b : Bool) → T b → b ≡ true
-    true-of true t = refl
-    true-of false t = absurd t
+put-first x (y ∷ l) h = rw (is-true (le x y) (h .0))
 
 pub rising-is : (l : List Float) → Rising l → inOrder l ≡ l
 unfolding inOrder
