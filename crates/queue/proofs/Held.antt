@@ -29,12 +29,6 @@ module _ (store : List Float) (m : ℕ) where
   held-count p zero = refl
   held-count p (suc n) = ap suc (held-count (suc p) n)
 
-  pub held-at : (p n i : ℕ) → i < n → getD (heldFrom store m p n) i nan ≡ getD store ((p + i) % m) nan
-  unfolding heldFrom
-  held-at p zero i h = absurd (not-suc-le-zero h)
-  held-at p (suc n) zero h = ap (λ (k : ℕ). getD store (k % m) nan) (omega arith)
-  held-at p (suc n) (suc i) h = held-at (suc p) n i (le-of-suc-le-suc h) ∙ ap (λ (k : ℕ). getD store (k % m) nan) (omega arith)
-
   -- the same place of the ring, the same energies
   pub same-place : (p q n : ℕ) → p % m ≡ q % m → heldFrom store m p n ≡ heldFrom store m q n
   unfolding heldFrom

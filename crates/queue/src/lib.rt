@@ -1,6 +1,6 @@
 // The queue: the last energies, oldest first, in a lent store that is gone through round and round.
 ghost use mathlib.Core.Path.{_≡_};
-ghost use Rattle.queue.specs.Queue.{suits, started, firstPart};
+ghost use Rattle.queue.specs.Queue.{suits, started, firstPart, stands, partsOf};
 
 // The longest queue: an hour of blocks, one every 100 ms.
 const LONGEST: usize = 36000;
@@ -10,6 +10,14 @@ pub struct Queue {
     pub maximum: usize,
     pub head: usize,
     pub held: usize,
+}
+
+// Where the energies that a queue holds stand in a slice of energies: the older ones from a place up to another, and after them the newer ones.
+pub struct Parts {
+    pub from: usize,
+    pub until: usize,
+    pub start: usize,
+    pub end: usize,
 }
 
 impl Queue {
@@ -59,5 +67,41 @@ impl Queue {
         }
         let room = self.maximum - self.head;
         if self.held <= room { self.held } else { room }
+    }
+    // Whether the queue's store, which starts at a place, suits it and ends within so many places.
+    fn stands(self, start: usize, places: usize) -> bool
+        ensures { λ r. ⌜ r ≡ stands self start places ⌝ }
+    {
+        if places < start {
+            return false;
+        }
+        if places - start < self.maximum {
+            return false;
+        }
+        self.suits(self.maximum)
+    }
+
+    // Where the held energies stand then: the older ones up to the end of the store, the newer ones from its start. Nowhere if it does not.
+    pub fn parts(self, start: usize, places: usize) -> Parts
+        ensures { λ r. ⌜ r ≡ partsOf self start places ⌝ }
+    {
+        let head = self.head;
+        let held = self.held;
+        if self.stands(start, places) {
+            let first = self.first_part();
+            let from = start + head;
+            return Parts {
+                from,
+                until: from + first,
+                start,
+                end: start + (held - first),
+            };
+        }
+        Parts {
+            from: 0,
+            until: 0,
+            start: 0,
+            end: 0,
+        }
     }
 }

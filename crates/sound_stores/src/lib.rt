@@ -40,13 +40,12 @@ fn sound_queue(energies: &[f64], start: usize, queue: Queue) -> bool
     requires { ⌜ start + queue .maximum ≤ length (now energies) ⌝ }
     ensures { λ r. ⌜ r ≡ (suits queue (queue .maximum) && noneBelow (heldOf (queueAt (now (energies .entry)) start queue))) ⌝ }
 {
-    let head = queue.head;
-    let held = queue.held;
     if queue.suits(queue.maximum) {
-        let first = queue.first_part();
-        let from = start + head;
-        let until = from + first;
-        let end = start + (held - first);
+        let parts = queue.parts(start, energies.len());
+        let from = parts.from;
+        let until = parts.until;
+        let start = parts.start;
+        let end = parts.end;
         none_below(&energies[from..until]) & none_below(&energies[start..end])
     } else {
         false
