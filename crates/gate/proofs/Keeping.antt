@@ -5,38 +5,39 @@ use mathlib.Core.Bool.{Bool, true, false, not, _&&_, cond, true≢false}
 use mathlib.Core.List.{List, [], _∷_, _++_}
 use Prim.Native.Nat.{ℕ, suc, _+_, _-_, _≤_, _<_}
 use native.Mathlib.Omega.{arith}
-use borrow.Author.Tests.{not-true, lt-ltb, le-ltb, ltb-false}
-use lib.Dec.{T, ltb}
+use borrow.Author.Tests.{not-true}
+use lib.Dec.{T}
 use lib.ListN.{length, getD}
 use lib.Ieee.{Float, binary64, add}
 use Rattle.tables.specs.Tables.{boundaryAt}
 use Rattle.tables.proofs.Rules.{boundary-positive}
 use Rattle.histogram_bins.specs.Energy.{dropped}
 use Rattle.queue.specs.declared.Queue.{Queue}
-use Rattle.queue.specs.Queue.{suits, heldOf, firstPart}
+use Rattle.queue.specs.declared.Parts.{Parts}
+use Rattle.queue.specs.Queue.{suits, heldOf, partsOf, slice, inParts}
 use Rattle.queue.proofs.Ring.{suited}
 use Rattle.queue.proofs.Held.{held-count}
 use Rattle.history.specs.Set.{queueAt, noneBelow}
 use Rattle.history.proofs.Slices.{held-slices}
 use Rattle.gate.specs.declared.blocks.Totals.{Totals}
 use Rattle.gate.specs.Totals.{mostBlocks, onTopOf, none, withBlocks}
-use Rattle.gate.specs.Inner.{unsigned, Steady}
+use Rattle.gate.specs.Inner.{unsigned, Steady, energyKept, blocksKept, carried, countedFrom, summedFrom, addedFrom}
 use Rattle.gate.specs.Start.{counts}
 use Rattle.gate.proofs.Nothing.{nothing-added, steady-added, not-below-unsigned}
-use Rattle.gate.proofs.Looking.{part, part-next, part-end, same}
-use Rattle.gate.specs.Kept.{keptFrom, energyKept, blocksKept, carried, countedFrom, summedFrom, addedFrom, stands, ofQueue}
+use Rattle.gate.proofs.Looking.{slice-next, slice-end, same}
+use Rattle.gate.specs.Kept.{keptFrom}
 
 -- ---- a turn
 module _ {A : Type 0} (step : A → Float → A) (a : A) (energies : List Float) (i until : ℕ) where
   pub carried-turn : (d : Float) → i < until → until ≤ length energies → (next : A) → next ≡ step a (getD energies i d)
-      → carried step next (part (i + 1) until energies) ≡ carried step a (part i until energies)
+      → carried step next (slice (i + 1) until energies) ≡ carried step a (slice i until energies)
   unfolding carried
   carried-turn d h g next e =
-      ap (λ (b : A). carried step b (part (i + 1) until energies)) e ∙ sym (ap (carried step a) (part-next energies i until d h g))
+      ap (λ (b : A). carried step b (slice (i + 1) until energies)) e ∙ sym (ap (carried step a) (slice-next energies i until d h g))
 
-  pub carried-end : until ≤ i → carried step a (part i until energies) ≡ a
+  pub carried-end : until ≤ i → carried step a (slice i until energies) ≡ a
   unfolding carried
-  carried-end h = ap (carried step a) (part-end energies i until h)
+  carried-end h = ap (carried step a) (slice-end energies i until h)
 
 -- what is counted and what is summed, both at once
 pub together : (threshold : Float) (count : ℕ) (sum : Float) (l : List Float)
@@ -118,54 +119,31 @@ kept-few threshold totals (energy ∷ rest) = go (counts threshold energy) (kept
     go false kept passed = omega (arith, passed)
 
 -- ---- a queue
--- whether its store is there and suits it
-module _ (queue : Queue) (start places : ℕ) where
-  pub outside : places < start + queue .maximum → stands queue start places ≡ false
-  outside h = rw (lt-ltb places (start + queue .maximum) h)
-
-  pub inside : start + queue .maximum ≤ places → stands queue start places ≡ suits queue (queue .maximum)
-  inside h = rw (le-ltb places (start + queue .maximum) h)
-
-  pub stands-well : stands queue start places ≡ true → (start + queue .maximum ≤ places) × (suits queue (queue .maximum) ≡ true)
-  stands-well h =
-      let w = both-true (not (ltb places (start + queue .maximum))) (suits queue (queue .maximum)) h in
-      (ltb-false places (start + queue .maximum) (not-true (ltb places (start + queue .maximum)) (w .0)), w .1)
-
 module _ (threshold sum : Float) (energies : List Float) (start : ℕ) (queue : Queue) where
   abbrev held : List Float
   held = heldOf (queueAt energies start queue)
 
-  pub not-there : stands queue start (length energies) ≡ false → ofQueue threshold sum energies start queue ≡ onTopOf sum
-  unfolding ofQueue
-  not-there h = rw h
-
-  there : stands queue start (length energies) ≡ true → ofQueue threshold sum energies start queue ≡ addedFrom threshold (onTopOf sum) held
-  unfolding ofQueue
-  there h = rw h
-
   -- the two parts, one after the other
-  pub queue-parts : stands queue start (length energies) ≡ true → (first : ℕ) → first ≡ firstPart queue → (older newer : Totals)
-      → older ≡ addedFrom threshold (onTopOf sum) (part (start + queue .head) (start + queue .head + first) energies)
-      → newer ≡ addedFrom threshold older (part start (start + (queue .held - first)) energies)
-      → newer ≡ ofQueue threshold sum energies start queue
-  queue-parts h first e older newer p q =
-      let w = stands-well queue start (length energies) h in
-      let one = part (start + queue .head) (start + queue .head + first) energies in
-      let two = part start (start + (queue .held - first)) energies in
+  pub queue-parts : (parts : Parts) → parts ≡ partsOf queue start (length energies) → (older newer : Totals)
+      → older ≡ addedFrom threshold (onTopOf sum) (slice (parts .from) (parts .until) energies)
+      → newer ≡ addedFrom threshold older (slice (parts .start) (parts .end) energies)
+      → newer ≡ addedFrom threshold (onTopOf sum) (inParts (partsOf queue start (length energies)) energies)
+  queue-parts parts e older newer p q =
+      let one = slice (parts .from) (parts .until) energies in
+      let two = slice (parts .start) (parts .end) energies in
       q
       ∙ ap (λ (t : Totals). addedFrom threshold t two) p
       ∙ sym (added-append threshold (onTopOf sum) one two)
-      ∙ ap (addedFrom threshold (onTopOf sum)) (sym (held-slices energies start queue (w .0) (w .1) first e))
-      ∙ sym (there h)
+      ∙ ap (λ (at : Parts). addedFrom threshold (onTopOf sum) (inParts at energies)) e
 
   -- what the queue of a sound store keeps
   pub queue-keeps : start + queue .maximum ≤ length energies → suits queue (queue .maximum) ≡ true → noneBelow held ≡ true → Steady sum
-      → (kept : Totals) → kept ≡ ofQueue threshold sum energies start queue
+      → (kept : Totals) → kept ≡ addedFrom threshold (onTopOf sum) (inParts (partsOf queue start (length energies)) energies)
       → (kept ≡ keptFrom threshold (onTopOf sum) held) × (kept .count ≤ mostBlocks) × Steady (kept .sum)
   queue-keeps within fits sound steady kept e =
       let f = suited queue (queue .maximum) fits in
       let is : kept ≡ keptFrom threshold (onTopOf sum) held
-      = e ∙ there (inside queue start (length energies) within ∙ fits) ∙ added-kept threshold (onTopOf sum) held steady sound in (
+      = e ∙ ap (addedFrom threshold (onTopOf sum)) (sym (held-slices energies start queue within fits)) ∙ added-kept threshold (onTopOf sum) held steady sound in (
         is,
         omega (
           arith,

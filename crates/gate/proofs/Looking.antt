@@ -11,7 +11,8 @@ use lib.Seq.{drop-cons}
 use lib.Ieee.{Float, binary64, add}
 use Rattle.histogram_bins.specs.Energy.{dropped}
 use Rattle.queue.specs.declared.Queue.{Queue}
-use Rattle.queue.specs.Queue.{suits, heldOf, firstPart}
+use Rattle.queue.specs.declared.Parts.{Parts}
+use Rattle.queue.specs.Queue.{suits, heldOf, partsOf, slice, inParts}
 use Rattle.history.specs.Set.{queueAt, noneBelow}
 use Rattle.queue.proofs.Ring.{suited}
 use Rattle.queue.proofs.Held.{held-count}
@@ -21,18 +22,15 @@ use Rattle.gate.specs.declared.blocks.Totals.{Totals}
 use Rattle.gate.specs.Totals.{mostBlocks, onTopOf, none, withBlocks, energiesFrom}
 use Rattle.gate.proofs.Running.{energies-append}
 
--- from a place up to another
-abbrev pub part : ℕ → ℕ → List Float → List Float
-part from until l = take (until - from) (drop from l)
-
-pub part-next : (l : List Float) (i until : ℕ) (d : Float) → i < until → until ≤ length l → part i until l ≡ getD l i d ∷ part (i + 1) until l
-part-next l i until d h g =
+-- ---- a slice
+pub slice-next : (l : List Float) (i until : ℕ) (d : Float) → i < until → until ≤ length l → slice i until l ≡ getD l i d ∷ slice (i + 1) until l
+slice-next l i until d h g =
     ap (λ (n : ℕ). take n (drop i l)) {x = until - i} {y = suc (until - (i + 1))} (omega arith)
     ∙ ap (take (suc (until - (i + 1)))) (drop-cons l i d (omega arith))
     ∙ ap {B = List Float} (λ (n : ℕ). getD l i d ∷ take (until - (i + 1)) (drop n l)) (sym (add-one i))
 
-pub part-end : (l : List Float) (i until : ℕ) → until ≤ i → part i until l ≡ []
-part-end l i until h = ap (λ (n : ℕ). take n (drop i l)) {x = until - i} {y = 0} (omega arith)
+pub slice-end : (l : List Float) (i until : ℕ) → until ≤ i → slice i until l ≡ []
+slice-end l i until h = ap (λ (n : ℕ). take n (drop i l)) {x = until - i} {y = 0} (omega arith)
 
 -- ---- none is below boundary 0
 and-assoc : (a b c : Bool) → (a && b) && c ≡ a && (b && c)
@@ -45,20 +43,20 @@ and-true false = refl
 
 module _ (l : List Float) (i until : ℕ) where
   pub sound-turn : (sound : Bool) (d : Float) → i < until → until ≤ length l
-      → (sound && not (dropped (getD l i d))) && noneBelow (part (i + 1) until l) ≡ sound && noneBelow (part i until l)
+      → (sound && not (dropped (getD l i d))) && noneBelow (slice (i + 1) until l) ≡ sound && noneBelow (slice i until l)
   unfolding noneBelow
-  sound-turn sound d h g = and-assoc sound (not (dropped (getD l i d))) (noneBelow (part (i + 1) until l)) ∙ sym (ap (λ (k : List Float). sound && noneBelow k) (part-next l i until d h g))
+  sound-turn sound d h g = and-assoc sound (not (dropped (getD l i d))) (noneBelow (slice (i + 1) until l)) ∙ sym (ap (λ (k : List Float). sound && noneBelow k) (slice-next l i until d h g))
 
-  pub sound-end : (sound : Bool) → until ≤ i → sound && noneBelow (part i until l) ≡ sound
+  pub sound-end : (sound : Bool) → until ≤ i → sound && noneBelow (slice i until l) ≡ sound
   unfolding noneBelow
-  sound-end sound h = ap (λ (k : List Float). sound && noneBelow k) (part-end l i until h) ∙ and-true sound
+  sound-end sound h = ap (λ (k : List Float). sound && noneBelow k) (slice-end l i until h) ∙ and-true sound
 
 both : (a b : Bool) → a && b ≡ true → a ≡ true
 both true b h = refl
 both false b h = h
 
 -- ---- sums
--- how many blocks there are plays no part in the sum
+-- how many blocks there are plays no slice in the sum
 pub any-count : (sum : Float) (count : ℕ) (l : List Float) → energiesFrom (record { count = count; sum = sum }) l .sum ≡ energiesFrom (onTopOf sum) l .sum
 unfolding energiesFrom
 any-count sum count [] = refl
@@ -66,14 +64,14 @@ any-count sum count (energy ∷ l) = any-count (add binary64 sum energy) (count 
 
 module _ (l : List Float) (i until : ℕ) where
   pub sum-turn : (sum d : Float) → i < until → until ≤ length l
-      → energiesFrom (onTopOf (add binary64 sum (getD l i d))) (part (i + 1) until l) .sum ≡ energiesFrom (onTopOf sum) (part i until l) .sum
+      → energiesFrom (onTopOf (add binary64 sum (getD l i d))) (slice (i + 1) until l) .sum ≡ energiesFrom (onTopOf sum) (slice i until l) .sum
   unfolding energiesFrom
   sum-turn sum d h g =
-      sym (any-count (add binary64 sum (getD l i d)) (0 + 1) (part (i + 1) until l)) ∙ sym (ap (λ (k : List Float). energiesFrom (onTopOf sum) k .sum) (part-next l i until d h g))
+      sym (any-count (add binary64 sum (getD l i d)) (0 + 1) (slice (i + 1) until l)) ∙ sym (ap (λ (k : List Float). energiesFrom (onTopOf sum) k .sum) (slice-next l i until d h g))
 
-  pub sum-end : (sum : Float) → until ≤ i → energiesFrom (onTopOf sum) (part i until l) .sum ≡ sum
+  pub sum-end : (sum : Float) → until ≤ i → energiesFrom (onTopOf sum) (slice i until l) .sum ≡ sum
   unfolding energiesFrom
-  sum-end sum h = ap (λ (k : List Float). energiesFrom (onTopOf sum) k .sum) (part-end l i until h)
+  sum-end sum h = ap (λ (k : List Float). energiesFrom (onTopOf sum) k .sum) (slice-end l i until h)
 
 -- the sum of one list, and then of another
 pub sum-append : (sum : Float) (a b : List Float) → energiesFrom (onTopOf sum) (a ++ b) .sum ≡ energiesFrom (onTopOf (energiesFrom (onTopOf sum) a .sum)) b .sum
@@ -102,19 +100,22 @@ module _ (energies : List Float) (start : ℕ) (queue : Queue) where
   abbrev held : List Float
   held = heldOf (queueAt energies start queue)
 
-  module _ (inside : start + queue .maximum ≤ length energies) (fits : suits queue (queue .maximum) ≡ true) (first : ℕ) (e : first ≡ firstPart queue) where
+  module _ (inside : start + queue .maximum ≤ length energies) (fits : suits queue (queue .maximum) ≡ true) (parts : Parts) (e : parts ≡ partsOf queue start (length energies)) where
     abbrev older : List Float
-    older = part (start + queue .head) (start + queue .head + first) energies
+    older = slice (parts .from) (parts .until) energies
 
     abbrev newer : List Float
-    newer = part start (start + (queue .held - first)) energies
+    newer = slice (parts .start) (parts .end) energies
+
+    two-parts : held ≡ older ++ newer
+    two-parts = held-slices energies start queue inside fits ∙ ap (λ (at : Parts). inParts at energies) (sym e)
 
     pub sound-seen : (one two : Bool) → one ≡ noneBelow older → two ≡ one && noneBelow newer → two ≡ suits queue (queue .maximum) && noneBelow held
     sound-seen one two p q =
         q
         ∙ ap (λ (b : Bool). b && noneBelow newer) p
         ∙ sym (none-below-append older newer)
-        ∙ ap noneBelow (sym (held-slices energies start queue inside fits first e))
+        ∙ ap noneBelow (sym two-parts)
         ∙ ap (λ (b : Bool). b && noneBelow held) (sym fits)
 
     pub sum-seen : (one two : Float) → one ≡ energiesFrom none older .sum → two ≡ energiesFrom (onTopOf one) newer .sum → two ≡ energiesFrom none held .sum
@@ -122,7 +123,7 @@ module _ (energies : List Float) (start : ℕ) (queue : Queue) where
         q
         ∙ ap (λ (x : Float). energiesFrom (onTopOf x) newer .sum) p
         ∙ sym (sum-append (none .sum) older newer)
-        ∙ ap (λ (l : List Float). energiesFrom none l .sum) (sym (held-slices energies start queue inside fits first e))
+        ∙ ap (λ (l : List Float). energiesFrom none l .sum) (sym two-parts)
 
   -- a sound queue has as many blocks as it holds energies
   pub queue-totals : (sum : Float) → suits queue (queue .maximum) && noneBelow held ≡ true → sum ≡ energiesFrom none held .sum

@@ -1,5 +1,5 @@
--- Inner definitions: what the loops over stretches of bins go by, the search for the bin where a gate starts, and the steps that the questions are asked in.
-use Prim.Native.Nat.{ℕ, suc, _-_, _<_}
+-- Inner definitions: what the loops over stretches of bins and over energies go by, the search for the bin where a gate starts, and the steps of the questions.
+use Prim.Native.Nat.{ℕ, suc, _+_, _-_, _<_}
 use mathlib.Core.Path.{_≡_}
 use mathlib.Core.Logic.{_⊎_}
 use mathlib.Core.Bool.{Bool, true, not, cond}
@@ -15,7 +15,8 @@ use Rattle.tables.specs.Tables.{energyAt}
 use Rattle.history.specs.declared.set.Entry.{Entry}
 use Rattle.history.specs.Set.{Histories, historiesOf, shows, setRows}
 use Rattle.gate.specs.declared.blocks.Totals.{Totals}
-use Rattle.gate.specs.Totals.{binsFrom, blocksIn}
+use Rattle.gate.specs.Totals.{none, withBlocks, binsFrom, blocksIn}
+use Rattle.gate.specs.Start.{counts}
 use Rattle.gate.specs.Sums.{totalsOf, allOf, alone}
 use Rattle.gate.specs.Relative.{Level, levelOf, levelRows}
 use Rattle.gate.specs.declared.sums.Sums.{Sums}
@@ -57,6 +58,30 @@ Steady sum = T (fits binary64 sum) × T (unsigned sum)
 -- the bins up to here are past: the energy of the last of them is below the threshold
 abbrev pub Past : Float → ℕ → Type 0
 Past threshold bin = (bin ≡ 0) ⊎ ((0 < bin) × (lt (energyAt (bin - 1)) threshold ≡ true))
+
+-- ---- what energies add at a gate with none passed over: an energy below the threshold adds 0. On a sum that 0 leaves as it is this is `keptFrom` (proofs/Keeping.antt)
+abbrev pub energyKept : Float → Float → Float
+energyKept threshold energy = cond (counts threshold energy) energy (none .sum)
+
+abbrev pub blocksKept : Float → Float → ℕ
+blocksKept threshold energy = cond (counts threshold energy) 1 0
+
+-- energies one after the other, each of which carries a value on
+unfoldable pub carried : {A : Type 0} → (A → Float → A) → A → List Float → A
+carried step a [] = a
+carried step a (energy ∷ rest) = carried step (step a energy) rest
+
+-- the number of those kept, on top of a count, and their sum on top of another
+abbrev pub countedFrom : Float → ℕ → List Float → ℕ
+countedFrom threshold = carried (λ count energy. count + blocksKept threshold energy)
+
+abbrev pub summedFrom : Float → Float → List Float → Float
+summedFrom threshold = carried (λ sum energy. add binary64 sum (energyKept threshold energy))
+
+-- both at once
+unfoldable pub addedFrom : Float → Totals → List Float → Totals
+addedFrom threshold totals [] = totals
+addedFrom threshold totals (energy ∷ rest) = addedFrom threshold (withBlocks totals (blocksKept threshold energy) (energyKept threshold energy)) rest
 
 -- ---- the steps of the questions
 -- the totals of sound stores, or STORE

@@ -6,10 +6,10 @@ use history::set::Shape;
 use queue::Queue;
 ghost use mathlib.Core.Path.{_≡_};
 ghost use mathlib.Core.Bool.{true, false, _&&_};
-ghost use Prim.Native.Nat.{_+_, _-_, _≤_};
-ghost use lib.ListN.{length, take, drop};
+ghost use Prim.Native.Nat.{_+_, _≤_};
+ghost use lib.ListN.{length, take};
 ghost use Rattle.refusals.specs.Outcome.{saidBy};
-ghost use Rattle.queue.specs.Queue.{suits, heldOf};
+ghost use Rattle.queue.specs.Queue.{suits, heldOf, slice};
 ghost use Rattle.history.specs.Set.{histories, queueAt, isOutside, outsideSet, noneBelow, isSound, allSound, shows, allShow};
 ghost use Rattle.tables.specs.Tables.{energies as binEnergies};
 ghost use Rattle.gate.specs.Totals.{mostBlocks, onTopOf, none, energiesFrom};
@@ -31,8 +31,8 @@ struct Looked {
 // The energies from a place up to another are looked at and added in one pass. No turn branches on what they are.
 fn look(before: Looked, energies: &[f64], from: usize, until: usize) -> Looked
     requires { ⌜ (from ≤ until) × (until ≤ length (now energies)) ⌝ }
-    ensures { λ r. ⌜ (r .sound ≡ (before .sound && noneBelow (take (until - from) (drop from (now (energies .entry))))))
-        × (r .sum ≡ energiesFrom (onTopOf (before .sum)) (take (until - from) (drop from (now (energies .entry)))) .sum) ⌝ }
+    ensures { λ r. ⌜ (r .sound ≡ (before .sound && noneBelow (slice from until (now (energies .entry)))))
+        × (r .sum ≡ energiesFrom (onTopOf (before .sum)) (slice from until (now (energies .entry))) .sum) ⌝ }
 {
     let least = histogram_bins::lowest_boundary();
     let mut sound = before.sound;
@@ -53,23 +53,14 @@ fn look_at_queue(energies: &[f64], start: usize, queue: Queue) -> Looked
     ensures { λ r. ⌜ (r .sound ≡ (suits queue (queue .maximum) && noneBelow (heldOf (queueAt (now (energies .entry)) start queue))))
         × (r .sound ≡ true → r .sum ≡ energiesFrom none (heldOf (queueAt (now (energies .entry)) start queue)) .sum) ⌝ }
 {
-    let head = queue.head;
-    let held = queue.held;
     if queue.suits(queue.maximum) {
-        let first = queue.first_part();
-        let from = start + head;
-        let until = from + first;
-        let end = start + (held - first);
-        let older = look(
-            Looked {
-                sound: true,
-                sum: 0.0,
-            },
-            energies,
-            from,
-            until,
-        );
-        look(older, energies, start, end)
+        let parts = queue.parts(start, energies.len());
+        let none = Looked {
+            sound: true,
+            sum: 0.0,
+        };
+        let older = look(none, energies, parts.from, parts.until);
+        look(older, energies, parts.start, parts.end)
     } else {
         Looked {
             sound: false,

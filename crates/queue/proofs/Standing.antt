@@ -63,21 +63,21 @@ pub record Within (parts : Parts) (places : ℕ) : Type 0 where
 pub nowhere-within : (places : ℕ) → Within nowhere places
 nowhere-within places = record { older = omega arith; inside = omega arith; newer = omega arith; within = omega arith; few = omega arith }
 
-pub parts-within : (queue : Queue) (start places : ℕ) → Within (partsOf queue start places) places
-parts-within queue start places = go (stands queue start places) refl
+pub parts-within : (queue : Queue) (start places : ℕ) (parts : Parts) → parts ≡ partsOf queue start places → Within parts places
+parts-within queue start places parts e = subst (λ (at : Parts). Within at places) (sym e) (go (stands queue start places) refl)
   where
     go : (b : Bool) → stands queue start places ≡ b → Within (partsOf queue start places) places
     go true h =
         let w = stands-well queue start places h in
         let f = w .1 in
-        subst (λ (parts : Parts). Within parts places) (sym (parts-standing queue start places h)) (record {
+        subst (λ (at : Parts). Within at places) (sym (parts-standing queue start places h)) (record {
           older = omega arith;
           inside = omega (arith, w .0, f .within);
           newer = omega arith;
           within = omega (arith, w .0, f .full);
           few = omega (arith, f .full, f .most);
         })
-    go false h = subst (λ (parts : Parts). Within parts places) (sym (parts-nowhere queue start places h)) (nowhere-within places)
+    go false h = subst (λ (at : Parts). Within at places) (sym (parts-nowhere queue start places h)) (nowhere-within places)
 
 -- ---- the energies held
 module _ (queue : Queue) (start : ℕ) (energies : List Float) (h : stands queue start (length energies) ≡ true) where

@@ -1,7 +1,7 @@
 -- `sound_stores::sound_queue` meets its contract: the energies held are two slices, and none is below boundary 0 where none in either is.
 -- Assumes nothing.
 use native.Mathlib.Omega.{arith}
-use mathlib.Core.Path.{_≡_, sym, ap, subst, _∙_}
+use mathlib.Core.Path.{_≡_, sym, ap, _∙_}
 use mathlib.Core.Bool.{true, false}
 use mathlib.Core.List.{List}
 use borrow.Author.Needs.{needs}
@@ -23,7 +23,7 @@ energies c = now (c .before .before .before .before .args .energies)
 within : (c : tie.After-parts) → Within (c .parts .result) (length (energies c))
 within c =
     let a = c .before .before .before .before .args in
-    subst (λ (parts : Parts). Within parts (length (energies c))) (sym (c .parts .ensures)) (parts-within (a .queue) (a .start) (length (energies c)))
+    parts-within (a .queue) (a .start) (length (energies c)) (c .parts .result) (c .parts .ensures)
 
 suits-requires : tie.Need-suits-requires
 suits-requires c κs = search needs

@@ -6,8 +6,8 @@ use borrow.Author.Needs.{needs}
 use denote.Ref.{now}
 use lib.Ieee.{Float, nan}
 use lib.ListN.{getD}
-use Rattle.gate.proofs.Looking.{part}
-use Rattle.gate.specs.Kept.{blocksKept, countedFrom}
+use Rattle.queue.specs.Queue.{slice}
+use Rattle.gate.specs.Inner.{blocksKept, countedFrom}
 use Rattle.gate.proofs.Keeping.{carried-turn, carried-end, one-more}
 use Rattle.gate.proofs.kept.blocks_from.Statement.{statement}
 use Rattle.gate.proofs.kept.blocks_from.Tie as tie
@@ -17,7 +17,7 @@ Inv-loop given energies from until threshold count₀ i₀ count i =
     (from ≤ i)
     × (i ≤ until)
     × (count ≤ count₀ + (i - from))
-    × (countedFrom threshold count (part i until energies) ≡ countedFrom threshold count₀ (part from until energies))
+    × (countedFrom threshold count (slice i until energies) ≡ countedFrom threshold count₀ (slice from until energies))
 
 abbrev μ-loop : tie.MeasureT-loop
 μ-loop given energies from until threshold count₀ i₀ count i = until - i

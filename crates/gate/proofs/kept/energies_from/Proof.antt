@@ -5,8 +5,8 @@ use mathlib.Core.Path.{_≡_, refl, sym, ap, _∙_}
 use borrow.Author.Needs.{needs}
 use denote.Ref.{now}
 use lib.Ieee.{Float, nan, binary64, add}
-use Rattle.gate.proofs.Looking.{part}
-use Rattle.gate.specs.Kept.{energyKept, summedFrom}
+use Rattle.queue.specs.Queue.{slice}
+use Rattle.gate.specs.Inner.{energyKept, summedFrom}
 use Rattle.gate.proofs.Keeping.{carried-turn, carried-end}
 use Rattle.gate.proofs.kept.energies_from.Statement.{statement}
 use Rattle.gate.proofs.kept.energies_from.Tie as tie
@@ -15,7 +15,7 @@ abbrev Inv-loop : tie.InvT-loop
 Inv-loop given energies from until threshold sum₀ i₀ sum i =
     (from ≤ i)
     × (i ≤ until)
-    × (summedFrom threshold sum (part i until energies) ≡ summedFrom threshold sum₀ (part from until energies))
+    × (summedFrom threshold sum (slice i until energies) ≡ summedFrom threshold sum₀ (slice from until energies))
 
 abbrev μ-loop : tie.MeasureT-loop
 μ-loop given energies from until threshold sum₀ i₀ sum i = until - i

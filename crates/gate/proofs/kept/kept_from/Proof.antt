@@ -2,7 +2,8 @@
 use mathlib.Core.Path.{sym, _∙_}
 use borrow.Author.Needs.{needs}
 use denote.Ref.{now}
-use Rattle.gate.proofs.Looking.{part, same}
+use Rattle.queue.specs.Queue.{slice}
+use Rattle.gate.proofs.Looking.{same}
 use Rattle.gate.proofs.Keeping.{together}
 use Rattle.gate.proofs.kept.kept_from.Statement.{statement}
 use Rattle.gate.proofs.kept.kept_from.Tie as tie
@@ -18,7 +19,7 @@ returns c =
     let blocks = c .before .blocks-from .ensures in
     let a = c .before .before .before .args in (
       same (blocks .0) (c .energies-from .ensures)
-          ∙ sym (together (a .threshold) (a .totals .count) (a .totals .sum) (part (a .from) (a .until) (now (a .energies)))),
+          ∙ sym (together (a .threshold) (a .totals .count) (a .totals .sum) (slice (a .from) (a .until) (now (a .energies)))),
       blocks .1,
     )
 

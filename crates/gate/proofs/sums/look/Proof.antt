@@ -9,15 +9,16 @@ use lib.Ieee.{Float, nan, lt}
 use lib.ListN.{getD}
 use Rattle.history.specs.Set.{noneBelow}
 use Rattle.gate.specs.Totals.{onTopOf, energiesFrom}
-use Rattle.gate.proofs.Looking.{part, sound-turn, sound-end, sum-turn, sum-end}
+use Rattle.queue.specs.Queue.{slice}
+use Rattle.gate.proofs.Looking.{sound-turn, sound-end, sum-turn, sum-end}
 use Rattle.gate.proofs.sums.look.Statement.{statement}
 use Rattle.gate.proofs.sums.look.Tie as tie
 
 abbrev Inv-loop : tie.InvT-loop
 Inv-loop energies from until least sound₀ sum₀ i₀ sound sum i =
     (i ≤ until)
-    × (sound && noneBelow (part i until energies) ≡ sound₀ && noneBelow (part from until energies))
-    × (energiesFrom (onTopOf sum) (part i until energies) .sum ≡ energiesFrom (onTopOf sum₀) (part from until energies) .sum)
+    × (sound && noneBelow (slice i until energies) ≡ sound₀ && noneBelow (slice from until energies))
+    × (energiesFrom (onTopOf sum) (slice i until energies) .sum ≡ energiesFrom (onTopOf sum₀) (slice from until energies) .sum)
 
 abbrev μ-loop : tie.MeasureT-loop
 μ-loop energies from until least sound₀ sum₀ i₀ sound sum i = until - i
@@ -47,7 +48,7 @@ loop-again c =
     let energies = now (a .energies) in
     let i = l .loop .i in (
       omega arith,
-      ap (λ (least : Float). (l .loop .sound && not (lt (getD energies i nan) least)) && noneBelow (part (i + 1) (a .until) energies)) (l .before .lowest-boundary .ensures)
+      ap (λ (least : Float). (l .loop .sound && not (lt (getD energies i nan) least)) && noneBelow (slice (i + 1) (a .until) energies)) (l .before .lowest-boundary .ensures)
           ∙ sound-turn energies i (a .until) (l .loop .sound) nan (omega arith) (omega arith)
           ∙ l .loop .inv .1,
       sum-turn energies i (a .until) (l .loop .sum) nan (omega arith) (omega arith) ∙ l .loop .inv .2,
