@@ -18,13 +18,13 @@ use Rattle.queue.specs.Queue.{suits, heldOf, partsOf, slice, inParts}
 use Rattle.queue.proofs.Ring.{suited}
 use Rattle.queue.proofs.Held.{held-count}
 use Rattle.history.specs.Set.{queueAt, noneBelow}
-use Rattle.history.proofs.Slices.{held-slices}
+use Rattle.history.proofs.Slices.{slice-next, slice-end, held-slices}
 use Rattle.gate.specs.declared.blocks.Totals.{Totals}
 use Rattle.gate.specs.Totals.{mostBlocks, onTopOf, none, withBlocks}
 use Rattle.gate.specs.Inner.{unsigned, Steady, energyKept, blocksKept, carried, countedFrom, summedFrom, addedFrom}
 use Rattle.gate.specs.Start.{counts}
 use Rattle.gate.proofs.Nothing.{nothing-added, steady-added, not-below-unsigned}
-use Rattle.gate.proofs.Looking.{slice-next, slice-end, same}
+use Rattle.gate.proofs.Looking.{same}
 use Rattle.gate.specs.Kept.{keptFrom}
 
 -- ---- a turn

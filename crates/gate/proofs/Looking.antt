@@ -4,59 +4,27 @@ use mathlib.Core.Path.{_≡_, refl, sym, ap, _∙_}
 use mathlib.Core.Bool.{Bool, true, false, not, _&&_}
 use mathlib.Core.List.{List, [], _∷_, _++_}
 use Prim.Native.Nat.{ℕ, suc, _+_, _-_, _≤_, _<_}
-use native.Mathlib.Numerals.{add-one}
 use native.Mathlib.Omega.{arith}
 use lib.ListN.{length, getD, take, drop}
-use lib.Seq.{drop-cons}
 use lib.Ieee.{Float, binary64, add}
-use Rattle.histogram_bins.specs.Energy.{dropped}
 use Rattle.queue.specs.declared.Queue.{Queue}
 use Rattle.queue.specs.declared.Parts.{Parts}
 use Rattle.queue.specs.Queue.{suits, heldOf, partsOf, slice, inParts}
 use Rattle.history.specs.Set.{queueAt, noneBelow}
 use Rattle.queue.proofs.Ring.{suited}
 use Rattle.queue.proofs.Held.{held-count}
-use Rattle.history.proofs.Slices.{held-slices}
+use Rattle.history.proofs.Slices.{slice-next, slice-end, held-slices}
 use Rattle.history.proofs.Entries.{none-below-append}
 use Rattle.gate.specs.declared.blocks.Totals.{Totals}
 use Rattle.gate.specs.Totals.{mostBlocks, onTopOf, none, withBlocks, energiesFrom}
 use Rattle.gate.proofs.Running.{energies-append}
-
--- ---- a slice
-pub slice-next : (l : List Float) (i until : ℕ) (d : Float) → i < until → until ≤ length l → slice i until l ≡ getD l i d ∷ slice (i + 1) until l
-slice-next l i until d h g =
-    ap (λ (n : ℕ). take n (drop i l)) {x = until - i} {y = suc (until - (i + 1))} (omega arith)
-    ∙ ap (take (suc (until - (i + 1)))) (drop-cons l i d (omega arith))
-    ∙ ap {B = List Float} (λ (n : ℕ). getD l i d ∷ take (until - (i + 1)) (drop n l)) (sym (add-one i))
-
-pub slice-end : (l : List Float) (i until : ℕ) → until ≤ i → slice i until l ≡ []
-slice-end l i until h = ap (λ (n : ℕ). take n (drop i l)) {x = until - i} {y = 0} (omega arith)
-
--- ---- none is below boundary 0
-and-assoc : (a b c : Bool) → (a && b) && c ≡ a && (b && c)
-and-assoc true b c = refl
-and-assoc false b c = refl
-
-and-true : (a : Bool) → a && true ≡ a
-and-true true = refl
-and-true false = refl
-
-module _ (l : List Float) (i until : ℕ) where
-  pub sound-turn : (sound : Bool) (d : Float) → i < until → until ≤ length l
-      → (sound && not (dropped (getD l i d))) && noneBelow (slice (i + 1) until l) ≡ sound && noneBelow (slice i until l)
-  unfolding noneBelow
-  sound-turn sound d h g = and-assoc sound (not (dropped (getD l i d))) (noneBelow (slice (i + 1) until l)) ∙ sym (ap (λ (k : List Float). sound && noneBelow k) (slice-next l i until d h g))
-
-  pub sound-end : (sound : Bool) → until ≤ i → sound && noneBelow (slice i until l) ≡ sound
-  unfolding noneBelow
-  sound-end sound h = ap (λ (k : List Float). sound && noneBelow k) (slice-end l i until h) ∙ and-true sound
 
 both : (a b : Bool) → a && b ≡ true → a ≡ true
 both true b h = refl
 both false b h = h
 
 -- ---- sums
--- how many blocks there are plays no slice in the sum
+-- how many blocks there are plays no part in the sum
 pub any-count : (sum : Float) (count : ℕ) (l : List Float) → energiesFrom (record { count = count; sum = sum }) l .sum ≡ energiesFrom (onTopOf sum) l .sum
 unfolding energiesFrom
 any-count sum count [] = refl

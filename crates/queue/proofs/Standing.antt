@@ -4,11 +4,12 @@ use mathlib.Core.Path.{_≡_, refl, sym, ap, _∙_, subst}
 use mathlib.Core.Bool.{Bool, true, false, not, _&&_, true≢false}
 use mathlib.Core.List.{List, [], _∷_, _++_}
 use Prim.Native.Nat.{ℕ, zero, suc, _+_, _-_, _≤_, _<_}
+use native.Mathlib.Numerals.{add-one}
 use native.Mathlib.Omega.{arith}
 use borrow.Author.Tests.{not-true, lt-ltb, le-ltb, ltb-false}
 use lib.Dec.{ltb}
-use lib.ListN.{length, take, drop, length-take, length-drop}
-use lib.Seq.{take-take, take-all, drop-drop, take-nil}
+use lib.ListN.{length, getD, take, drop, length-take, length-drop}
+use lib.Seq.{drop-cons, take-take, take-all, drop-drop, take-nil}
 use lib.Ieee.{Float}
 use Rattle.queue.specs.declared.Queue.{Queue}
 use Rattle.queue.specs.declared.Parts.{Parts}
@@ -25,6 +26,16 @@ drop-take (suc i) (suc n) (x ∷ l) = drop-take i n l ∙ ap (λ (k : ℕ). take
 
 pub slice-length : {A : Type 0} (from until : ℕ) (l : List A) → until ≤ length l → length (slice from until l) ≡ until - from
 slice-length from until l h = simp (length-take, length-drop) (omega arith)
+
+-- the first of a slice, and one with none
+pub slice-next : {A : Type 0} (l : List A) (i until : ℕ) (d : A) → i < until → until ≤ length l → slice i until l ≡ getD l i d ∷ slice (i + 1) until l
+slice-next {A} l i until d h g =
+    ap (λ (n : ℕ). take n (drop i l)) {x = until - i} {y = suc (until - (i + 1))} (omega arith)
+    ∙ ap (take (suc (until - (i + 1)))) (drop-cons l i d (omega arith))
+    ∙ ap {B = List A} (λ (n : ℕ). getD l i d ∷ take (until - (i + 1)) (drop n l)) (sym (add-one i))
+
+pub slice-end : {A : Type 0} (l : List A) (i until : ℕ) → until ≤ i → slice i until l ≡ []
+slice-end l i until h = ap (λ (n : ℕ). take n (drop i l)) {x = until - i} {y = 0} (omega arith)
 
 -- ---- whether a store stands
 both-true : (a b : Bool) → a && b ≡ true → (a ≡ true) × (b ≡ true)

@@ -10,7 +10,7 @@ use native.Mathlib.Omega.{arith}
 use borrow.Author.Tests.{lt-ltb}
 use lib.Dec.{T, ltb→lt, lt→ltb}
 use lib.ListN.{length, getD, take, drop, set, length-take, length-append}
-use lib.Seq.{drop-cons, getD-take, sets}
+use lib.Seq.{getD-take, sets}
 use lib.Ieee.{Float, nan, inf, fin, up, down, lt, ne, isNan}
 use lib.Ieee.Fits.{up-pos, down-pos}
 use lib.Ieee.Positive.{positive, above}
@@ -22,16 +22,17 @@ use Rattle.histogram_bins.specs.Energy.{dropped}
 use Rattle.history.specs.declared.set.Entry.{Entry}
 use Rattle.history.specs.declared.set.Shape.{Shape}
 use Rattle.history.specs.declared.set.Shape.the-variants.{Histogram, Queue as Queue-at}
-use Rattle.queue.specs.Queue.{suits, heldOf}
+use Rattle.queue.specs.declared.Parts.{Parts}
+use Rattle.queue.specs.Queue.{suits, heldOf, slice}
 use Rattle.history.specs.Set.{queueAt, storeEnd, storesInside, noneBelow, shapeSound, isSound, allSound, shows, shapeShows, allShow}
 use Rattle.history.proofs.Entries.{past-the-last, next-entry, all-end, shows-next, shows-end, none-below-append}
-use Rattle.history.proofs.Slices.{slice-length}
+use Rattle.history.proofs.Slices.{slice-length, slice-next, slice-end}
 use Rattle.rising_order.specs.Order.{allAbove}
-use Rattle.queue_range.specs.declared.Parts.{Parts}
 use Rattle.queue_range.specs.declared.Seen.{Seen}
 use Rattle.queue_range.specs.Listed.{heldBy, allHeld, anyNan}
-use Rattle.queue_range.specs.Inner.{heldIn, heldAt, suitsAt, part, StandIn, withSeen}
+use Rattle.queue_range.specs.Inner.{heldIn, heldAt, suitsAt, withSeen}
 use Rattle.queue_range.proofs.Copying.{sets-append}
+use Rattle.queue_range.proofs.Standing.{StandIn}
 
 -- ---- NaN in a part
 or-assoc : (a b c : Bool) → (a || b) || c ≡ a || (b || c)
@@ -41,15 +42,6 @@ or-assoc false b c = refl
 or-false : (a : Bool) → a || false ≡ a
 or-false true = refl
 or-false false = refl
-
-part-next : (l : List Float) (i until : ℕ) (d : Float) → i < until → until ≤ length l → part i until l ≡ getD l i d ∷ part (i + 1) until l
-part-next l i until d h g =
-    ap (λ (n : ℕ). take n (drop i l)) {x = until - i} {y = suc (until - (i + 1))} (omega arith)
-    ∙ ap (take (suc (until - (i + 1)))) (drop-cons l i d (omega arith))
-    ∙ ap {B = List Float} (λ (n : ℕ). getD l i d ∷ take (until - (i + 1)) (drop n l)) (sym (add-one i))
-
-part-end : (l : List Float) (i until : ℕ) → until ≤ i → part i until l ≡ []
-part-end l i until h = ap (λ (n : ℕ). take n (drop i l)) {x = until - i} {y = 0} (omega arith)
 
 and-assoc : (a b c : Bool) → (a && b) && c ≡ a && (b && c)
 and-assoc true b c = refl
@@ -65,31 +57,22 @@ both false b h = absurd (true≢false (sym h))
 
 module _ (l : List Float) (i until : ℕ) where
   pub nan-turn : (found : Bool) (d : Float) → i < until → until ≤ length l
-      → (found || ne (getD l i d) (getD l i d)) || anyNan (part (i + 1) until l) ≡ found || anyNan (part i until l)
+      → (found || ne (getD l i d) (getD l i d)) || anyNan (slice (i + 1) until l) ≡ found || anyNan (slice i until l)
   unfolding anyNan
-  nan-turn found d h g = rw (or-assoc, part-next l i until d h g, differs (getD l i d))
+  nan-turn found d h g = rw (or-assoc, slice-next l i until d h g, differs (getD l i d))
 
-  pub nan-end : (found : Bool) → until ≤ i → found || anyNan (part i until l) ≡ found
+  pub nan-end : (found : Bool) → until ≤ i → found || anyNan (slice i until l) ≡ found
   unfolding anyNan
-  nan-end found h = rw (part-end l i until h) (or-false found)
+  nan-end found h = rw (slice-end l i until h) (or-false found)
 
-  pub fine-turn : (fine : Bool) (least d : Float) → least ≡ boundaryAt 0 → i < until → until ≤ length l
-      → (fine && not (lt (getD l i d) least)) && noneBelow (part (i + 1) until l) ≡ fine && noneBelow (part i until l)
-  unfolding noneBelow
-  fine-turn fine least d e h g = rw (e, and-assoc, part-next l i until d h g)
-
-  pub fine-end : (fine : Bool) → until ≤ i → fine && noneBelow (part i until l) ≡ fine
-  unfolding noneBelow
-  fine-end fine h = rw (part-end l i until h) (and-true fine)
-
--- ---- a part that is copied
+-- ---- a slice that is copied
 module _ (work l : List Float) (place i until : ℕ) where
-  pub copy-turn : (d : Float) → i < until → until ≤ length l → sets (set work place (getD l i d)) (place + 1) (part (i + 1) until l) ≡ sets work place (part i until l)
+  pub copy-turn : (d : Float) → i < until → until ≤ length l → sets (set work place (getD l i d)) (place + 1) (slice (i + 1) until l) ≡ sets work place (slice i until l)
   copy-turn d h g =
-      ap (λ (n : ℕ). sets (set work place (getD l i d)) n (part (i + 1) until l)) (add-one place) ∙ sym (ap (sets work place) (part-next l i until d h g))
+      ap (λ (n : ℕ). sets (set work place (getD l i d)) n (slice (i + 1) until l)) (add-one place) ∙ sym (ap (sets work place) (slice-next l i until d h g))
 
-  pub copy-end : until ≤ i → sets work place (part i until l) ≡ work
-  copy-end h = ap (sets work place) (part-end l i until h)
+  pub copy-end : until ≤ i → sets work place (slice i until l) ≡ work
+  copy-end h = ap (sets work place) (slice-end l i until h)
 
 -- ---- what was seen, and then more
 nan-append : (a b : List Float) → anyNan (a ++ b) ≡ anyNan a || anyNan b
@@ -181,28 +164,28 @@ module _ (energies : List Float) (l : List Entry) (count i : ℕ) where
       ∙ ap (sets work at) (sym (held-next h g))
 
 -- ---- the two parts of an entry
-module _ (energies : List Float) (entry : Entry) (p : Parts) (s : StandIn (entry .shape) p) (k : storeEnd (entry .shape) ≤ length energies) where
+module _ (energies : List Float) (entry : Entry) (p : Parts) (s : StandIn energies (entry .shape) p) where
   abbrev older : List Float
-  older = part (p .from) (p .until) energies
+  older = slice (p .from) (p .until) energies
 
   abbrev newer : List Float
-  newer = part (p .start) (p .end) energies
+  newer = slice (p .start) (p .end) energies
 
   pub parts-count : length (heldAt energies entry) ≡ p .until - p .from + (p .end - p .start)
   parts-count =
-      ap length (s .held energies k)
+      ap length (s .held)
       ∙ length-append older newer
-      ∙ omega (arith, slice-length (p .from) (p .until) energies (omega (arith, s .inside)), slice-length (p .start) (p .end) energies (omega (arith, s .within)))
+      ∙ omega (arith, slice-length (p .from) (p .until) energies (s .places .inside), slice-length (p .start) (p .end) energies (s .places .within))
 
   pub parts-seen : (before a b : Seen) → a ≡ withSeen before older → b ≡ withSeen a newer → b ≡ withSeen before (heldAt energies entry)
   parts-seen before a b f g =
-      g ∙ ap (λ (s : Seen). withSeen s newer) f ∙ seen-append before older newer ∙ ap (withSeen before) (sym (s .held energies k))
+      g ∙ ap (λ (s : Seen). withSeen s newer) f ∙ seen-append before older newer ∙ ap (withSeen before) (sym (s .held))
 
   pub parts-set : (work : List Float) (at middle : ℕ) → middle ≡ at + (p .until - p .from) → sets (sets work at older) middle newer ≡ sets work at (heldAt energies entry)
   parts-set work at middle e =
-      ap (λ (n : ℕ). sets (sets work at older) n newer) {x = middle} {y = at + length older} (omega (arith, e, slice-length (p .from) (p .until) energies (omega (arith, s .inside))))
+      ap (λ (n : ℕ). sets (sets work at older) n newer) {x = middle} {y = at + length older} (omega (arith, e, slice-length (p .from) (p .until) energies (s .places .inside)))
       ∙ sym (sets-append work older newer at)
-      ∙ ap (sets work at) (sym (s .held energies k))
+      ∙ ap (sets work at) (sym (s .held))
 
 -- counters play no part
 pub held-any : (counters : List ℕ) (energies : List Float) (l : List Entry) → heldIn energies l ≡ allHeld (allShow counters energies l)

@@ -1,38 +1,28 @@
 -- Where the energies of an entry stand: those of a queue in two parts of the lent energies, those of a histogram nowhere. Assumes nothing.
-use mathlib.Core.Path.{_≡_, refl}
+use mathlib.Core.Path.{_≡_, refl, sym, ap, subst, _∙_}
 use mathlib.Core.Bool.{true}
-use mathlib.Core.List.{List}
-use Prim.Native.Nat.{ℕ, _+_, _-_, _≤_}
-use native.Mathlib.Omega.{arith}
+use mathlib.Core.List.{List, []}
+use Prim.Native.Nat.{_≤_}
 use lib.ListN.{length}
 use lib.Ieee.{Float}
-use Rattle.queue.specs.declared.Queue.{Queue}
+use Rattle.queue.specs.declared.Parts.{Parts}
+use Rattle.queue.specs.Queue.{inParts}
+use Rattle.queue.proofs.Standing.{Within, nowhere-within, parts-within}
+use Rattle.history.specs.declared.set.Shape.{Shape}
 use Rattle.history.specs.declared.set.Shape.the-variants.{Histogram, Queue as Queue-at}
-use Rattle.queue.specs.Queue.{suits, firstPart}
-use Rattle.queue.proofs.Ring.{suited}
+use Rattle.history.specs.Set.{storeEnd, shapeShows}
 use Rattle.history.proofs.Slices.{held-slices}
-use Rattle.queue_range.specs.Inner.{StandIn}
+use Rattle.queue_range.specs.Listed.{heldBy}
+use Rattle.queue_range.specs.Inner.{suitsAt, partsAt}
 
-pub histogram-stands : (start : ℕ) → StandIn (Histogram start) (record { from = 0; until = 0; start = 0; end = 0 })
-histogram-stands start = record {
-  older = omega arith;
-  inside = omega arith;
-  newer = omega arith;
-  within = omega arith;
-  few = omega arith;
-  held = λ (energies : List Float) h. refl;
+pub record StandIn (energies : List Float) (shape : Shape) (parts : Parts) : Type 0 where
+  pub places : Within parts (length energies)
+  pub held : heldBy (shapeShows [] energies shape) ≡ inParts parts energies
+
+pub stand-in : (energies : List Float) (shape : Shape) (parts : Parts) → parts ≡ partsAt shape (length energies) → storeEnd shape ≤ length energies
+    → suitsAt shape ≡ true → StandIn energies shape parts
+stand-in energies (Histogram start) parts e k h = subst (StandIn energies (Histogram start)) (sym e) (record { places = nowhere-within (length energies); held = refl })
+stand-in energies (Queue-at start queue) parts e k h = record {
+  places = parts-within queue start (length energies) parts e;
+  held = held-slices energies start queue k h ∙ ap (λ (at : Parts). inParts at energies) (sym e);
 }
-
-pub queue-stands : (start : ℕ) (queue : Queue) (first : ℕ) → suits queue (queue .maximum) ≡ true → first ≡ firstPart queue
-    → StandIn (Queue-at start queue)
-    (record { from = start + queue .head; until = start + queue .head + first; start = start; end = start + (queue .held - first) })
-queue-stands start queue first h e =
-    let f = suited queue (queue .maximum) h in
-    record {
-      older = omega arith;
-      inside = omega arith;
-      newer = omega arith;
-      within = omega arith;
-      few = omega arith;
-      held = λ (energies : List Float) (k : start + queue .maximum ≤ length energies). held-slices energies start queue k h first e;
-    }

@@ -1,19 +1,18 @@
 -- What the steps of the range over queues are stated by: where the energies of an entry stand, and how many there can be.
-use mathlib.Core.Path.{_≡_}
 use mathlib.Core.Bool.{Bool, true, false, _&&_, _||_}
-use mathlib.Core.List.{List, [], _∷_, _++_}
-use Prim.Native.Nat.{ℕ, _+_, _-_, _*_, _≤_}
-use lib.ListN.{length, take, drop}
+use mathlib.Core.List.{List, [], _∷_}
+use Prim.Native.Nat.{ℕ, _+_, _*_}
+use lib.ListN.{length}
 use lib.Ieee.{Float}
 use Rattle.refusals.specs.Outcome.{Outcome, went}
 use Rattle.refusals.specs.Rows.{byRows}
-use Rattle.queue.specs.Queue.{longest, suits}
+use Rattle.queue.specs.declared.Parts.{Parts}
+use Rattle.queue.specs.Queue.{longest, suits, nowhere, partsOf}
 use Rattle.history.specs.declared.set.Entry.{Entry}
 use Rattle.history.specs.declared.set.Shape.{Shape}
 use Rattle.history.specs.declared.set.Shape.the-variants.{Histogram, Queue as Queue-at}
-use Rattle.history.specs.Set.{mostHistories, storeEnd, noneBelow, shapeShows, allShow}
+use Rattle.history.specs.Set.{mostHistories, noneBelow, shapeShows, allShow}
 use Rattle.spans.specs.Span.{Span}
-use Rattle.queue_range.specs.declared.Parts.{Parts}
 use Rattle.queue_range.specs.declared.Seen.{Seen}
 use Rattle.queue_range.specs.Listed.{heldBy, allHeld, anyNan, placedIn, heldSpan, roomRow}
 
@@ -34,19 +33,10 @@ abbrev pub suitsAt : Shape → Bool
 suitsAt (Histogram start) = true
 suitsAt (Queue-at start queue) = suits queue (queue .maximum)
 
--- from a place up to another
-abbrev pub part : ℕ → ℕ → List Float → List Float
-part from until l = take (until - from) (drop from l)
-
--- the energies of an entry stand in two parts of the lent energies, one after the other
-pub record StandIn (shape : Shape) (parts : Parts) : Type 0 where
-  pub older : parts .from ≤ parts .until
-  pub inside : parts .until ≤ storeEnd shape
-  pub newer : parts .start ≤ parts .end
-  pub within : parts .end ≤ storeEnd shape
-  pub few : parts .until - parts .from + (parts .end - parts .start) ≤ longest
-  pub held : (energies : List Float) → storeEnd shape ≤ length energies
-      → heldBy (shapeShows [] energies shape) ≡ part (parts .from) (parts .until) energies ++ part (parts .start) (parts .end) energies
+-- where the energies of an entry stand among so many
+abbrev pub partsAt : Shape → ℕ → Parts
+partsAt (Histogram start) places = nowhere
+partsAt (Queue-at start queue) places = partsOf queue start places
 
 -- what was seen of energies, and then of more: how many there are, whether none is below boundary 0, and whether one is NaN
 abbrev pub withSeen : Seen → List Float → Seen

@@ -2,30 +2,23 @@
 use history::set::Entry;
 use history::set::MOST;
 use history::set::Shape;
+use queue::Parts;
 use spans::Range;
 ghost use mathlib.Core.Path.{_≡_};
 ghost use mathlib.Core.Bool.{true, _&&_};
-ghost use Prim.Native.Nat.{_+_, _-_, _^_, _≤_, _<_};
+ghost use Prim.Native.Nat.{_+_, _-_, _≤_};
 ghost use lib.Seq.{sets};
 ghost use lib.ListN.{length, take};
 ghost use Rattle.refusals.specs.Outcome.{saidBy, keptBy};
-ghost use Rattle.queue.specs.Queue.{longest};
+ghost use Rattle.queue.specs.Queue.{longest, slice};
 ghost use Rattle.history.specs.Set.{mostHistories, histories, storeEnd, storesInside, isSound, allSound};
 ghost use Rattle.spans.specs.Span.{said};
 ghost use Rattle.queue_range.specs.Listed.{queueRange};
-ghost use Rattle.queue_range.specs.Inner.{mostHeld, heldIn, heldAt, suitsAt, part, StandIn, withSeen, seenOf, listedRange};
+ghost use Rattle.queue_range.specs.Inner.{mostHeld, heldIn, heldAt, suitsAt, partsAt, withSeen, seenOf, listedRange};
 
-// Where the energies of an entry stand in the lent energies: those of a queue between its head and the end of its store, and those from its store's start.
-struct Parts {
-    from: usize,
-    until: usize,
-    start: usize,
-    end: usize,
-}
-
-fn parts_of(entry: Entry) -> Parts
-    requires { ⌜ (storeEnd (entry .shape) < 2 ^ 64) × (suitsAt (entry .shape) ≡ true) ⌝ }
-    ensures { λ r. ⌜ StandIn (entry .shape) r ⌝ }
+// Where the energies of an entry stand among so many. Those of a histogram stand nowhere.
+fn parts_of(entry: Entry, places: usize) -> Parts
+    ensures { λ r. ⌜ r ≡ partsAt (entry .shape) places ⌝ }
 {
     let shape = entry.shape;
     match shape {
@@ -35,18 +28,7 @@ fn parts_of(entry: Entry) -> Parts
             start: 0,
             end: 0,
         },
-        Shape::Queue(start, queue) => {
-            let head = queue.head;
-            let held = queue.held;
-            let first = queue.first_part();
-            let from = start + head;
-            Parts {
-                from,
-                until: from + first,
-                start,
-                end: start + (held - first),
-            }
-        }
+        Shape::Queue(start, queue) => queue.parts(start, places),
     }
 }
 
@@ -71,7 +53,7 @@ struct Seen {
 // A look at the energies from a place up to another, after what was seen before.
 fn look_at(before: Seen, energies: &[f64], from: usize, until: usize) -> Seen
     requires { ⌜ (from ≤ until) × (until ≤ length (now energies)) × (before .blocks + (until - from) ≤ mostHeld) ⌝ }
-    ensures { λ r. ⌜ r ≡ withSeen before (part from until (now (energies .entry))) ⌝ }
+    ensures { λ r. ⌜ r ≡ withSeen before (slice from until (now (energies .entry))) ⌝ }
 {
     let least = histogram_bins::lowest_boundary();
     let mut fine = before.fine;
@@ -97,7 +79,7 @@ fn look_in(before: Seen, entry: Entry, energies: &[f64]) -> Seen
         × (isSound (now (energies .entry)) entry ≡ true → r ≡ withSeen before (heldAt (now (energies .entry)) entry)) × (r .blocks ≤ before .blocks + longest) ⌝ }
 {
     if suits(entry) {
-        let parts = parts_of(entry);
+        let parts = parts_of(entry, energies.len());
         let older = look_at(before, energies, parts.from, parts.until);
         return look_at(older, energies, parts.start, parts.end);
     }
@@ -131,7 +113,7 @@ fn look(entries: [Entry; MOST], count: usize, energies: &[f64]) -> Seen
 // The energies from a place up to another, from a place of the work slice on.
 fn copy(work: &mut [f64], at: usize, energies: &[f64], from: usize, until: usize)
     requires { ⌜ (from ≤ until) × (until ≤ length (now energies)) × (at + (until - from) ≤ length (now work)) ⌝ }
-    ensures { λ _. ⌜ now (work .exit) ≡ sets (now (work .entry)) at (part from until (now (energies .entry))) ⌝ }
+    ensures { λ _. ⌜ now (work .exit) ≡ sets (now (work .entry)) at (slice from until (now (energies .entry))) ⌝ }
 {
     let mut place = at;
     let mut i = from;
@@ -148,7 +130,7 @@ fn copy_held(work: &mut [f64], at: usize, entry: Entry, energies: &[f64]) -> usi
         × (at + length (heldAt (now energies) entry) ≤ length (now work)) ⌝ }
     ensures { λ r. ⌜ (now (work .exit) ≡ sets (now (work .entry)) at (heldAt (now (energies .entry)) entry)) × (r ≡ at + length (heldAt (now (energies .entry)) entry)) ⌝ }
 {
-    let parts = parts_of(entry);
+    let parts = parts_of(entry, energies.len());
     let middle = at + (parts.until - parts.from);
     copy(work, at, energies, parts.from, parts.until);
     copy(work, middle, energies, parts.start, parts.end);

@@ -6,7 +6,7 @@ use denote.Ref.{now}
 use lib.Ieee.{nan}
 use lib.ListN.{length, length-set}
 use lib.Seq.{sets}
-use Rattle.queue_range.specs.Inner.{part}
+use Rattle.queue.specs.Queue.{slice}
 use Rattle.queue_range.proofs.Looking.{copy-turn, copy-end}
 use borrow.Author.Needs.{needs}
 use Rattle.queue_range.proofs.copy.Statement.{statement}
@@ -17,7 +17,7 @@ Inv-loop work₀ at energies from until place₀ i₀ work place i =
     (i ≤ until)
     × (place + (until - i) ≡ at + (until - from))
     × (length work ≡ length work₀)
-    × (sets work place (part i until energies) ≡ sets work₀ at (part from until energies))
+    × (sets work place (slice i until energies) ≡ sets work₀ at (slice from until energies))
 
 abbrev μ-loop : tie.MeasureT-loop
 μ-loop work₀ at energies from until place₀ i₀ work place i = until - i

@@ -1,16 +1,17 @@
 -- `queue_range::look_at` meets its contract. The invariant: what was seen up to `i`, and then of the energies from there on, is what is seen of all.
 -- Assumes nothing.
-use mathlib.Core.Path.{_≡_, refl, sym, _∙_}
-use mathlib.Core.Bool.{_&&_, _||_}
-use Prim.Native.Nat.{_-_, _≤_}
+use mathlib.Core.Path.{_≡_, refl, sym, ap, _∙_}
+use mathlib.Core.Bool.{not, _&&_, _||_}
+use Prim.Native.Nat.{_+_, _-_, _≤_}
 use native.Mathlib.Omega.{arith}
 use denote.Ref.{now}
-use lib.Ieee.{nan}
+use lib.Ieee.{Float, nan, lt}
+use lib.ListN.{getD}
 use Rattle.history.specs.Set.{noneBelow}
-use Rattle.history.proofs.Slices.{slice-length}
+use Rattle.history.proofs.Slices.{slice-length, fine-turn, fine-end}
 use Rattle.queue_range.specs.Listed.{anyNan}
-use Rattle.queue_range.specs.Inner.{part}
-use Rattle.queue_range.proofs.Looking.{nan-turn, nan-end, fine-turn, fine-end, seen-is}
+use Rattle.queue.specs.Queue.{slice}
+use Rattle.queue_range.proofs.Looking.{nan-turn, nan-end, seen-is}
 use borrow.Author.Needs.{needs}
 use Rattle.queue_range.proofs.look_at.Statement.{statement}
 use Rattle.queue_range.proofs.look_at.Tie as tie
@@ -18,8 +19,8 @@ use Rattle.queue_range.proofs.look_at.Tie as tie
 abbrev Inv-loop : tie.InvT-loop
 Inv-loop before energies from until least fine₀ found₀ i₀ fine found i =
     (i ≤ until)
-    × (fine && noneBelow (part i until energies) ≡ before .fine && noneBelow (part from until energies))
-    × (found || anyNan (part i until energies) ≡ before .nan || anyNan (part from until energies))
+    × (fine && noneBelow (slice i until energies) ≡ before .fine && noneBelow (slice from until energies))
+    × (found || anyNan (slice i until energies) ≡ before .nan || anyNan (slice from until energies))
 
 abbrev μ-loop : tie.MeasureT-loop
 μ-loop before energies from until least fine₀ found₀ i₀ fine found i = until - i
@@ -47,7 +48,10 @@ loop-again c =
     let l = c .before .before in
     let a = l .before .before .before .args in (
       omega arith,
-      fine-turn (now (a .energies)) (l .loop .i) (a .until) (l .loop .fine) _ nan (l .before .lowest-boundary .ensures) (omega arith) (omega arith) ∙ l .loop .inv .1,
+      ap (λ (least : Float). (l .loop .fine && not (lt (getD (now (a .energies)) (l .loop .i) nan) least)) && noneBelow (slice (l .loop .i + 1) (a .until) (now (a .energies))))
+          (l .before .lowest-boundary .ensures)
+          ∙ fine-turn (now (a .energies)) (l .loop .i) (a .until) (l .loop .fine) nan (omega arith) (omega arith)
+          ∙ l .loop .inv .1,
       nan-turn (now (a .energies)) (l .loop .i) (a .until) (l .loop .nan) nan (omega arith) (omega arith) ∙ l .loop .inv .2,
     )
 
@@ -62,7 +66,7 @@ returns c =
     let l = c .before .before in
     let s = l .before .before .before in
     let energies = now (s .args .energies) in
-    seen-is (s .args .before) (part (s .args .from) (s .args .until) energies) _ _ _
+    seen-is (s .args .before) (slice (s .args .from) (s .args .until) energies) _ _ _
     (omega (arith, slice-length (s .args .from) (s .args .until) energies (s .pre .1)))
     (sym (fine-end energies (l .loop .i) (s .args .until) (l .loop .fine) (omega arith)) ∙ l .loop .inv .1)
     (sym (nan-end energies (l .loop .i) (s .args .until) (l .loop .nan) (omega arith)) ∙ l .loop .inv .2)

@@ -5,7 +5,8 @@ use native.Mathlib.Omega.{arith}
 use denote.Ref.{now}
 use Rattle.history.proofs.Slices.{slice-length}
 use Rattle.queue_range.specs.declared.Seen.{Seen}
-use Rattle.queue_range.specs.Inner.{suitsAt, heldAt, StandIn, withSeen}
+use Rattle.queue_range.specs.Inner.{suitsAt, heldAt, withSeen}
+use Rattle.queue_range.proofs.Standing.{StandIn, stand-in}
 use Rattle.queue_range.proofs.Looking.{parts-count, parts-seen, suits-sound, sound-suits, unsound}
 use borrow.Author.Needs.{needs}
 use Rattle.queue_range.proofs.look_in.Statement.{statement}
@@ -14,29 +15,33 @@ use Rattle.queue_range.proofs.look_in.Tie as tie
 suits-here : (c : tie.Then1) → suitsAt (c .before .before .before .args .entry .shape) ≡ true
 suits-here c = sym (c .before .suits .ensures) ∙ c .if1 .taken
 
-stand : (p : tie.After-parts-of) → StandIn (p .before .before .before .before .args .entry .shape) (p .parts-of .result)
-stand p = p .parts-of .ensures
+stand : (p : tie.After-parts-of) →
+    let a = p .before .before .before .before .args in
+    StandIn (now (a .energies)) (a .entry .shape) (p .parts-of .result)
+stand p =
+    let s = p .before .before .before .before in
+    stand-in (now (s .args .energies)) (s .args .entry .shape) (p .parts-of .result) (p .parts-of .ensures) (s .pre .0) (suits-here (p .before))
 
 suits-requires : tie.Need-suits-requires
 suits-requires c κs = search needs
 
 parts-of-requires : tie.Need-parts-of-requires
-parts-of-requires c κs = let s = c .before .before .before in (omega (arith, s .pre .0, s .good), suits-here c)
+parts-of-requires c κs = search needs
 
 look-at-requires : tie.Need-look-at-requires
 look-at-requires c κs =
-    let f = stand c in
+    let f = stand c .places in
     let s = c .before .before .before .before in
-    (f .older, omega (arith, f .inside, s .pre .0), omega (arith, f .few, s .pre .1))
+    (f .older, f .inside, omega (arith, f .few, s .pre .1))
 
 look-at-requires-2 : tie.Need-look-at-requires-2
 look-at-requires-2 c κs =
-    let f = stand (c .before) in
+    let f = stand (c .before) .places in
     let s = c .before .before .before .before .before in
     let parts = c .before .parts-of .result in (
       f .newer,
-      omega (arith, f .within, s .pre .0),
-      omega (arith, f .few, s .pre .1, ap (λ (x : Seen). x .blocks) (c .look-at .ensures), slice-length (parts .from) (parts .until) (now (s .args .energies)) (omega (arith, f .inside, s .pre .0))),
+      f .within,
+      omega (arith, f .few, s .pre .1, ap (λ (x : Seen). x .blocks) (c .look-at .ensures), slice-length (parts .from) (parts .until) (now (s .args .energies)) (f .inside)),
     )
 
 returns : tie.Need-returns
@@ -45,11 +50,11 @@ returns c =
     let s = p .before .before .before .before in
     let energies = now (s .args .energies) in
     let seen : c .look-at2 .result ≡ withSeen (s .args .before) (heldAt energies (s .args .entry)) =
-    parts-seen energies (s .args .entry) (p .parts-of .result) (stand p) (s .pre .0) (s .args .before) (c .before .look-at .result) (c .look-at2 .result)
+    parts-seen energies (s .args .entry) (p .parts-of .result) (stand p) (s .args .before) (c .before .look-at .result) (c .look-at2 .result)
     (c .before .look-at .ensures) (c .look-at2 .ensures) in (
       ap (λ (x : Seen). x .fine) seen ∙ ap (λ (b : Bool). s .args .before .fine && b) (sound-suits energies (s .args .entry .shape) (suits-here (p .before))),
       (λ e. seen),
-      omega (arith, ap (λ (x : Seen). x .blocks) seen, parts-count energies (s .args .entry) (p .parts-of .result) (stand p) (s .pre .0), stand p .few),
+      omega (arith, ap (λ (x : Seen). x .blocks) seen, parts-count energies (s .args .entry) (p .parts-of .result) (stand p), stand p .places .few),
     )
 
 returns-2 : tie.Need-returns-2

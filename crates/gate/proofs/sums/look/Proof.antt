@@ -8,9 +8,10 @@ use denote.Ref.{now}
 use lib.Ieee.{Float, nan, lt}
 use lib.ListN.{getD}
 use Rattle.history.specs.Set.{noneBelow}
+use Rattle.history.proofs.Slices.{fine-turn, fine-end}
 use Rattle.gate.specs.Totals.{onTopOf, energiesFrom}
 use Rattle.queue.specs.Queue.{slice}
-use Rattle.gate.proofs.Looking.{sound-turn, sound-end, sum-turn, sum-end}
+use Rattle.gate.proofs.Looking.{sum-turn, sum-end}
 use Rattle.gate.proofs.sums.look.Statement.{statement}
 use Rattle.gate.proofs.sums.look.Tie as tie
 
@@ -49,7 +50,7 @@ loop-again c =
     let i = l .loop .i in (
       omega arith,
       ap (λ (least : Float). (l .loop .sound && not (lt (getD energies i nan) least)) && noneBelow (slice (i + 1) (a .until) energies)) (l .before .lowest-boundary .ensures)
-          ∙ sound-turn energies i (a .until) (l .loop .sound) nan (omega arith) (omega arith)
+          ∙ fine-turn energies i (a .until) (l .loop .sound) nan (omega arith) (omega arith)
           ∙ l .loop .inv .1,
       sum-turn energies i (a .until) (l .loop .sum) nan (omega arith) (omega arith) ∙ l .loop .inv .2,
     )
@@ -58,7 +59,7 @@ returns : tie.Need-returns Inv-loop μ-loop
 returns c =
     let l = c .before in
     let a = l .before .before .before .args in (
-      sym (sound-end (now (a .energies)) (l .loop .i) (a .until) (l .loop .sound) (omega arith)) ∙ l .loop .inv .1,
+      sym (fine-end (now (a .energies)) (l .loop .i) (a .until) (l .loop .sound) (omega arith)) ∙ l .loop .inv .1,
       sym (sum-end (now (a .energies)) (l .loop .i) (a .until) (l .loop .sum) (omega arith)) ∙ l .loop .inv .2,
     )
 
