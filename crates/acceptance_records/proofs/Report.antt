@@ -1,7 +1,6 @@
 -- Demand 3 as the report tells it, proved: "The block total reported is the length of the list less the dropped energies". What is read is what was written,
--- and the report asks the range of the store alone. And what refuses a report
--- is what refuses its record. Assumes nothing.
-use mathlib.Core.Path.{_≡_, refl, sym, ap, _∙_}
+-- and the report asks the range of the store alone. And what refuses a report is what refuses its record. Assumes nothing.
+use mathlib.Core.Path.{_≡_, refl, sym, ap, subst, _∙_}
 use mathlib.Core.Bool.{Bool, true, false}
 use mathlib.Core.List.{List, [], _∷_}
 use Prim.Native.Nat.{ℕ, _-_, _<_, _^_}
@@ -11,21 +10,21 @@ use lib.Dec.{leb}
 use lib.ListN.{length, getD, length-replicate, List·getD-eq-default}
 use lib.Seq.{take-all}
 use lib.Ieee.{Float}
-use Rattle.refusals.specs.Outcome.{went, answers}
+use Rattle.refusals.specs.Outcome.{Question, went}
+use Rattle.refusals.specs.Rows.{RefusedBy}
+use Rattle.refusals.proofs.Rows.{refused-by}
 use Rattle.histogram_bins.specs.Bin.{bins}
 use Rattle.histogram.specs.Histogram.{empty}
 use Rattle.range.specs.Range.{rangeOf}
 use Rattle.layout.specs.declared.Kind.the-variants.{Histogram}
+use Rattle.layout.specs.Layout.{frameRows}
 use Rattle.histogram_writer.specs.Writing.{histogramRecord}
 use Rattle.histogram_writer.proofs.Again.{Counting, read-what-was-written}
-use Rattle.summary.specs.Summary.{alone, figuresBy, figuresOf, figuresRead, summaryOf}
+use Rattle.summary.specs.Summary.{Figures, alone, figuresBy, figuresOf, figuresRead, summaryOf}
 use Rattle.summary.proofs.Alone.{figuresFrom, summary-is}
-use Rattle.acceptance_refusals.proofs.Rows.{by-rows}
 use Rattle.acceptance_dealing.specs.Dealing.{Plan, Dealt, storeOf, droppedOf, Asks, rangeOfBins, Met}
 use Rattle.acceptance_dealing.proofs.Dealing.{demand-3}
-use Rattle.acceptance_records.specs.Records.{frameRows}
 use Rattle.acceptance_records.specs.Report.{ReportTells, ReportRefused}
-use Rattle.acceptance_records.proofs.Records.{behind-frame}
 
 empty-length : length empty ≡ bins
 unfolding empty
@@ -57,4 +56,5 @@ report-tells whole dealt plan d = tells whole dealt plan d (demand-3 whole dealt
 
 pub report-refused : ReportRefused
 report-refused bytes =
-    by-rows (frameRows Histogram bytes) (summaryOf bytes) tt (figuresFrom bytes) (summary-is bytes ∙ behind-frame Histogram bytes (answers (figuresFrom bytes)))
+    let rows = frameRows Histogram bytes in
+    subst (λ (call : Question Figures). RefusedBy rows call) (sym (summary-is bytes)) (refused-by rows tt (figuresFrom bytes))

@@ -8,12 +8,12 @@ use Prim.Native.Nat.{ℕ, _-_}
 use lib.ListN.{length}
 use lib.Ieee.{Float}
 use Rattle.refusals.specs.Outcome.{went}
+use Rattle.refusals.specs.Rows.{RefusedBy}
 use Rattle.layout.specs.declared.Kind.the-variants.{Histogram}
+use Rattle.layout.specs.Layout.{frameRows}
 use Rattle.histogram_writer.specs.Writing.{histogramRecord}
 use Rattle.summary.specs.Summary.{figuresBy, summaryOf}
-use Rattle.acceptance_refusals.specs.Rows.{RefusedBy}
 use Rattle.acceptance_dealing.specs.Dealing.{Plan, Dealt, storeOf, droppedOf, rangeOfBins}
-use Rattle.acceptance_records.specs.Records.{frameRows}
 
 abbrev pub ReportTells : Type 0
 ReportTells = (whole : List Float) (dealt : List (List Float)) (plan : Plan) → Dealt whole dealt plan

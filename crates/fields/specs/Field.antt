@@ -1,9 +1,11 @@
--- A field is a run of bytes that stands for a number, low byte first: the number in it, and the bytes of a number.
+-- A field is a run of bytes that stands for a number: the number in it, and the bytes of a number. Low byte first, and over the order of the bytes.
 use Prim.Native.Nat.{ℕ, zero, suc, _+_, _*_, _/_, _%_}
 use mathlib.Core.List.{List, [], _∷_}
 use mathlib.Core.Bool.{cond}
 use lib.Dec.{ltb}
 use lib.ListN.{getD}
+use Rattle.fields.specs.declared.Order.{Order}
+use Rattle.fields.specs.declared.Order.the-variants.{LowFirst}
 
 -- the bytes of a number of 32 bits, and of one of 64, the widest field
 abbrev pub wordWidth : ℕ
@@ -24,3 +26,12 @@ fieldAt bytes at (suc width) = getD bytes at 0 + 256 * fieldAt bytes (suc at) wi
 unfoldable pub lowBytes : ℕ → ℕ → List ℕ
 lowBytes zero number = []
 lowBytes (suc width) number = number % 256 ∷ lowBytes width (number / 256)
+
+-- ---- in an order of the bytes
+-- the number in the first so many bytes
+abbrev pub numberIn : Order → ℕ → List ℕ → ℕ
+numberIn LowFirst width bytes = fieldAt bytes 0 width
+
+-- the bytes of a number in a field of so many bytes
+abbrev pub bytesOf : Order → ℕ → ℕ → List ℕ
+bytesOf LowFirst width number = lowBytes width number

@@ -1,11 +1,16 @@
-// Numbers in bytes, low byte first: the fields of records and of lists of energies.
+// Numbers in bytes: the fields of records and of lists of energies.
 ghost use mathlib.Core.Path.{_≡_};
 ghost use lib.ListN.{length, getD};
-ghost use Rattle.fields.specs.Field.{fieldAt, narrowed, lowBytes};
+ghost use Rattle.fields.specs.Field.{fieldAt, narrowed, lowBytes, bytesOf};
+
+// The order in which the bytes of a field stand.
+pub enum Order {
+    LowFirst,
+}
 
 const WIDEST: usize = 8;
 
-// The number in the field of `width` bytes at a place, and of the first eight where it is wider.
+// The number in the field of `width` bytes at a place, low byte first, and of the first eight where it is wider.
 pub fn number_at(bytes: &[u8], at: usize, width: usize) -> u64
     ensures { λ r. ⌜ r ≡ fieldAt (now (bytes .entry)) at (narrowed width) ⌝ }
 {
@@ -37,8 +42,7 @@ fn narrow(width: usize) -> usize
     if width < WIDEST { width } else { WIDEST }
 }
 
-// The bytes of a number fill the lent field, whatever its width: what the field has no room for is left out, and further bytes are 0.
-pub fn put_number(field: &mut [u8], number: u64)
+fn put_low(field: &mut [u8], number: u64)
     ensures { λ _. ⌜ now (field .exit) ≡ lowBytes (length (now (field .entry))) number ⌝ }
 {
     let mut left = number;
@@ -47,5 +51,14 @@ pub fn put_number(field: &mut [u8], number: u64)
         field[i] = (left % 256) as u8;
         left = left / 256;
         i += 1;
+    }
+}
+
+// The bytes of a number fill the lent field, whatever its width: what the field has no room for is left out, and further bytes are 0.
+pub fn put_number(order: Order, field: &mut [u8], number: u64)
+    ensures { λ _. ⌜ now (field .exit) ≡ bytesOf order (length (now (field .entry))) number ⌝ }
+{
+    match order {
+        Order::LowFirst => put_low(field, number),
     }
 }

@@ -1,13 +1,14 @@
 -- The record of a histogram (01, 'Records'): "Kind 1: 1,000 u32 counters (length 4,002)."
-use Prim.Native.Nat.{ℕ}
-use mathlib.Core.Bool.{cond}
-use mathlib.Core.List.{List}
+use Prim.Native.Nat.{ℕ, _+_}
+use mathlib.Core.Bool.{not}
+use mathlib.Core.List.{List, [], _∷_, _++_}
 use Rattle.refusals.specs.Refusal.{STORE}
-use Rattle.refusals.specs.Outcome.{Outcome, went, refused, NoValues, done}
+use Rattle.refusals.specs.Outcome.{Outcome, went, NoValues, done}
+use Rattle.refusals.specs.Rows.{Row, row, byRows}
 use Rattle.histogram_bins.specs.Bin.{bins}
 use Rattle.histogram.specs.Histogram.{isHistogram}
 use Rattle.layout.specs.declared.Kind.the-variants.{Histogram}
-use Rattle.layout.specs.Layout.{orderOf, bodyIn, numbersIn, frameOf, andThen}
+use Rattle.layout.specs.Layout.{lengthWidth, histogramLength, orderOf, bodyIn, numbersIn, frameRows}
 
 -- the bytes of a counter
 abbrev pub countWidth : ℕ
@@ -15,13 +16,19 @@ countWidth = 4
 
 -- the bytes of a whole record
 abbrev pub recordLength : ℕ
-recordLength = 4006
+recordLength = lengthWidth + histogramLength
 
 -- the counters in a record
 unfoldable pub countersIn : List ℕ → List ℕ
 countersIn bytes = numbersIn (orderOf Histogram) countWidth bins (bodyIn bytes)
 
--- STORE comes last: "not 1,000 counters"
+-- STORE: "not 1,000 counters"
+abbrev pub storeRows : List ℕ → List Row
+storeRows counters = row STORE (not (isHistogram counters)) ∷ []
+
+-- "Read order: under 6 bytes LENGTH; KIND; length field unlike the bytes given, kind 1 unlike 4,002, LENGTH; STORE"
+abbrev pub readHistogramRows : List ℕ → List ℕ → List Row
+readHistogramRows bytes counters = frameRows Histogram bytes ++ storeRows counters
+
 unfoldable pub readHistogram : List ℕ → List ℕ → Outcome (List ℕ) NoValues
-readHistogram bytes counters =
-    andThen (frameOf Histogram bytes) (cond (isHistogram counters) (went (countersIn bytes) done) (refused STORE))
+readHistogram bytes counters = byRows (readHistogramRows bytes counters) (went (countersIn bytes) done)

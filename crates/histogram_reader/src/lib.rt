@@ -1,4 +1,5 @@
 // Records of kind 1: the 1,000 counters of a histogram, read.
+use fields::Order;
 use layout::Kind;
 use refusals::Answer;
 ghost use mathlib.Core.Path.{_≡_};
@@ -6,33 +7,30 @@ ghost use Prim.Native.Nat.{_+_, _*_, _≤_};
 ghost use lib.ListN.{length, drop};
 ghost use Rattle.refusals.specs.Outcome.{saidBy, keptBy};
 ghost use Rattle.refusals.specs.Answer.{said};
-ghost use Rattle.fields.specs.Field.{fieldAt};
+ghost use Rattle.fields.specs.Field.{numberIn};
 ghost use Rattle.histogram_bins.specs.Bin.{bins};
-ghost use Rattle.layout.specs.Layout.{lowFirst, numbersIn};
-ghost use Rattle.histogram_reader.specs.Record.{countWidth, recordLength, countersIn, readHistogram};
-
-// Where the counters start, after the length and the kind.
-const BODY: usize = 6;
+ghost use Rattle.layout.specs.Layout.{numbersIn, bodyIn};
+ghost use Rattle.histogram_reader.specs.Record.{countWidth, recordLength, readHistogram};
 
 // The bytes of each counter.
-const COUNT: usize = 4;
+pub const COUNT: usize = 4;
 
-fn word_at(bytes: &[u8], at: usize) -> u32
+fn word_at(order: Order, bytes: &[u8], at: usize) -> u32
     requires { ⌜ at + countWidth ≤ length (now bytes) ⌝ }
-    ensures { λ r. ⌜ r ≡ fieldAt (now (bytes .entry)) at countWidth ⌝ }
+    ensures { λ r. ⌜ r ≡ numberIn order countWidth (drop at (now (bytes .entry))) ⌝ }
 {
     let end = at + COUNT;
-    words::word(&bytes[at..end])
+    words::word(order, &bytes[at..end])
 }
 
 // Each word becomes the number in its four bytes.
-fn read_words(bytes: &[u8], at: usize, words: &mut [u32])
+fn read_words(order: Order, bytes: &[u8], at: usize, words: &mut [u32])
     requires { ⌜ at + countWidth * length (now words) ≤ length (now bytes) ⌝ }
-    ensures { λ _. ⌜ now (words .exit) ≡ numbersIn lowFirst countWidth (length (now (words .entry))) (drop at (now (bytes .entry))) ⌝ }
+    ensures { λ _. ⌜ now (words .exit) ≡ numbersIn order countWidth (length (now (words .entry))) (drop at (now (bytes .entry))) ⌝ }
 {
     let mut i = 0;
     while i < words.len() {
-        words[i] = word_at(bytes, at + COUNT * i);
+        words[i] = word_at(order, bytes, at + COUNT * i);
         i += 1;
     }
 }
@@ -48,13 +46,13 @@ fn copy(from: &[u32], to: &mut [u32])
     }
 }
 
-// By way of places of its own, which no lent slice overlaps: the compiler then moves all the bytes in one call.
-fn read_counters(bytes: &[u8], counters: &mut [u32])
+// The counters in the bytes of a whole record, by way of places of its own, which no lent slice overlaps.
+fn read_counters(order: Order, bytes: &[u8], counters: &mut [u32])
     requires { ⌜ (length (now bytes) ≡ recordLength) × (length (now counters) ≡ bins) ⌝ }
-    ensures { λ _. ⌜ now (counters .exit) ≡ countersIn (now (bytes .entry)) ⌝ }
+    ensures { λ _. ⌜ now (counters .exit) ≡ numbersIn order countWidth bins (bodyIn (now (bytes .entry))) ⌝ }
 {
     let mut places = [0u32; histogram_bins::BINS];
-    read_words(bytes, BODY, &mut places);
+    read_words(order, bytes, layout::HEAD, &mut places);
     copy(&places, counters);
 }
 
@@ -68,7 +66,7 @@ pub fn read_histogram(bytes: &[u8], counters: &mut [u32]) -> Answer
             if counters.len() != histogram_bins::BINS {
                 return Answer::Refused(refusals::STORE);
             }
-            read_counters(bytes, counters);
+            read_counters(layout::order_of(Kind::Histogram), bytes, counters);
             Answer::Done
         }
         Answer::Refused(number) => Answer::Refused(number),

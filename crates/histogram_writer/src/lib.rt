@@ -1,4 +1,6 @@
 // Records of kind 1: the 1,000 counters of a histogram, written.
+use fields::Order;
+use histogram_reader::COUNT;
 use layout::Kind;
 use layout::Written;
 ghost use mathlib.Core.Path.{_≡_};
@@ -6,25 +8,17 @@ ghost use Prim.Native.Nat.{_+_, _*_, _≤_};
 ghost use lib.ListN.{length};
 ghost use lib.Seq.{sets};
 ghost use Rattle.refusals.specs.Outcome.{saidBy, keptBy};
-ghost use Rattle.fields.specs.Field.{lowBytes};
+ghost use Rattle.fields.specs.Field.{lowBytes, bytesOf};
 ghost use Rattle.histogram_bins.specs.Bin.{bins};
-ghost use Rattle.layout.specs.Layout.{lowFirst, headWidth, allBytes};
+ghost use Rattle.layout.specs.Layout.{headWidth, allBytes};
 ghost use Rattle.layout.specs.Written.{said};
 ghost use Rattle.histogram_reader.specs.Record.{countWidth, recordLength};
 ghost use Rattle.histogram_writer.specs.Writing.{writeHistogram};
 
-// Where the counters start, after the length and the kind.
-const BODY: usize = 6;
+// The bytes of a whole record.
+const RECORD: usize = layout::LENGTH_BYTES + layout::HISTOGRAM_LENGTH as usize;
 
-// The bytes of each counter, of what the length counts, and of the whole record.
-const COUNT: usize = 4;
-
-const FOLLOWING: u64 = 4002;
-
-const RECORD: usize = 4006;
-
-// A number goes into four bytes, low byte first.
-fn put_word(out: &mut [u8], at: usize, word: u32)
+fn put_low_word(out: &mut [u8], at: usize, word: u32)
     requires { ⌜ at + countWidth ≤ length (now out) ⌝ }
     ensures { λ _. ⌜ now (out .exit) ≡ sets (now (out .entry)) at (lowBytes countWidth word) ⌝ }
 {
@@ -37,21 +31,31 @@ fn put_word(out: &mut [u8], at: usize, word: u32)
     out[at + 3] = (fourth % 256) as u8;
 }
 
-fn write_words(words: &[u32], out: &mut [u8], at: usize)
+// A number goes into four bytes.
+fn put_word(order: Order, out: &mut [u8], at: usize, word: u32)
+    requires { ⌜ at + countWidth ≤ length (now out) ⌝ }
+    ensures { λ _. ⌜ now (out .exit) ≡ sets (now (out .entry)) at (bytesOf order countWidth word) ⌝ }
+{
+    match order {
+        Order::LowFirst => put_low_word(out, at, word),
+    }
+}
+
+fn write_words(order: Order, words: &[u32], out: &mut [u8], at: usize)
     requires { ⌜ at + countWidth * length (now words) ≤ length (now out) ⌝ }
-    ensures { λ _. ⌜ now (out .exit) ≡ sets (now (out .entry)) at (allBytes lowFirst countWidth (now (words .entry))) ⌝ }
+    ensures { λ _. ⌜ now (out .exit) ≡ sets (now (out .entry)) at (allBytes order countWidth (now (words .entry))) ⌝ }
 {
     let mut i = 0;
     while i < words.len() {
-        put_word(out, at + COUNT * i, words[i]);
+        put_word(order, out, at + COUNT * i, words[i]);
         i += 1;
     }
 }
 
 // By way of places of its own, as in reading.
-fn write_counters(counters: &[u32], out: &mut [u8])
+fn write_counters(order: Order, counters: &[u32], out: &mut [u8])
     requires { ⌜ (length (now counters) ≡ bins) × (recordLength ≤ length (now out)) ⌝ }
-    ensures { λ _. ⌜ now (out .exit) ≡ sets (now (out .entry)) headWidth (allBytes lowFirst countWidth (now (counters .entry))) ⌝ }
+    ensures { λ _. ⌜ now (out .exit) ≡ sets (now (out .entry)) headWidth (allBytes order countWidth (now (counters .entry))) ⌝ }
 {
     let mut places = [0u32; histogram_bins::BINS];
     let mut i = 0;
@@ -59,7 +63,7 @@ fn write_counters(counters: &[u32], out: &mut [u8])
         places[i] = counters[i];
         i += 1;
     }
-    write_words(&places, out, BODY);
+    write_words(order, &places, out, layout::HEAD);
 }
 
 // The record of a histogram, at the output's first places.
@@ -73,7 +77,7 @@ pub fn write_histogram(counters: &[u32], out: &mut [u8]) -> Written
     if out.len() < RECORD {
         return Written::Refused(refusals::ROOM);
     }
-    layout::put_head(Kind::Histogram, FOLLOWING, out);
-    write_counters(counters, out);
+    layout::put_head(Kind::Histogram, layout::HISTOGRAM_LENGTH, out);
+    write_counters(layout::order_of(Kind::Histogram), counters, out);
     Written::Bytes(RECORD)
 }

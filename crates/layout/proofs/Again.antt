@@ -7,11 +7,12 @@ use Prim.Native.Nat.{ℕ, _+_, _*_, _^_, _<_}
 use native.Mathlib.Omega.{arith}
 use lib.ListN.{length, getD, take, length-drop, take-append-drop}
 use lib.Seq.{drop-at, take-all, take-add}
+use Rattle.fields.specs.declared.Order.{Order}
 use Rattle.fields.specs.Field.{fieldAt, lowBytes}
 use Rattle.fields.proofs.Written.{low-length, field-from, read-low, low-field}
 use Rattle.layout.specs.declared.Kind.{Kind}
 use Rattle.layout.specs.declared.Kind.the-variants.{Histogram, Queue}
-use Rattle.layout.specs.Layout.{Order, numberOf, canBe, kindWidth, headWidth, lengthIn, kindIn, bodyIn, numbersIn, allBytes, headOf, recordOf}
+use Rattle.layout.specs.Layout.{kindNumber, canBe, kindWidth, headWidth, lengthIn, kindIn, bodyIn, numbersIn, allBytes, headOf, recordOf}
 use Rattle.layout.proofs.Frames.{Framed}
 use Rattle.layout.proofs.Heads.{head-length, record-length}
 use Rattle.layout.proofs.Runs.{all-read, all-written}
@@ -22,30 +23,30 @@ module _ (kind : Kind) (body : List ℕ) where
   unfolding recordOf
   record-body = drop-at (headOf kind (kindWidth + length body)) body headWidth (head-length kind (kindWidth + length body))
 
-  parted : recordOf kind body ≡ lowBytes 4 (kindWidth + length body) ++ (lowBytes 2 (numberOf kind) ++ body)
+  parted : recordOf kind body ≡ lowBytes 4 (kindWidth + length body) ++ (lowBytes 2 (kindNumber kind) ++ body)
   unfolding recordOf
-  parted = append-assoc (lowBytes 4 (kindWidth + length body)) (lowBytes 2 (numberOf kind)) body
+  parted = append-assoc (lowBytes 4 (kindWidth + length body)) (lowBytes 2 (kindNumber kind)) body
 
-  small-kind : numberOf kind < 2 ^ 16
+  small-kind : kindNumber kind < 2 ^ 16
   small-kind = go kind
     where
-      go : (k : Kind) → numberOf k < 2 ^ 16
+      go : (k : Kind) → kindNumber k < 2 ^ 16
       go Histogram = omega arith
       go Queue = omega arith
 
-  record-kind : kindIn (recordOf kind body) ≡ numberOf kind
+  record-kind : kindIn (recordOf kind body) ≡ kindNumber kind
   record-kind =
       ap kindIn parted
-      ∙ field-from (lowBytes 4 (kindWidth + length body) ++ (lowBytes 2 (numberOf kind) ++ body)) 4 4 0 2 (omega arith)
+      ∙ field-from (lowBytes 4 (kindWidth + length body) ++ (lowBytes 2 (kindNumber kind) ++ body)) 4 4 0 2 (omega arith)
       ∙ ap (λ (l : List ℕ). fieldAt l 0 2)
-      (drop-at (lowBytes 4 (kindWidth + length body)) (lowBytes 2 (numberOf kind) ++ body) 4 (low-length 4 (kindWidth + length body)))
-      ∙ read-low 2 (numberOf kind) body small-kind
+      (drop-at (lowBytes 4 (kindWidth + length body)) (lowBytes 2 (kindNumber kind) ++ body) 4 (low-length 4 (kindWidth + length body)))
+      ∙ read-low 2 (kindNumber kind) body small-kind
 
   pub record-passes : kindWidth + length body < 2 ^ 32 → canBe kind (kindWidth + length body) ≡ true → Framed kind (recordOf kind body)
   record-passes small can =
       let n = record-length kind body in
       let l : lengthIn (recordOf kind body) ≡ kindWidth + length body =
-      ap lengthIn parted ∙ read-low 4 (kindWidth + length body) (lowBytes 2 (numberOf kind) ++ body) small in
+      ap lengthIn parted ∙ read-low 4 (kindWidth + length body) (lowBytes 2 (kindNumber kind) ++ body) small in
       record { long = omega (arith, n); kind-is = record-kind; length-is = l ∙ omega (arith, n); can-be = ap (canBe kind) l ∙ can }
 
 -- ---- what passes
@@ -54,7 +55,7 @@ unfolding recordOf
 record-again kind bytes b f =
     let body = bodyIn bytes in
     let n : kindWidth + length body ≡ lengthIn bytes = omega (arith, f .length-is, f .long, length-drop headWidth bytes) in
-    ap (λ (l : List ℕ). l ++ lowBytes 2 (numberOf kind) ++ body) (ap (lowBytes 4) n ∙ low-field bytes b 0 4 (omega (arith, f .long)))
+    ap (λ (l : List ℕ). l ++ lowBytes 2 (kindNumber kind) ++ body) (ap (lowBytes 4) n ∙ low-field bytes b 0 4 (omega (arith, f .long)))
     ∙ ap (λ (l : List ℕ). take 4 bytes ++ l ++ body) (ap (lowBytes 2) (sym (f .kind-is)) ∙ low-field bytes b 4 2 (omega (arith, f .long)))
     ∙ ap (λ (l : List ℕ). l ++ body) (sym (take-add 4 2 bytes))
     ∙ take-append-drop 6 bytes

@@ -1,77 +1,53 @@
--- What the length and the kind in front of a record come to, case by case, what bytes that pass have, and what comes after a test. Assumes nothing.
-use mathlib.Core.Path.{_≡_, refl, ap, _∙_}
-use mathlib.Core.Bool.{Bool, true, false, _&&_, cond}
+-- What bytes that pass the frame have, each fact found by the name of its row, and that such bytes pass. Assumes nothing.
+use mathlib.Core.Path.{_≡_, sym, ap}
+use mathlib.Core.Bool.{true}
 use mathlib.Core.List.{List}
-use Prim.Native.Nat.{ℕ, _-_, _≤_, _<_}
-use native.Mathlib.Omega.{arith}
-use borrow.Author.Tests.{lt-ltb, le-ltb, ltb-false, eq-eqb, ne-eqb, eqb-true}
-use lib.Dec.{eqb, ltb}
+use Prim.Native.Nat.{ℕ, _-_, _≤_}
+use borrow.Author.Tests.{le-ltb, ltb-false, eq-eqb, eqb-true, not-false}
+use lib.Dec.{eqb}
 use lib.ListN.{length}
-use Rattle.refusals.specs.Refusal.{LENGTH, KIND, number}
-use Rattle.refusals.specs.Outcome.{Outcome, went, refused, Question, answers, NoValues, done, says, refusal, saidBy, keptBy}
+use Rattle.refusals.specs.Refusal.{LENGTH, KIND}
+use Rattle.refusals.specs.Outcome.{answers, done, saidBy}
+use Rattle.refusals.specs.Rows.{numberOf}
+use Rattle.refusals.proofs.Rows.{not-held, goes}
 use Rattle.layout.specs.declared.Kind.{Kind}
-use Rattle.layout.specs.Layout.{numberOf, canBe, headWidth, lengthWidth, lengthIn, kindIn, frameOf, andThen}
-
-module _ (kind : Kind) (bytes : List ℕ) where
-  pub frame-short : length bytes < headWidth → frameOf kind bytes ≡ refused LENGTH
-  unfolding frameOf
-  frame-short h = rw (lt-ltb (length bytes) headWidth h)
-
-  pub frame-kind : headWidth ≤ length bytes → (kindIn bytes ≡ numberOf kind → ⊥) → frameOf kind bytes ≡ refused KIND
-  unfolding frameOf
-  frame-kind h k = rw (le-ltb (length bytes) headWidth h, ne-eqb (kindIn bytes) (numberOf kind) k)
-
-  pub frame-length : headWidth ≤ length bytes → kindIn bytes ≡ numberOf kind → (lengthIn bytes ≡ length bytes - lengthWidth → ⊥)
-      → frameOf kind bytes ≡ refused LENGTH
-  unfolding frameOf
-  frame-length h k l =
-      rw (le-ltb (length bytes) headWidth h, eq-eqb (kindIn bytes) (numberOf kind) k, ne-eqb (lengthIn bytes) (length bytes - lengthWidth) l)
-
-  pub frame-rest : headWidth ≤ length bytes → kindIn bytes ≡ numberOf kind → lengthIn bytes ≡ length bytes - lengthWidth
-      → frameOf kind bytes ≡ cond (canBe kind (lengthIn bytes)) (answers done) (refused LENGTH)
-  unfolding frameOf
-  frame-rest h k l =
-      rw (le-ltb (length bytes) headWidth h, eq-eqb (kindIn bytes) (numberOf kind) k, eq-eqb (lengthIn bytes) (length bytes - lengthWidth) l)
+use Rattle.layout.specs.Layout.{kindNumber, canBe, headWidth, lengthWidth, lengthIn, kindIn, frameRows, frameOf}
+use Rattle.layout.proofs.Rows.{not-held-after, passed}
 
 -- bytes that pass
 pub record Framed (kind : Kind) (bytes : List ℕ) : Type 0 where
   pub long : headWidth ≤ length bytes
-  pub kind-is : kindIn bytes ≡ numberOf kind
+  pub kind-is : kindIn bytes ≡ kindNumber kind
   pub length-is : lengthIn bytes ≡ length bytes - lengthWidth
   pub can-be : canBe kind (lengthIn bytes) ≡ true
 
-pub framed : (kind : Kind) (bytes : List ℕ) → frameOf kind bytes ≡ answers done → Framed kind bytes
-unfolding frameOf
-framed kind bytes e =
-    go (ltb (length bytes) headWidth) (eqb (kindIn bytes) (numberOf kind)) (eqb (lengthIn bytes) (length bytes - lengthWidth)) (canBe kind (lengthIn bytes))
-    refl refl refl refl e
-  where
-    go : (a b d f : Bool) → ltb (length bytes) headWidth ≡ a → eqb (kindIn bytes) (numberOf kind) ≡ b
-        → eqb (lengthIn bytes) (length bytes - lengthWidth) ≡ d → canBe kind (lengthIn bytes) ≡ f
-        → cond a (refused LENGTH) (cond b (cond (d && f) (answers done) (refused LENGTH)) (refused KIND)) ≡ answers done → Framed kind bytes
-    go true b d f p q r s e = let z : _≡_ {A = ℕ} 0 1 = cc in absurd (omega arith)
-    go false false d f p q r s e = let z : _≡_ {A = ℕ} 0 1 = cc in absurd (omega arith)
-    go false true false f p q r s e = let z : _≡_ {A = ℕ} 0 1 = cc in absurd (omega arith)
-    go false true true false p q r s e = let z : _≡_ {A = ℕ} 0 1 = cc in absurd (omega arith)
-    go false true true true p q r s e =
-        record { long = ltb-false (length bytes) headWidth p; kind-is = eqb-true (kindIn bytes) (numberOf kind) q; length-is = eqb-true (lengthIn bytes) (length bytes - lengthWidth) r; can-be = s }
+module _ (kind : Kind) (bytes : List ℕ) where
+  pub framed : numberOf (frameRows kind bytes) ≡ 0 → Framed kind bytes
+  framed e =
+      let rows = frameRows kind bytes in
+      record {
+        long = ltb-false (length bytes) headWidth (not-held LENGTH rows e);
+        kind-is = eqb-true (kindIn bytes) (kindNumber kind) (not-false (eqb (kindIn bytes) (kindNumber kind)) (not-held KIND rows e));
+        length-is =
+            eqb-true (lengthIn bytes) (length bytes - lengthWidth)
+            (not-false (eqb (lengthIn bytes) (length bytes - lengthWidth)) (not-held-after 1 LENGTH rows e));
+        can-be = not-false (canBe kind (lengthIn bytes)) (not-held-after 2 LENGTH rows e);
+      }
 
-pub passes : (kind : Kind) (bytes : List ℕ) → Framed kind bytes → frameOf kind bytes ≡ answers done
-passes kind bytes f = frame-rest kind bytes (f .long) (f .kind-is) (f .length-is) ∙ rw (f .can-be)
+  pub passes : Framed kind bytes → numberOf (frameRows kind bytes) ≡ 0
+  passes f =
+      rw (
+        le-ltb (length bytes) headWidth (f .long),
+        eq-eqb (kindIn bytes) (kindNumber kind) (f .kind-is),
+        eq-eqb (lengthIn bytes) (length bytes - lengthWidth) (f .length-is),
+        f .can-be,
+      )
 
--- ---- what an answer tells of a test, and of what comes after it
-pub went-on : (test : Question NoValues) → says done ≡ saidBy test → test ≡ answers done
-went-on (went kept done) e = refl
-went-on (refused r) e = let z : _≡_ {A = ℕ} 0 1 = cc in absurd (omega arith)
+  -- as the test says it
+  pub passes-it : Framed kind bytes → frameOf kind bytes ≡ answers done
+  unfolding frameOf
+  passes-it f = goes (answers done) (frameRows kind bytes) (passes f)
 
-module _ {Kept Values : Type 0} (next : Outcome Kept Values) where
-  pub then-went : (test : Question NoValues) → test ≡ answers done → andThen test next ≡ next
-  then-went test e = rw e
-
-  pub then-refused : (test : Question NoValues) (n : ℕ) → refusal n ≡ saidBy test → refusal n ≡ saidBy (andThen test next)
-  then-refused (went kept done) n e = let z : _≡_ {A = ℕ} 0 1 = cc in absurd (omega arith)
-  then-refused (refused r) n e = let m : n ≡ number r = cc in ap refusal m
-
-  pub then-kept : (old : Kept) (test : Question NoValues) (n : ℕ) → refusal n ≡ saidBy test → keptBy old (andThen test next) ≡ old
-  then-kept old (went kept done) n e = let z : _≡_ {A = ℕ} 0 1 = cc in absurd (omega arith)
-  then-kept old (refused r) n e = refl
+  pub passed-it : frameOf kind bytes ≡ answers done → numberOf (frameRows kind bytes) ≡ 0
+  unfolding frameOf
+  passed-it e = passed (frameRows kind bytes) (sym (ap saidBy e))

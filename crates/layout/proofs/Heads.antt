@@ -11,12 +11,10 @@ use lib.Seq.{sets, sets-eq, take-at, drop-at, drop-append-add, drop-drop, length
 use Rattle.fields.specs.Field.{lowBytes}
 use Rattle.fields.proofs.Written.{low-length}
 use Rattle.layout.specs.declared.Kind.{Kind}
-use Rattle.refusals.specs.Refusal.{ROOM}
-use Rattle.refusals.specs.Outcome.{went, refused}
-use Rattle.layout.specs.Layout.{numberOf, kindWidth, headWidth, headOf, withHead, recordOf, writtenTo}
+use Rattle.layout.specs.Layout.{kindNumber, kindWidth, headWidth, headOf, withHead, recordOf}
 
 pub head-length : (kind : Kind) (following : ℕ) → length (headOf kind following) ≡ headWidth
-head-length kind following = simp length-append (omega (arith, low-length 4 following, low-length 2 (numberOf kind)))
+head-length kind following = simp length-append (omega (arith, low-length 4 following, low-length 2 (kindNumber kind)))
 
 pub head-into : (kind : Kind) (following : ℕ) (out : List ℕ) → headWidth ≤ length out → withHead kind following out ≡ headOf kind following ++ drop headWidth out
 unfolding withHead
@@ -27,21 +25,21 @@ unfolding withHead
 no-head kind following out h = rw (lt-leb headWidth (length out) h)
 
 pub head-put : (kind : Kind) (following : ℕ) (out first second : List ℕ) → headWidth ≤ length out
-    → first ≡ lowBytes (length (take 4 out)) following → second ≡ lowBytes (length (take 2 (drop 4 (first ++ drop 4 out)))) (numberOf kind)
+    → first ≡ lowBytes (length (take 4 out)) following → second ≡ lowBytes (length (take 2 (drop 4 (first ++ drop 4 out)))) (kindNumber kind)
     → putMid 4 2 (first ++ drop 4 out) second ≡ withHead kind following out
 head-put kind following out first second h e g =
     let f : first ≡ lowBytes 4 following = e ∙ ap (λ (w : ℕ). lowBytes w following) (length-take-le 4 out (omega arith)) in
     let l : length first ≡ 4 = ap length f ∙ low-length 4 following in
     let d : drop 4 (first ++ drop 4 out) ≡ drop 4 out = drop-at first (drop 4 out) 4 l in
-    let s : second ≡ lowBytes 2 (numberOf kind) =
-    g ∙ ap (λ (w : List ℕ). lowBytes (length (take 2 w)) (numberOf kind)) d
-    ∙ ap (λ (w : ℕ). lowBytes w (numberOf kind)) (length-take-le 2 (drop 4 out) (omega (arith, length-drop 4 out))) in
+    let s : second ≡ lowBytes 2 (kindNumber kind) =
+    g ∙ ap (λ (w : List ℕ). lowBytes (length (take 2 w)) (kindNumber kind)) d
+    ∙ ap (λ (w : ℕ). lowBytes w (kindNumber kind)) (length-take-le 2 (drop 4 out) (omega (arith, length-drop 4 out))) in
     ap (λ (w : List ℕ). take 4 (first ++ drop 4 out) ++ (second ++ drop 2 w)) d
     ∙ ap (λ (w : List ℕ). w ++ (second ++ drop 2 (drop 4 out))) (take-at first (drop 4 out) 4 l)
     ∙ ap (λ (w : List ℕ). first ++ (second ++ w)) (drop-drop 2 4 out)
     ∙ ap (λ (w : List ℕ). w ++ (second ++ drop 6 out)) f
     ∙ ap (λ (w : List ℕ). lowBytes 4 following ++ (w ++ drop 6 out)) s
-    ∙ sym (append-assoc (lowBytes 4 following) (lowBytes 2 (numberOf kind)) (drop 6 out))
+    ∙ sym (append-assoc (lowBytes 4 following) (lowBytes 2 (kindNumber kind)) (drop 6 out))
     ∙ sym (head-into kind following out h)
 
 pub record-length : (kind : Kind) (body : List ℕ) → length (recordOf kind body) ≡ headWidth + length body
@@ -65,13 +63,3 @@ record-put kind following out body e h =
     ∙ drop-drop (length body) headWidth out)
     ∙ ap (λ (n : ℕ). headOf kind n ++ body ++ drop (headWidth + length body) out) e
     ∙ ap (λ (n : ℕ). headOf kind (kindWidth + length body) ++ body ++ drop n out) (sym (record-length kind body))
-
--- ---- room
-module _ (out bytes : List ℕ) where
-  pub no-room : length out < length bytes → writtenTo out bytes ≡ refused ROOM
-  unfolding writtenTo
-  no-room h = rw (lt-leb (length bytes) (length out) h)
-
-  pub with-room : length bytes ≤ length out → writtenTo out bytes ≡ went (bytes ++ drop (length bytes) out) (length bytes)
-  unfolding writtenTo
-  with-room h = rw (le-leb (length bytes) (length out) h)

@@ -1,26 +1,18 @@
--- Fields of one width, one after the other: how many bytes they are; that numbers written so are read again, and numbers read so are written again.
+-- Fields of one width, one after the other: how many bytes they are; that numbers written so are read again, and numbers read so are written again; how large
+-- they are.
 -- Each is an induction on how many there are. Assumes nothing.
-use mathlib.Core.Path.{_≡_, refl, ap}
+use mathlib.Core.Path.{_≡_, refl, sym, ap, _∙_}
 use mathlib.Core.List.{List, [], _∷_, _++_, append-assoc}
 use Prim.Native.Nat.{ℕ, zero, suc, _+_, _*_, _^_, _≤_, _<_}
 use native.Mathlib.Omega.{arith}
 use lib.ListN.{length, getD, take, drop, length-append, length-drop}
+use lib.Pow.{pow-pos}
 use lib.Seq.{drop-at, take-add, getD-drop}
-use Rattle.fields.proofs.Written.{low-length, read-low, low-field}
-use Rattle.layout.specs.Layout.{Order, lowFirst, numberIn, bytesOf, numbersIn, allBytes}
+use Rattle.fields.specs.declared.Order.{Order}
+use Rattle.fields.specs.Field.{bytesOf}
+use Rattle.fields.proofs.Orders.{bytes-length, read-again, write-again, number-small}
+use Rattle.layout.specs.Layout.{numbersIn, allBytes}
 
--- ---- one field
-pub bytes-length : (order : Order) (width number : ℕ) → length (bytesOf order width number) ≡ width
-bytes-length lowFirst width number = low-length width number
-
-pub read-again : (order : Order) (width number : ℕ) (rest : List ℕ) → number < 2 ^ (8 * width) → numberIn order width (bytesOf order width number ++ rest) ≡ number
-read-again lowFirst width number rest h = read-low width number rest h
-
-pub write-again : (order : Order) (width : ℕ) (bytes : List ℕ) → ((i : ℕ) → getD bytes i 0 < 256) → width ≤ length bytes
-    → bytesOf order width (numberIn order width bytes) ≡ take width bytes
-write-again lowFirst width bytes b h = low-field bytes b 0 width (omega arith)
-
--- ---- many
 pub numbers-length : (order : Order) (width count : ℕ) (bytes : List ℕ) → length (numbersIn order width count bytes) ≡ count
 unfolding numbersIn
 numbers-length order width zero bytes = refl
@@ -53,3 +45,18 @@ all-written order width (suc count) bytes b h =
     rw (more, take-add width (width * count) bytes, write-again order width bytes b (omega arith))
     (ap {B = List ℕ} (λ l. take width bytes ++ l)
     (all-written order width count (drop width bytes) (λ i. rw (getD-drop width bytes i 0) (b (width + i))) (omega (arith, length-drop width bytes))))
+
+-- each number read fits its field
+pub numbers-small : (order : Order) (width count : ℕ) (bytes : List ℕ) → ((i : ℕ) → getD bytes i 0 < 256) → (i : ℕ) → getD (numbersIn order width count bytes) i 0 < 2 ^ (8 * width)
+unfolding numbersIn
+numbers-small order width zero bytes b i = pow-pos (8 * width)
+numbers-small order width (suc count) bytes b zero = number-small order width bytes b
+numbers-small order width (suc count) bytes b (suc i) = numbers-small order width count (drop width bytes) (λ j. rw (getD-drop width bytes j 0) (b (width + j))) i
+
+-- the bytes of numbers and then more of them
+pub all-append : (order : Order) (width : ℕ) (a b : List ℕ) → allBytes order width (a ++ b) ≡ allBytes order width a ++ allBytes order width b
+unfolding allBytes
+all-append order width [] b = refl
+all-append order width (x ∷ a) b =
+    ap (λ (l : List ℕ). bytesOf order width x ++ l) (all-append order width a b)
+    ∙ sym (append-assoc (bytesOf order width x) (allBytes order width a) (allBytes order width b))

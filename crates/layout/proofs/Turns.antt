@@ -1,5 +1,5 @@
 -- One turn of a loop that reads or writes fields of one width: what is left gives what all of it gives. Assumes nothing.
-use mathlib.Core.Path.{_≡_, sym, ap}
+use mathlib.Core.Path.{_≡_, sym, ap, _∙_}
 use mathlib.Core.List.{List, [], _∷_, _++_, append-assoc, append-nil}
 use Prim.Native.Nat.{ℕ, suc, _+_, _-_, _≤_, _<_}
 use native.Mathlib.Numerals.{add-one}
@@ -7,18 +7,32 @@ use native.Mathlib.Omega.{arith}
 use lib.ListN.{length, getD, take, drop, set}
 use lib.Seq.{sets, drop-cons, drop-drop, take-suc-set, take-all}
 use lib.ListN.{drop-of-length-le}
-use Rattle.layout.specs.Layout.{Order, numberIn, bytesOf, numbersIn, allBytes}
-use Rattle.layout.proofs.Runs.{bytes-length}
+use Rattle.fields.specs.declared.Order.{Order}
+use Rattle.fields.specs.Field.{numberIn, bytesOf}
+use Rattle.fields.proofs.Orders.{bytes-length}
+use Rattle.layout.specs.Layout.{numbersIn, allBytes}
 
--- ---- reading into a list of numbers
+-- ---- reading
+-- before the first turn all are left
+pub all-left : (order : Order) (width : ℕ) (bytes : List ℕ) (at n : ℕ) → numbersIn order width (n - 0) (drop (at + 0) bytes) ≡ numbersIn order width n (drop at bytes)
+all-left order width bytes at n =
+    ap (λ (k : ℕ). numbersIn order width k (drop (at + 0) bytes)) {x = n - 0} {y = n} (omega arith)
+    ∙ ap (λ (k : ℕ). numbersIn order width n (drop k bytes)) {x = at + 0} {y = at} (omega arith)
+
+-- a field, and the others
+pub next-number : (order : Order) (width : ℕ) (bytes : List ℕ) (at next n k value : ℕ) → n ≡ suc k → next ≡ at + width
+    → value ≡ numberIn order width (drop at bytes) → numbersIn order width n (drop at bytes) ≡ value ∷ numbersIn order width k (drop next bytes)
+unfolding numbersIn
+next-number order width bytes at next n k value more on is = rw (more, on, ← drop-drop width at bytes, is)
+
 pub read-turn : (order : Order) (width : ℕ) (bytes numbers : List ℕ) (at next i n value : ℕ) → i < length numbers → n ≡ suc (length numbers - (i + 1))
     → value ≡ numberIn order width (drop at bytes) → next ≡ at + width
     → take (i + 1) (set numbers i value) ++ numbersIn order width (length numbers - (i + 1)) (drop next bytes)
     ≡ take i numbers ++ numbersIn order width n (drop at bytes)
-unfolding numbersIn
 read-turn order width bytes numbers at next i n value h w v e =
-    rw (w, add-one i, take-suc-set numbers i value h, e, ← drop-drop width at bytes, v)
-    (append-assoc (take i numbers) (numberIn order width (drop at bytes) ∷ []) (numbersIn order width (length numbers - suc i) (drop width (drop at bytes))))
+    rw (next-number order width bytes at next n (length numbers - (i + 1)) value w e v)
+    (rw (add-one i, take-suc-set numbers i value h)
+    (append-assoc (take i numbers) (value ∷ []) (numbersIn order width (length numbers - suc i) (drop next bytes))))
 
 pub read-end : (order : Order) (width : ℕ) (bytes numbers : List ℕ) (i : ℕ) → length numbers ≤ i
     → take i numbers ++ numbersIn order width (length numbers - i) bytes ≡ numbers

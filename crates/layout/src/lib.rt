@@ -1,14 +1,20 @@
 // What records have in common: the length and the kind in front, and how a record is written.
+use fields::Order;
 use refusals::Answer;
 ghost use mathlib.Core.Path.{_≡_};
 ghost use Rattle.refusals.specs.Outcome.{saidBy};
 ghost use Rattle.refusals.specs.Answer.{said};
-ghost use Rattle.layout.specs.Layout.{numberOf, canBe, frameOf, withHead};
+ghost use Rattle.layout.specs.Layout.{kindNumber, orderOf, canBe, frameOf, withHead};
 
 // The bytes of the length, and of length and kind.
-const LENGTH_BYTES: usize = 4;
+pub const LENGTH_BYTES: usize = 4;
 
-const HEAD: usize = 6;
+pub const HEAD: usize = 6;
+
+// The length of a histogram's record, and the least of a queue's: what follows the length field.
+pub const HISTOGRAM_LENGTH: u64 = 4002;
+
+const QUEUE_LEAST: u64 = 10;
 
 // The kinds of record.
 pub enum Kind {
@@ -22,12 +28,22 @@ pub enum Written {
     Refused(u8),
 }
 
-fn number_of(kind: Kind) -> u64
-    ensures { λ r. ⌜ r ≡ numberOf kind ⌝ }
+fn kind_number(kind: Kind) -> u64
+    ensures { λ r. ⌜ r ≡ kindNumber kind ⌝ }
 {
     match kind {
         Kind::Histogram => 1,
         Kind::Queue => 2,
+    }
+}
+
+// The order of the bytes in the fields of a body.
+pub fn order_of(kind: Kind) -> Order
+    ensures { λ r. ⌜ r ≡ orderOf kind ⌝ }
+{
+    match kind {
+        Kind::Histogram => Order::LowFirst,
+        Kind::Queue => Order::LowFirst,
     }
 }
 
@@ -36,8 +52,8 @@ fn can_be(kind: Kind, length: u64) -> bool
     ensures { λ r. ⌜ r ≡ canBe kind length ⌝ }
 {
     match kind {
-        Kind::Histogram => length == 4002,
-        Kind::Queue => 10 <= length,
+        Kind::Histogram => length == HISTOGRAM_LENGTH,
+        Kind::Queue => QUEUE_LEAST <= length,
     }
 }
 
@@ -48,7 +64,7 @@ pub fn frame(kind: Kind, bytes: &[u8]) -> Answer
     if bytes.len() < HEAD {
         return Answer::Refused(refusals::LENGTH);
     }
-    if fields::number_at(bytes, LENGTH_BYTES, 2) != number_of(kind) {
+    if fields::number_at(bytes, LENGTH_BYTES, 2) != kind_number(kind) {
         return Answer::Refused(refusals::KIND);
     }
     let length = fields::number_at(bytes, 0, LENGTH_BYTES);
@@ -67,7 +83,11 @@ pub fn put_head(kind: Kind, length: u64, out: &mut [u8])
     ensures { λ _. ⌜ now (out .exit) ≡ withHead kind length (now (out .entry)) ⌝ }
 {
     if HEAD <= out.len() {
-        fields::put_number(&mut out[..LENGTH_BYTES], length);
-        fields::put_number(&mut out[LENGTH_BYTES..HEAD], number_of(kind));
+        fields::put_number(Order::LowFirst, &mut out[..LENGTH_BYTES], length);
+        fields::put_number(
+            Order::LowFirst,
+            &mut out[LENGTH_BYTES..HEAD],
+            kind_number(kind),
+        );
     }
 }

@@ -3,7 +3,7 @@ ghost use mathlib.Core.Path.{_≡_};
 ghost use Rattle.queue.specs.Queue.{suits, started, firstPart, stands, partsOf};
 
 // The longest queue: an hour of blocks, one every 100 ms.
-const LONGEST: usize = 36000;
+pub const LONGEST: usize = 36000;
 
 // A queue of at most `maximum` energies: the oldest stands at place `head` of the store, and `held` are there.
 pub struct Queue {

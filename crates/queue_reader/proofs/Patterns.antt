@@ -3,12 +3,12 @@
 use mathlib.Core.Path.{_≡_, refl, sym, ap, subst, _∙_}
 use mathlib.Core.Bool.{Bool, true, false, not, _&&_, _||_, cond, true≢false}
 use mathlib.Core.List.{List, [], _∷_}
-use Prim.Native.Nat.{ℕ, zero, suc, _+_, _-_, _/_, _%_, _<_, _≤_}
+use Prim.Native.Nat.{ℕ, zero, suc, _+_, _/_, _%_, _<_, _≤_}
 use native.Mathlib.Numerals.{add-one}
 use native.Mathlib.Omega.{arith}
 use borrow.Author.Tests.{ltb-true, ltb-false, lt-ltb, le-ltb, leb-true, leb-false, le-leb, eqb-true, eqb-false, eq-eqb, ne-eqb}
 use lib.ListN.{drop, set}
-use lib.Seq.{sets, drop-drop}
+use lib.Seq.{sets}
 use lib.Arith.{lt-of-le-ne}
 use lib.Dec.{T, eqb, leb, ltb, eqb→eq}
 use lib.Ieee.Positive.{positive, above, above-of-le}
@@ -19,9 +19,12 @@ use Rattle.floats.proofs.Nan.{only-nan, nan-pattern, to-infinity, past-infinity
 use Rattle.histogram_bins.specs.Energy.{dropped}
 use Rattle.tables.specs.Tables.{boundaryAt}
 use Rattle.tables.proofs.Rules.{boundary-positive}
-use Rattle.layout.specs.Layout.{Order, numberIn, numbersIn}
+use Rattle.fields.specs.declared.Order.{Order}
+use Rattle.fields.specs.Field.{numberIn}
+use Rattle.layout.specs.Layout.{numbersIn}
+use Rattle.layout.proofs.Turns.{next-number}
 use Rattle.queue_reader.specs.QueueRecord.{nanPattern, patternFits, every, allFit, energiesOf}
-use Rattle.queue_reader.specs.Finite.{infinityPattern, finiteFits, allFinite}
+use Rattle.queue_reader.specs.Inner.{infinityPattern, finiteFits, allFinite}
 
 -- ---- which patterns fit
 own : (pattern : ℕ) → T (eqb pattern nanPattern) → isNan (ofBits binary64 pattern) ≡ true
@@ -160,34 +163,27 @@ told-apart pattern = go (ltb pattern infinityPattern) refl
         ∙ fits-is pattern
 
 -- ---- one after the other
--- before the first turn all are left
-pub all-left : (order : Order) (width : ℕ) (bytes : List ℕ) (at n : ℕ) → numbersIn order width (n - 0) (drop (at + 0) bytes) ≡ numbersIn order width n (drop at bytes)
-all-left order width bytes at n =
-    ap (λ (k : ℕ). numbersIn order width k (drop (at + 0) bytes)) {x = n - 0} {y = n} (omega arith)
-    ∙ ap (λ (k : ℕ). numbersIn order width n (drop k bytes)) {x = at + 0} {y = at} (omega arith)
-
 module _ (order : Order) (width : ℕ) (bytes : List ℕ) (at next n k value : ℕ) (more : n ≡ suc k) (on : next ≡ at + width)
     (is : value ≡ numberIn order width (drop at bytes)) where
   -- a field, and the others
-  pub next-number : numbersIn order width n (drop at bytes) ≡ value ∷ numbersIn order width k (drop next bytes)
-  unfolding numbersIn
-  next-number = rw (more, on, ← drop-drop width at bytes, is)
+  taken : numbersIn order width n (drop at bytes) ≡ value ∷ numbersIn order width k (drop next bytes)
+  taken = next-number order width bytes at next n k value more on is
 
   pub test-turn : (test : ℕ → Bool) (found passes : Bool) → passes ≡ test value
       → (found && passes) && every test (numbersIn order width k (drop next bytes)) ≡ found && every test (numbersIn order width n (drop at bytes))
   unfolding every
-  test-turn test true passes e = rw (next-number, e)
+  test-turn test true passes e = rw (taken, e)
   test-turn test false passes e = refl
 
   -- where all pass, this one does, and the others
   pub each : (test : ℕ → Bool) → every test (numbersIn order width n (drop at bytes)) ≡ true
       → (test value ≡ true) × (every test (numbersIn order width k (drop next bytes)) ≡ true)
   unfolding every
-  each test h = both (test value) (every test (numbersIn order width k (drop next bytes))) (sym (ap (every test) next-number) ∙ h)
+  each test h = both (test value) (every test (numbersIn order width k (drop next bytes))) (sym (ap (every test) taken) ∙ h)
 
   pub store-turn : (store : List Float) (i : ℕ) (energy : Float) → energy ≡ ofBits binary64 value
       → sets (set store i energy) (i + 1) (energiesOf (numbersIn order width k (drop next bytes))) ≡ sets store i (energiesOf (numbersIn order width n (drop at bytes)))
-  store-turn store i energy e = rw (next-number, add-one i, e)
+  store-turn store i energy e = rw (taken, add-one i, e)
 
 pub test-end : (order : Order) (width n : ℕ) (bytes : List ℕ) (test : ℕ → Bool) (found : Bool) → n ≡ 0 → found && every test (numbersIn order width n bytes) ≡ found
 unfolding numbersIn every

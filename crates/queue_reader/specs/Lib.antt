@@ -1,2 +1,2 @@
 pub mod QueueRecord
-pub mod Finite
+pub mod Inner

@@ -1,18 +1,21 @@
 -- The record of a queue (01, 'Records'): "Kind 2: u32 maximum 1..36,000, u32 held, then that many u64 float patterns, oldest first; none below boundary 0;
 -- NaN only as 7FF8000000000000 hex, so written."
 use Prim.Native.Nat.{ℕ, _+_, _*_}
-use mathlib.Core.Bool.{Bool, true, not, _&&_, _||_, cond}
+use mathlib.Core.Bool.{Bool, true, not, _&&_, _||_}
 use mathlib.Core.List.{List, [], _∷_, _++_, map}
 use lib.Dec.{eqb, leb}
 use lib.ListN.{length, drop}
 use lib.Ieee.{Float, binary64, ofBits, toBits, isNan}
 use Rattle.refusals.specs.Refusal.{STORE, LENGTH, CONTENT}
-use Rattle.refusals.specs.Outcome.{Outcome, went, refused, Said, says, refusal}
+use Rattle.refusals.specs.Outcome.{Outcome, went, Said, says, refusal}
+use Rattle.refusals.specs.Rows.{Row, row, byRows}
+use Rattle.fields.specs.declared.Order.{Order}
+use Rattle.fields.specs.Field.{numberIn}
 use Rattle.queue.specs.declared.Queue.{Queue}
 use Rattle.histogram_bins.specs.Energy.{dropped}
 use Rattle.queue.specs.Queue.{longest}
 use Rattle.layout.specs.declared.Kind.the-variants.{Queue as QueueKind}
-use Rattle.layout.specs.Layout.{orderOf, numberIn, numbersIn, lengthIn, frameOf, andThen}
+use Rattle.layout.specs.Layout.{lengthWidth, headWidth, queueLeast, orderOf, numbersIn, lengthIn, frameRows}
 use Rattle.queue_reader.specs.declared.Received.{Received}
 use Rattle.queue_reader.specs.declared.Received.the-variants.{Held, Refused}
 
@@ -29,23 +32,23 @@ abbrev pub energyWidth : ℕ
 energyWidth = 8
 
 abbrev pub maximumAt : ℕ
-maximumAt = 6
+maximumAt = headWidth
 
 abbrev pub heldAt : ℕ
-heldAt = 10
+heldAt = maximumAt + numberWidth
 
 -- where the energies start is the least length of a record
 abbrev pub leastLength : ℕ
-leastLength = 14
+leastLength = lengthWidth + queueLeast
 
-abbrev pub maximumIn : List ℕ → ℕ
-maximumIn bytes = numberIn (orderOf QueueKind) numberWidth (drop maximumAt bytes)
+abbrev pub maximumIn : Order → List ℕ → ℕ
+maximumIn order bytes = numberIn order numberWidth (drop maximumAt bytes)
 
-abbrev pub heldIn : List ℕ → ℕ
-heldIn bytes = numberIn (orderOf QueueKind) numberWidth (drop heldAt bytes)
+abbrev pub heldIn : Order → List ℕ → ℕ
+heldIn order bytes = numberIn order numberWidth (drop heldAt bytes)
 
-abbrev pub patternsIn : List ℕ → List ℕ
-patternsIn bytes = numbersIn (orderOf QueueKind) energyWidth (heldIn bytes) (drop leastLength bytes)
+abbrev pub patternsIn : Order → List ℕ → List ℕ
+patternsIn order bytes = numbersIn order energyWidth (heldIn order bytes) (drop leastLength bytes)
 
 -- ---- floats and their patterns
 abbrev pub nanPattern : ℕ
@@ -76,22 +79,24 @@ allFit patterns = every patternFits patterns
 
 -- ---- reading
 -- "A read queue starts at place 0 with head 0; other places stay."
-unfoldable pub stored : List ℕ → List Float → List Float
-stored bytes store = energiesOf (patternsIn bytes) ++ drop (heldIn bytes) store
+unfoldable pub stored : Order → List ℕ → List Float → List Float
+stored order bytes store = energiesOf (patternsIn order bytes) ++ drop (heldIn order bytes) store
 
-abbrev pub queueIn : List ℕ → Queue
-queueIn bytes = record { maximum = maximumIn bytes; head = 0; held = heldIn bytes }
+abbrev pub queueIn : Order → List ℕ → Queue
+queueIn order bytes = record { maximum = maximumIn order bytes; head = 0; held = heldIn order bytes }
 
 -- "maximum or held CONTENT; length unlike 10 + 8·held LENGTH; energies CONTENT; STORE"
-unfoldable pub bodyRead : List ℕ → List Float → Outcome (List Float) Queue
-bodyRead bytes store =
-    cond (numbersFit (maximumIn bytes) (heldIn bytes))
-    (cond (eqb (lengthIn bytes) (10 + energyWidth * heldIn bytes))
-    (cond (allFit (patternsIn bytes))
-    (cond (eqb (length store) (maximumIn bytes)) (went (stored bytes store) (queueIn bytes)) (refused STORE))
-    (refused CONTENT))
-    (refused LENGTH))
-    (refused CONTENT)
+abbrev pub bodyRows : Order → List ℕ → List Float → List Row
+bodyRows order bytes store =
+    row CONTENT (not (numbersFit (maximumIn order bytes) (heldIn order bytes)))
+    ∷ row LENGTH (not (eqb (lengthIn bytes) (queueLeast + energyWidth * heldIn order bytes)))
+    ∷ row CONTENT (not (allFit (patternsIn order bytes)))
+    ∷ row STORE (not (eqb (length store) (maximumIn order bytes)))
+    ∷ []
+
+-- "Read order: under 6 bytes LENGTH; KIND; length field unlike the bytes given, kind 2 under 10, LENGTH", and then the body's
+abbrev pub readQueueRows : List ℕ → List Float → List Row
+readQueueRows bytes store = frameRows QueueKind bytes ++ bodyRows (orderOf QueueKind) bytes store
 
 unfoldable pub readQueue : List ℕ → List Float → Outcome (List Float) Queue
-readQueue bytes store = andThen (frameOf QueueKind bytes) (bodyRead bytes store)
+readQueue bytes store = byRows (readQueueRows bytes store) (went (stored (orderOf QueueKind) bytes store) (queueIn (orderOf QueueKind) bytes))

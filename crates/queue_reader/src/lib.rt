@@ -1,4 +1,7 @@
 // Records of kind 2: the energies of a queue, oldest first, read.
+use fields::Order;
+use floats::INFINITY_PATTERN;
+use floats::NAN_PATTERN;
 use layout::Kind;
 use queue::Queue;
 use refusals::Answer;
@@ -9,40 +12,32 @@ ghost use lib.ListN.{length, drop};
 ghost use lib.Seq.{sets};
 ghost use lib.Ieee.{binary64, ofBits};
 ghost use Rattle.refusals.specs.Outcome.{saidBy, keptBy};
-ghost use Rattle.fields.specs.Field.{fieldAt};
-ghost use Rattle.layout.specs.Layout.{lowFirst, numbersIn, lengthIn};
+ghost use Rattle.fields.specs.Field.{numberIn};
+ghost use Rattle.layout.specs.Layout.{numbersIn, lengthIn, lengthWidth};
 ghost use Rattle.queue_reader.specs.QueueRecord.{
+  numberWidth,
   energyWidth,
   leastLength,
   numbersFit,
   patternFits,
   allFit,
   energiesOf,
-  bodyRead,
   readQueue,
   said,
 };
-ghost use Rattle.queue_reader.specs.Finite.{finiteFits, allFinite};
+ghost use Rattle.queue_reader.specs.Inner.{finiteFits, allFinite, bodyRead};
+
+// The bytes of a number, and of an energy.
+pub const NUMBER: usize = 4;
+
+pub const ENERGY: usize = 8;
 
 // Where the fields of the body start: the maximum, the number of energies held, and the energies.
-const MAXIMUM_AT: usize = 6;
+pub const MAXIMUM_AT: usize = layout::HEAD;
 
-const HELD_AT: usize = 10;
+pub const HELD_AT: usize = MAXIMUM_AT + NUMBER;
 
-const ENERGIES_AT: usize = 14;
-
-const NUMBER: usize = 4;
-
-const ENERGY: usize = 8;
-
-// The longest queue.
-const LONGEST: usize = 36000;
-
-// The one pattern of NaN.
-const NAN_PATTERN: u64 = 0x7FF8_0000_0000_0000;
-
-// The pattern of infinity. Below it are the patterns of the finite floats that are not negative, and no NaN's.
-const INFINITY_PATTERN: u64 = 0x7FF0_0000_0000_0000;
+pub const ENERGIES_AT: usize = HELD_AT + NUMBER;
 
 // What a reader answers.
 pub enum Received {
@@ -56,7 +51,7 @@ fn numbers_fit(maximum: usize, held: usize) -> bool
     if maximum < 1 {
         return false;
     }
-    if maximum > LONGEST {
+    if maximum > queue::LONGEST {
         return false;
     }
     held <= maximum
@@ -90,86 +85,94 @@ fn energy_of(pattern: u64) -> f64
     f64::from_bits(pattern)
 }
 
-fn pattern_at(bytes: &[u8], at: usize) -> u64
-    requires { ⌜ at + energyWidth ≤ length (now bytes) ⌝ }
-    ensures { λ r. ⌜ r ≡ fieldAt (now (bytes .entry)) at energyWidth ⌝ }
+fn number_at(order: Order, bytes: &[u8], at: usize) -> usize
+    requires { ⌜ at + numberWidth ≤ length (now bytes) ⌝ }
+    ensures { λ r. ⌜ r ≡ numberIn order numberWidth (drop at (now (bytes .entry))) ⌝ }
 {
-    let end = at + ENERGY;
-    words::double_word(&bytes[at..end])
+    let end = at + NUMBER;
+    words::word(order, &bytes[at..end]) as usize
 }
 
-// Every pattern is looked at, also past one that does not fit: without a way out the compiler tests several at once.
-fn all_fit(bytes: &[u8], at: usize, count: usize) -> bool
+fn pattern_at(order: Order, bytes: &[u8], at: usize) -> u64
+    requires { ⌜ at + energyWidth ≤ length (now bytes) ⌝ }
+    ensures { λ r. ⌜ r ≡ numberIn order energyWidth (drop at (now (bytes .entry))) ⌝ }
+{
+    let end = at + ENERGY;
+    words::double_word(order, &bytes[at..end])
+}
+
+// Every pattern is looked at, also past one that does not fit.
+fn all_fit(order: Order, bytes: &[u8], at: usize, count: usize) -> bool
     requires { ⌜ at + energyWidth * count ≤ length (now bytes) ⌝ }
-    ensures { λ r. ⌜ r ≡ allFit (numbersIn lowFirst energyWidth count (drop at (now (bytes .entry)))) ⌝ }
+    ensures { λ r. ⌜ r ≡ allFit (numbersIn order energyWidth count (drop at (now (bytes .entry)))) ⌝ }
 {
     let mut fit = true;
     let mut i = 0;
     while i < count {
-        fit = fit & pattern_fits(pattern_at(bytes, at + ENERGY * i));
+        fit = fit & pattern_fits(pattern_at(order, bytes, at + ENERGY * i));
         i += 1;
     }
     fit
 }
 
-fn all_finite(bytes: &[u8], at: usize, count: usize) -> bool
+fn all_finite(order: Order, bytes: &[u8], at: usize, count: usize) -> bool
     requires { ⌜ at + energyWidth * count ≤ length (now bytes) ⌝ }
-    ensures { λ r. ⌜ r ≡ allFinite (numbersIn lowFirst energyWidth count (drop at (now (bytes .entry)))) ⌝ }
+    ensures { λ r. ⌜ r ≡ allFinite (numbersIn order energyWidth count (drop at (now (bytes .entry)))) ⌝ }
 {
     let mut finite = true;
     let mut i = 0;
     while i < count {
-        finite = finite & finite_fits(pattern_at(bytes, at + ENERGY * i));
+        finite = finite & finite_fits(pattern_at(order, bytes, at + ENERGY * i));
         i += 1;
     }
     finite
 }
 
 // Infinity and NaN are rare, and the test that lets them in takes longer.
-fn energies_fit(bytes: &[u8], at: usize, count: usize) -> bool
+fn energies_fit(order: Order, bytes: &[u8], at: usize, count: usize) -> bool
     requires { ⌜ at + energyWidth * count ≤ length (now bytes) ⌝ }
-    ensures { λ r. ⌜ r ≡ allFit (numbersIn lowFirst energyWidth count (drop at (now (bytes .entry)))) ⌝ }
+    ensures { λ r. ⌜ r ≡ allFit (numbersIn order energyWidth count (drop at (now (bytes .entry)))) ⌝ }
 {
-    if all_finite(bytes, at, count) {
+    if all_finite(order, bytes, at, count) {
         return true;
     }
-    all_fit(bytes, at, count)
+    all_fit(order, bytes, at, count)
 }
 
-fn read_energies(bytes: &[u8], at: usize, count: usize, store: &mut [f64])
+fn read_energies(order: Order, bytes: &[u8], at: usize, count: usize, store: &mut [f64])
     requires { ⌜ (at + energyWidth * count ≤ length (now bytes))
         × (count ≤ length (now store))
-        × (allFit (numbersIn lowFirst energyWidth count (drop at (now bytes))) ≡ true) ⌝ }
-    ensures { λ _. ⌜ now (store .exit) ≡ sets (now (store .entry)) 0 (energiesOf (numbersIn lowFirst energyWidth count (drop at (now (bytes .entry))))) ⌝ }
+        × (allFit (numbersIn order energyWidth count (drop at (now bytes))) ≡ true) ⌝ }
+    ensures { λ _. ⌜ now (store .exit) ≡ sets (now (store .entry)) 0 (energiesOf (numbersIn order energyWidth count (drop at (now (bytes .entry))))) ⌝ }
 {
     let mut i = 0;
     while i < count {
-        store[i] = energy_of(pattern_at(bytes, at + ENERGY * i));
+        store[i] = energy_of(pattern_at(order, bytes, at + ENERGY * i));
         i += 1;
     }
 }
 
 // What comes after the length and the kind. Every check is made before an energy is written.
-fn read_body(bytes: &[u8], store: &mut [f64]) -> Received
-    requires { ⌜ (leastLength ≤ length (now bytes)) × (lengthIn (now bytes) ≡ length (now bytes) - 4) ⌝ }
-    ensures { λ r. ⌜ (said r ≡ saidBy (bodyRead (now (bytes .entry)) (now (store .entry))))
-        × (now (store .exit) ≡ keptBy (now (store .entry)) (bodyRead (now (bytes .entry)) (now (store .entry)))) ⌝ }
+fn read_body(order: Order, bytes: &[u8], store: &mut [f64]) -> Received
+    requires { ⌜ (leastLength ≤ length (now bytes)) × (lengthIn (now bytes) ≡ length (now bytes) - lengthWidth) ⌝ }
+    ensures { λ r. ⌜ (said r ≡ saidBy (bodyRead order (now (bytes .entry)) (now (store .entry))))
+        × (now (store .exit) ≡ keptBy (now (store .entry)) (bodyRead order (now (bytes .entry)) (now (store .entry)))) ⌝ }
 {
-    let maximum = fields::number_at(bytes, MAXIMUM_AT, NUMBER) as usize;
-    let held = fields::number_at(bytes, HELD_AT, NUMBER) as usize;
+    let maximum = number_at(order, bytes, MAXIMUM_AT);
+    let held = number_at(order, bytes, HELD_AT);
     if !numbers_fit(maximum, held) {
         return Received::Refused(refusals::CONTENT);
     }
     if bytes.len() != ENERGIES_AT + ENERGY * held {
         return Received::Refused(refusals::LENGTH);
     }
-    if !energies_fit(bytes, ENERGIES_AT, held) {
+    if !energies_fit(order, bytes, ENERGIES_AT, held) {
         return Received::Refused(refusals::CONTENT);
     }
     if store.len() != maximum {
         return Received::Refused(refusals::STORE);
     }
-    read_energies(bytes, ENERGIES_AT, held, store);
+    read_energies(order, bytes, ENERGIES_AT, held, store);
     Received::Held(Queue {
         maximum,
         head: 0,
@@ -183,7 +186,7 @@ pub fn read_queue(bytes: &[u8], store: &mut [f64]) -> Received
         × (now (store .exit) ≡ keptBy (now (store .entry)) (readQueue (now (bytes .entry)) (now (store .entry)))) ⌝ }
 {
     match layout::frame(Kind::Queue, bytes) {
-        Answer::Done => read_body(bytes, store),
+        Answer::Done => read_body(layout::order_of(Kind::Queue), bytes, store),
         Answer::Refused(number) => Received::Refused(number),
     }
 }

@@ -1,36 +1,51 @@
 -- Reading what was written gives back the maximum, how many are held and every energy, from place 0; writing what was read gives back the same bytes. So a
 -- record has one reading, whatever the store held, and its bytes are determined by the queue in order. Assumes nothing.
-use mathlib.Core.Path.{_≡_, refl, sym, ap, _∙_}
-use mathlib.Core.Bool.{Bool, true, false, cond}
+use mathlib.Core.Path.{_≡_, sym, ap, _∙_}
+use mathlib.Core.Bool.{true}
 use mathlib.Core.List.{List, [], _∷_, _++_, append-assoc, append-nil}
 use Prim.Native.Nat.{ℕ, zero, suc, _+_, _-_, _*_, _^_, _≤_, _<_}
 use native.Mathlib.Omega.{arith}
-use borrow.Author.Tests.{le-leb}
-use lib.Dec.{eqb}
+use borrow.Author.Tests.{le-leb, le-ltb}
 use lib.ListN.{length, getD, take, drop, length-append, length-drop, take-append-drop}
 use lib.Seq.{take-at, drop-at, drop-drop, getD-drop, take-add}
 use lib.Ieee.{Float, binary64}
 use lib.Ieee.Bits.{toBits-lt}
-use lib.Pow.{pow-pos}
-use Rattle.refusals.specs.Refusal.{STORE, LENGTH, CONTENT}
-use Rattle.refusals.specs.Outcome.{Question, went, refused, answers, done, NoValues, saidBy}
-use Rattle.fields.specs.Field.{fieldAt, lowBytes}
-use Rattle.fields.proofs.Fields.{small}
-use Rattle.fields.proofs.Written.{low-length, read-low, low-field}
-use Rattle.queue.specs.declared.Queue.{Queue}
-use Rattle.queue.specs.Queue.{longest, over, heldOf}
+use Rattle.refusals.specs.Outcome.{went, answers, done, saidBy}
+use Rattle.fields.specs.declared.Order.{Order}
+use Rattle.fields.specs.Field.{numberIn, bytesOf}
+use Rattle.fields.proofs.Orders.{bytes-length, read-again, write-again}
+use Rattle.queue.specs.Queue.{longest, over, heldOf, firstPart}
 use Rattle.history.specs.Set.{noneBelow}
 use Rattle.queue.proofs.Ring.{Suited, suits-it}
+use Rattle.queue.proofs.Held.{held-parts}
+use Rattle.layout.specs.declared.Kind.{Kind}
 use Rattle.layout.specs.declared.Kind.the-variants.{Queue as QueueKind}
-use Rattle.layout.specs.Layout.{Order, lowFirst, numbersIn, allBytes, lengthIn, frameOf, andThen, recordOf}
-use Rattle.layout.proofs.Frames.{Framed, framed, passes, then-went}
-use Rattle.layout.proofs.Heads.{with-room}
-use Rattle.layout.proofs.Runs.{numbers-length}
+use Rattle.layout.specs.Layout.{kindWidth, headWidth, queueLeast, orderOf, numbersIn, allBytes, lengthIn, frameOf, recordOf}
+use Rattle.layout.proofs.Rows.{same-said}
+use Rattle.layout.proofs.Frames.{Framed, framed, passes, passed-it}
+use Rattle.layout.proofs.Runs.{numbers-small}
 use Rattle.layout.proofs.Again.{record-body, record-passes, record-again, whole-read, whole-written}
-use Rattle.queue_reader.specs.QueueRecord.{maximumIn, heldIn, patternsIn, numbersFit, allFit, energiesOf, patternsOf, stored, queueIn, bodyRead, readQueue}
-use Rattle.queue_reader.proofs.Cases.{body-went}
+use Rattle.queue_reader.specs.QueueRecord.{
+  numberWidth,
+  energyWidth,
+  maximumAt,
+  heldAt,
+  leastLength,
+  maximumIn,
+  heldIn,
+  patternsIn,
+  numbersFit,
+  allFit,
+  energiesOf,
+  patternsOf,
+  stored,
+  queueIn,
+  readQueueRows,
+  readQueue,
+}
+use Rattle.queue_reader.proofs.Cases.{read-behind, body-passes, body-went, energies-count}
 use Rattle.queue_writer.specs.Writing.{bodyOf, queueRecord, writeQueue}
-use Rattle.queue_writer.proofs.Places.{patterns-length, held-in}
+use Rattle.queue_writer.proofs.Places.{patterns-length}
 use Rattle.queue_writer.proofs.Cases.{body-length, whole-length}
 use Rattle.queue_writer.proofs.Patterns.{Doubles, energies-again, patterns-in, patterns-again, energies-in}
 
@@ -44,165 +59,162 @@ patterns-small [] d i = omega arith
 patterns-small (energy ∷ rest) d zero = toBits-lt binary64 energy (d .0)
 patterns-small (energy ∷ rest) d (suc i) = patterns-small rest (d .1) i
 
--- ---- the fields of what was written
-module _ (maximum : ℕ) (energies : List Float) (few : maximum ≤ longest) (within : length energies ≤ maximum) where
+-- ---- the fields of what was written, in an order of the bytes
+module _ (kind : Kind) (order : Order) (maximum : ℕ) (energies : List Float) (few : maximum ≤ longest) (within : length energies ≤ maximum) where
+  abbrev bytes : List ℕ
+  bytes = recordOf kind (bodyOf order maximum energies)
+
   abbrev first : List ℕ
-  first = lowBytes 4 maximum
+  first = bytesOf order numberWidth maximum
 
   abbrev second : List ℕ
-  second = lowBytes 4 (length energies)
+  second = bytesOf order numberWidth (length energies)
 
   abbrev rest : List ℕ
-  rest = allBytes lowFirst 8 (patternsOf energies)
+  rest = allBytes order energyWidth (patternsOf energies)
 
-  at-6 : drop 6 (queueRecord maximum energies) ≡ first ++ (second ++ rest)
-  unfolding queueRecord
-  at-6 = record-body QueueKind (bodyOf maximum energies) ∙ append-assoc first second rest
+  at-maximum : drop maximumAt bytes ≡ first ++ (second ++ rest)
+  at-maximum = record-body kind (bodyOf order maximum energies) ∙ append-assoc first second rest
 
-  at-10 : drop 10 (queueRecord maximum energies) ≡ second ++ rest
-  at-10 = sym (drop-drop 4 6 (queueRecord maximum energies)) ∙ ap (drop 4) at-6 ∙ drop-at first (second ++ rest) 4 (low-length 4 maximum)
+  at-held : drop heldAt bytes ≡ second ++ rest
+  at-held = sym (drop-drop numberWidth maximumAt bytes) ∙ ap (drop numberWidth) at-maximum ∙ drop-at first (second ++ rest) numberWidth (bytes-length order numberWidth maximum)
 
-  at-14 : drop 14 (queueRecord maximum energies) ≡ rest
-  at-14 = sym (drop-drop 4 10 (queueRecord maximum energies)) ∙ ap (drop 4) at-10 ∙ drop-at second rest 4 (low-length 4 (length energies))
+  at-energies : drop leastLength bytes ≡ rest
+  at-energies = sym (drop-drop numberWidth heldAt bytes) ∙ ap (drop numberWidth) at-held ∙ drop-at second rest numberWidth (bytes-length order numberWidth (length energies))
 
-  maximum-again : maximumIn (queueRecord maximum energies) ≡ maximum
-  maximum-again = ap (λ (l : List ℕ). fieldAt l 0 4) at-6 ∙ read-low 4 maximum (second ++ rest) (omega arith)
+  maximum-again : maximumIn order bytes ≡ maximum
+  maximum-again = ap (numberIn order numberWidth) at-maximum ∙ read-again order numberWidth maximum (second ++ rest) (omega arith)
 
-  held-again : heldIn (queueRecord maximum energies) ≡ length energies
-  held-again = ap (λ (l : List ℕ). fieldAt l 0 4) at-10 ∙ read-low 4 (length energies) rest (omega arith)
+  held-again : heldIn order bytes ≡ length energies
+  held-again = ap (numberIn order numberWidth) at-held ∙ read-again order numberWidth (length energies) rest (omega arith)
 
-  written-passes : Framed QueueKind (queueRecord maximum energies)
-  unfolding queueRecord
+  patterns-are : Doubles energies → patternsIn order bytes ≡ patternsOf energies
+  patterns-are doubles =
+      ap (λ (n : ℕ). numbersIn order energyWidth n (drop leastLength bytes)) held-again
+      ∙ ap (numbersIn order energyWidth (length energies)) at-energies
+      ∙ ap (λ (n : ℕ). numbersIn order energyWidth n rest) (sym (patterns-length energies))
+      ∙ whole-read order energyWidth (patternsOf energies) (patterns-small energies doubles)
+
+-- ---- what was written is read
+module _ (maximum : ℕ) (energies : List Float) (few : maximum ≤ longest) (within : length energies ≤ maximum) where
+  abbrev order : Order
+  order = orderOf QueueKind
+
+  abbrev written : List ℕ
+  written = recordOf QueueKind (bodyOf order maximum energies)
+
+  written-passes : Framed QueueKind written
   written-passes =
-      let n = body-length maximum energies in
-      record-passes QueueKind (bodyOf maximum energies) (omega (arith, n)) (le-leb 10 (2 + length (bodyOf maximum energies)) (omega (arith, n)))
+      let n = body-length order maximum energies in
+      record-passes QueueKind (bodyOf order maximum energies) (omega (arith, n)) (le-leb queueLeast (kindWidth + length (bodyOf order maximum energies)) (omega (arith, n)))
 
-  module _ (doubles : Doubles energies) where
-    patterns-are : patternsIn (queueRecord maximum energies) ≡ patternsOf energies
-    patterns-are =
-        ap (λ (n : ℕ). numbersIn lowFirst 8 n (drop 14 (queueRecord maximum energies))) held-again
-        ∙ ap (numbersIn lowFirst 8 (length energies)) at-14
-        ∙ ap (λ (n : ℕ). numbersIn lowFirst 8 n rest) (sym (patterns-length energies))
-        ∙ whole-read lowFirst 8 (patternsOf energies) (patterns-small energies doubles)
-
-    pub read-what-was-written : 1 ≤ maximum → noneBelow energies ≡ true → (store : List Float) → length store ≡ maximum
-        → readQueue (queueRecord maximum energies) store
-        ≡ went (energies ++ drop (length energies) store) (record { maximum = maximum; head = 0; held = length energies })
-    unfolding readQueue stored
-    read-what-was-written least none store s =
-        let bytes = queueRecord maximum energies in
-        let numbers : numbersFit (maximumIn bytes) (heldIn bytes) ≡ true =
-        ap (λ (m : ℕ). numbersFit m (heldIn bytes)) maximum-again ∙ ap (numbersFit maximum) held-again ∙ numbers-in maximum (length energies) least few within in
-        let long : lengthIn bytes ≡ 10 + 8 * heldIn bytes = omega (arith, written-passes .length-is, whole-length maximum energies, held-again) in
-        let fit : allFit (patternsIn bytes) ≡ true = ap allFit patterns-are ∙ patterns-in energies doubles none in
-        then-went (bodyRead bytes store) (frameOf QueueKind bytes) (passes QueueKind bytes written-passes)
-        ∙ body-went bytes store numbers long fit (s ∙ sym maximum-again)
-        ∙ ap (λ (l : List ℕ). went (energiesOf l ++ drop (heldIn bytes) store) (queueIn bytes)) patterns-are
-        ∙ ap (λ (l : List Float). went (l ++ drop (heldIn bytes) store) (queueIn bytes)) (energies-again energies doubles)
-        ∙ ap (λ (n : ℕ). went (energies ++ drop n store) (record { maximum = maximumIn bytes; head = 0; held = n })) held-again
-        ∙ ap (λ (n : ℕ). went (energies ++ drop (length energies) store) (record { maximum = n; head = 0; held = length energies })) maximum-again
+  pub read-what-was-written : Doubles energies → 1 ≤ maximum → noneBelow energies ≡ true → (store : List Float) → length store ≡ maximum
+      → readQueue (queueRecord maximum energies) store
+      ≡ went (energies ++ drop (length energies) store) (record { maximum = maximum; head = 0; held = length energies })
+  unfolding queueRecord stored
+  read-what-was-written doubles least none store s =
+      let m = maximum-again QueueKind order maximum energies few within in
+      let h = held-again QueueKind order maximum energies few within in
+      let p = patterns-are QueueKind order maximum energies few within doubles in
+      let numbers : numbersFit (maximumIn order written) (heldIn order written) ≡ true =
+      ap (λ (n : ℕ). numbersFit n (heldIn order written)) m ∙ ap (numbersFit maximum) h ∙ numbers-in maximum (length energies) least few within in
+      let long : lengthIn written ≡ queueLeast + energyWidth * heldIn order written = omega (arith, written-passes .length-is, whole-length maximum energies, h) in
+      let fit : allFit (patternsIn order written) ≡ true = ap allFit p ∙ patterns-in energies doubles none in
+      read-behind written (passes QueueKind written written-passes) store
+      ∙ body-went order written store (body-passes order written store numbers long fit (s ∙ sym m))
+      ∙ ap (λ (l : List ℕ). went (energiesOf l ++ drop (heldIn order written) store) (queueIn order written)) p
+      ∙ ap (λ (l : List Float). went (l ++ drop (heldIn order written) store) (queueIn order written)) (energies-again energies doubles)
+      ∙ ap (λ (n : ℕ). went (energies ++ drop n store) (record { maximum = maximumIn order written; head = 0; held = n })) h
+      ∙ ap (λ (n : ℕ). went (energies ++ drop (length energies) store) (record { maximum = n; head = 0; held = length energies })) m
 
 -- ---- what is read was so written
-energies-length : (patterns : List ℕ) → length (energiesOf patterns) ≡ length patterns
-energies-length [] = refl
-energies-length (pattern ∷ rest) = ap suc (energies-length rest)
-
-numbers-small : (order : Order) (width count : ℕ) (bytes : List ℕ) → ((i : ℕ) → getD bytes i 0 < 256) → (i : ℕ) → getD (numbersIn order width count bytes) i 0 < 2 ^ (8 * width)
-unfolding numbersIn
-numbers-small order width zero bytes b i = pow-pos (8 * width)
-numbers-small lowFirst width (suc count) bytes b zero = small bytes b 0 width
-numbers-small order width (suc count) bytes b (suc i) = numbers-small order width count (drop width bytes) (λ j. rw (getD-drop width bytes j 0) (b (width + j))) i
-
-module _ (bytes : List ℕ) (b : (i : ℕ) → getD bytes i 0 < 256) (f : frameOf QueueKind bytes ≡ answers done) (fit : allFit (patternsIn bytes) ≡ true)
-    (l : lengthIn bytes ≡ 10 + 8 * heldIn bytes) where
+module _ (order : Order) (bytes : List ℕ) (b : (i : ℕ) → getD bytes i 0 < 256) (fit : allFit (patternsIn order bytes) ≡ true)
+    (whole : length bytes ≡ leastLength + energyWidth * heldIn order bytes) where
   from : (n i : ℕ) → getD (drop n bytes) i 0 < 256
   from n i = rw (getD-drop n bytes i 0) (b (n + i))
 
-  whole : length bytes ≡ 14 + 8 * heldIn bytes
-  whole = let g = framed QueueKind bytes f in omega (arith, g .length-is, g .long, l)
-
-  body-again : bodyOf (maximumIn bytes) (energiesOf (patternsIn bytes)) ≡ drop 6 bytes
+  body-again : bodyOf order (maximumIn order bytes) (energiesOf (patternsIn order bytes)) ≡ drop headWidth bytes
   body-again =
-      let body = drop 6 bytes in
-      let patterns = patternsIn bytes in
-      let n : length (energiesOf patterns) ≡ heldIn bytes = energies-length patterns ∙ numbers-length lowFirst 8 (heldIn bytes) (drop 14 bytes) in
-      let next : drop 10 bytes ≡ drop 4 body = sym (drop-drop 4 6 bytes) in
-      let last : drop 14 bytes ≡ drop 8 body = sym (drop-drop 8 6 bytes) in
-      ap (λ (k : ℕ). lowBytes 4 (maximumIn bytes) ++ lowBytes 4 k ++ allBytes lowFirst 8 (patternsOf (energiesOf patterns))) n
-      ∙ ap (λ (k : List ℕ). lowBytes 4 (maximumIn bytes) ++ lowBytes 4 (heldIn bytes) ++ allBytes lowFirst 8 k)
-      (patterns-again patterns (numbers-small lowFirst 8 (heldIn bytes) (drop 14 bytes) (from 14)) fit)
-      ∙ ap (λ (k : List ℕ). lowBytes 4 (maximumIn bytes) ++ lowBytes 4 (heldIn bytes) ++ k)
-      (whole-written lowFirst 8 (heldIn bytes) (drop 14 bytes) (from 14) (omega (arith, whole, length-drop 14 bytes)))
-      ∙ ap (λ (k : List ℕ). k ++ lowBytes 4 (heldIn bytes) ++ drop 14 bytes) (low-field body (from 6) 0 4 (omega (arith, whole, length-drop 6 bytes)))
-      ∙ ap (λ (k : List ℕ). take 4 body ++ k ++ drop 14 bytes) (low-field (drop 10 bytes) (from 10) 0 4 (omega (arith, whole, length-drop 10 bytes)))
-      ∙ ap (λ (k : List ℕ). take 4 body ++ take 4 k ++ drop 14 bytes) next
+      let body = drop headWidth bytes in
+      let maximum = maximumIn order bytes in
+      let held = heldIn order bytes in
+      let patterns = patternsIn order bytes in
+      let next : drop heldAt bytes ≡ drop 4 body = sym (drop-drop 4 headWidth bytes) in
+      let last : drop leastLength bytes ≡ drop 8 body = sym (drop-drop 8 headWidth bytes) in
+      ap (λ (k : ℕ). bytesOf order 4 maximum ++ bytesOf order 4 k ++ allBytes order 8 (patternsOf (energiesOf patterns))) (energies-count order bytes)
+      ∙ ap (λ (k : List ℕ). bytesOf order 4 maximum ++ bytesOf order 4 held ++ allBytes order 8 k)
+      (patterns-again patterns (numbers-small order 8 held (drop leastLength bytes) (from leastLength)) fit)
+      ∙ ap (λ (k : List ℕ). bytesOf order 4 maximum ++ bytesOf order 4 held ++ k)
+      (whole-written order 8 held (drop leastLength bytes) (from leastLength) (omega (arith, whole, length-drop leastLength bytes)))
+      ∙ ap (λ (k : List ℕ). k ++ bytesOf order 4 held ++ drop leastLength bytes) (write-again order 4 body (from headWidth) (omega (arith, whole, length-drop headWidth bytes)))
+      ∙ ap (λ (k : List ℕ). take 4 body ++ k ++ drop leastLength bytes) (write-again order 4 (drop heldAt bytes) (from heldAt) (omega (arith, whole, length-drop heldAt bytes)))
+      ∙ ap (λ (k : List ℕ). take 4 body ++ take 4 k ++ drop leastLength bytes) next
       ∙ ap (λ (k : List ℕ). take 4 body ++ take 4 (drop 4 body) ++ k) last
       ∙ ap (λ (k : List ℕ). k ++ drop 8 body) (sym (take-add 4 4 body))
       ∙ take-append-drop 8 body
 
-  pub write-what-was-read : queueRecord (maximumIn bytes) (energiesOf (patternsIn bytes)) ≡ bytes
+module _ (bytes : List ℕ) (b : (i : ℕ) → getD bytes i 0 < 256) (f : frameOf QueueKind bytes ≡ answers done)
+    (fit : allFit (patternsIn (orderOf QueueKind) bytes) ≡ true) (l : lengthIn bytes ≡ queueLeast + energyWidth * heldIn (orderOf QueueKind) bytes) where
+  framed-so : Framed QueueKind bytes
+  framed-so = framed QueueKind bytes (passed-it QueueKind bytes f)
+
+  pub write-what-was-read : queueRecord (maximumIn (orderOf QueueKind) bytes) (energiesOf (patternsIn (orderOf QueueKind) bytes)) ≡ bytes
   unfolding queueRecord
-  write-what-was-read = ap (recordOf QueueKind) body-again ∙ record-again QueueKind bytes b (framed QueueKind bytes f)
+  write-what-was-read =
+      ap (recordOf QueueKind) (body-again (orderOf QueueKind) bytes b fit (omega (arith, framed-so .length-is, framed-so .long, l)))
+      ∙ record-again QueueKind bytes b framed-so
 
 -- ---- one reading: what the store held plays no part in the answer
-same-answer : (frame : Question NoValues) (a b d e : Bool) (x y : List Float) (q : Queue)
-    → saidBy (andThen frame (cond a (cond b (cond d (cond e (went x q) (refused STORE)) (refused CONTENT)) (refused LENGTH)) (refused CONTENT)))
-    ≡ saidBy (andThen frame (cond a (cond b (cond d (cond e (went y q) (refused STORE)) (refused CONTENT)) (refused LENGTH)) (refused CONTENT)))
-same-answer (refused r) a b d e x y q = refl
-same-answer (went kept values) false b d e x y q = refl
-same-answer (went kept values) true false d e x y q = refl
-same-answer (went kept values) true true false e x y q = refl
-same-answer (went kept values) true true true false x y q = refl
-same-answer (went kept values) true true true true x y q = refl
-
 pub one-reading : (bytes : List ℕ) (store other : List Float) → length store ≡ length other → saidBy (readQueue bytes store) ≡ saidBy (readQueue bytes other)
-unfolding readQueue bodyRead
+unfolding readQueue
 one-reading bytes store other e =
-    rw e
-    (same-answer (frameOf QueueKind bytes) (numbersFit (maximumIn bytes) (heldIn bytes)) (eqb (lengthIn bytes) (10 + 8 * heldIn bytes)) (allFit (patternsIn bytes))
-    (eqb (length other) (maximumIn bytes)) (stored bytes store) (stored bytes other) (queueIn bytes))
+    let order = orderOf QueueKind in
+    rw e (same-said (readQueueRows bytes other) (stored order bytes store) (stored order bytes other) (queueIn order bytes))
 
 -- ---- a queue that was read holds the record's energies, from place 0
-module _ (bytes : List ℕ) (store : List Float) (numbers : (1 ≤ maximumIn bytes) × (maximumIn bytes ≤ longest) × (heldIn bytes ≤ maximumIn bytes))
-    (s : length store ≡ maximumIn bytes) where
-  energies-count : length (energiesOf (patternsIn bytes)) ≡ heldIn bytes
-  energies-count = energies-length (patternsIn bytes) ∙ numbers-length lowFirst 8 (heldIn bytes) (drop 14 bytes)
-
-  pub suited-read : Suited (queueIn bytes) (length (stored bytes store))
+module _ (order : Order) (bytes : List ℕ) (store : List Float)
+    (numbers : (1 ≤ maximumIn order bytes) × (maximumIn order bytes ≤ longest) × (heldIn order bytes ≤ maximumIn order bytes))
+    (s : length store ≡ maximumIn order bytes) where
+  pub suited-read : Suited (queueIn order bytes) (length (stored order bytes store))
   unfolding stored
   suited-read =
-      let n = length-append (energiesOf (patternsIn bytes)) (drop (heldIn bytes) store) in
-      let d = length-drop (heldIn bytes) store in
+      let n = length-append (energiesOf (patternsIn order bytes)) (drop (heldIn order bytes) store) in
+      let d = length-drop (heldIn order bytes) store in
       record {
         least = numbers .0;
         most = numbers .1;
-        whole = omega (arith, n, d, s, energies-count, numbers .2);
+        whole = omega (arith, n, d, s, energies-count order bytes, numbers .2);
         within = omega (arith, numbers .0);
         full = numbers .2;
       }
 
-  pub held-read : heldOf (over (queueIn bytes) (stored bytes store)) ≡ energiesOf (patternsIn bytes)
+  pub held-read : heldOf (over (queueIn order bytes) (stored order bytes store)) ≡ energiesOf (patternsIn order bytes)
   unfolding stored
   held-read =
-      let energies = energiesOf (patternsIn bytes) in
-      let all = energies ++ drop (heldIn bytes) store in
-      held-in (queueIn bytes) all suited-read (heldIn bytes) (omega (arith, numbers .2))
-      ∙ ap (λ (n : ℕ). take n all ++ take (heldIn bytes - heldIn bytes) all) {x = 0 + heldIn bytes - 0} {y = heldIn bytes} (omega arith)
-      ∙ ap (λ (n : ℕ). take (heldIn bytes) all ++ take n all) {x = heldIn bytes - heldIn bytes} {y = 0} (omega arith)
-      ∙ append-nil (take (heldIn bytes) all)
-      ∙ take-at energies (drop (heldIn bytes) store) (heldIn bytes) energies-count
+      let queue = queueIn order bytes in
+      let held = heldIn order bytes in
+      let energies = energiesOf (patternsIn order bytes) in
+      let all = energies ++ drop held store in
+      let n : firstPart queue ≡ held = omega (arith, numbers .2) in
+      held-parts queue all suited-read
+      ∙ ap (λ (k : ℕ). take k all ++ take (held - k) all) n
+      ∙ ap (λ (k : ℕ). take held all ++ take k all) {x = held - held} {y = 0} (omega arith)
+      ∙ append-nil (take held all)
+      ∙ take-at energies (drop held store) held (energies-count order bytes)
 
 -- so writing the queue that was read gives back the record's bytes
-pub written-as-read : (bytes : List ℕ) (store : List Float) → ((i : ℕ) → getD bytes i 0 < 256) → frameOf QueueKind bytes ≡ answers done
-    → (1 ≤ maximumIn bytes) × (maximumIn bytes ≤ longest) × (heldIn bytes ≤ maximumIn bytes) → lengthIn bytes ≡ 10 + 8 * heldIn bytes
-    → allFit (patternsIn bytes) ≡ true → length store ≡ maximumIn bytes → (out : List ℕ) → length bytes ≤ length out
-    → writeQueue (over (queueIn bytes) (stored bytes store)) out ≡ went (bytes ++ drop (length bytes) out) (length bytes)
+pub written-as-read : (bytes : List ℕ) (store : List Float) → ((i : ℕ) → getD bytes i 0 < 256) → frameOf QueueKind bytes ≡ answers done →
+    let order = orderOf QueueKind in
+    (1 ≤ maximumIn order bytes) × (maximumIn order bytes ≤ longest) × (heldIn order bytes ≤ maximumIn order bytes)
+    → lengthIn bytes ≡ queueLeast + energyWidth * heldIn order bytes → allFit (patternsIn order bytes) ≡ true → length store ≡ maximumIn order bytes
+    → (out : List ℕ) → length bytes ≤ length out → writeQueue (over (queueIn order bytes) (stored order bytes store)) out ≡ went (bytes ++ drop (length bytes) out) (length bytes)
 unfolding writeQueue
 written-as-read bytes store b f numbers l fit s out room =
+    let order = orderOf QueueKind in
     rw (
-      suits-it (queueIn bytes) (length (stored bytes store)) (suited-read bytes store numbers s),
-      held-read bytes store numbers s,
-      energies-in (patternsIn bytes) fit,
+      suits-it (queueIn order bytes) (length (stored order bytes store)) (suited-read order bytes store numbers s),
+      held-read order bytes store numbers s,
+      energies-in (patternsIn order bytes) fit,
       write-what-was-read bytes b f fit l,
+      le-ltb (length out) (length bytes) room,
     )
-    (with-room out bytes room)

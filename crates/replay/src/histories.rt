@@ -2,14 +2,6 @@
 use queue::Queue;
 use refusals::Answer;
 
-// 0, or the refusal's number.
-fn number_of(answer: Answer) -> u64 {
-    match answer {
-        Answer::Done => 0,
-        Answer::Refused(number) => number as u64,
-    }
-}
-
 // ---- adds to a histogram
 // 64 times u64 pattern of an energy, u16 its bin, u16 the count there afterwards; then u16 how many bins have a count.
 // An energy that is dropped has a bin past the last, with count 0.
@@ -35,7 +27,7 @@ fn all_added(case: &[u8], counters: &mut [u32]) -> bool {
 // Whether the energy is counted, and its bin has this count.
 fn added(counters: &mut [u32], energy: f64, bin: usize, count: u64) -> bool {
     let answer = histogram::add(counters, energy);
-    number_of(answer) == 0 && count_at(counters, bin) == count
+    codes::number_of(answer) == 0 && count_at(counters, bin) == count
 }
 
 fn widened(count: u32) -> u64 {
@@ -88,7 +80,7 @@ fn merged(case: &[u8], into: &mut [u32], from: &[u32]) -> bool {
         return false;
     }
     let answer = histogram_merge::merge(into, &from[..length]);
-    number_of(answer) == fields::number_at(case, 0, 2)
+    codes::number_of(answer) as u64 == fields::number_at(case, 0, 2)
 }
 
 // Every bin of the case gets its count in the one histogram, or in the other.
@@ -165,7 +157,7 @@ fn queued_same(case: &[u8], at: usize, answer: Answer, queue: Queue) -> bool {
     if 4096 < at {
         return false;
     }
-    number_of(answer) == fields::number_at(case, at + 8, 2)
+    codes::number_of(answer) as u64 == fields::number_at(case, at + 8, 2)
         && queue.head as u64 == fields::number_at(case, at + 10, 2)
         && queue.held as u64 == fields::number_at(case, at + 12, 2)
 }

@@ -4,18 +4,9 @@ use filter::Filtered;
 use filter::Switches;
 use interp::Interp;
 use recurrence::Coefficients;
-use refusals::Answer;
 use sample_peak::Peaks;
 use states::State;
 use true_peak_state::TruePeak;
-
-// 0, or the refusal's number.
-fn number_of(answer: Answer) -> u64 {
-    match answer {
-        Answer::Done => 0,
-        Answer::Refused(number) => number as u64,
-    }
-}
 
 // ---- what a case has at a place
 fn count_at(case: &[u8], at: usize) -> usize {
@@ -303,7 +294,7 @@ fn filtered_same(case: &[u8], filtered: Filtered) -> bool {
     let peaks = filtered.filter.peaks.values;
     let memory = filtered.filter.true_peak.memory;
     let true_peaks = filtered.filter.true_peak.peaks;
-    number_of(answer) == fields::number_at(case, 584, 2)
+    codes::number_of(answer) as u64 == fields::number_at(case, 584, 2)
         && wide_same(case, 586, 15, &state)
         && wide_same(case, 706, 3, &peaks)
         && narrow_same(case, 730, 69, &memory)

@@ -1,19 +1,11 @@
 // The cases of kind 1: records read into counters, and counters written.
 // A histogram or a record is told by what is not 0 in it: 16 times u16 bin and u32 count, or 64 times u16 place and u8 byte.
 use crate::count_at;
-use refusals::Answer;
 
 // What stands in every counter and in every byte of an output before a call.
 const COUNTER: u32 = 0xA5A5_A5A5;
 
 const BYTE: u8 = 0x5A;
-
-fn number_of(answer: Answer) -> u64 {
-    match answer {
-        Answer::Done => 0,
-        Answer::Refused(number) => number as u64,
-    }
-}
 
 // ---- what a case tells
 fn put_counter(counters: &mut [u32], bin: usize, count: u64) {
@@ -76,7 +68,8 @@ fn read_part(case: &[u8], bytes: &[u8], counters: &mut [u32]) -> bool {
 
 fn counters_read(case: &[u8], bytes: &[u8], counters: &mut [u32]) -> bool {
     let answer = histogram_reader::read_histogram(bytes, counters);
-    number_of(answer) == fields::number_at(case, 4, 2) && counters_same(case, counters)
+    codes::number_of(answer) as u64 == fields::number_at(case, 4, 2)
+        && counters_same(case, counters)
 }
 
 fn counters_same(case: &[u8], counters: &[u32]) -> bool {

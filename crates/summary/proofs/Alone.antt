@@ -1,12 +1,15 @@
 -- Nothing refuses the question over 1,000 counters alone, so what refuses a report is what refuses its record; and the figures of a report are in order.
 -- Assumes nothing.
 use mathlib.Core.Path.{_≡_, refl, sym, ap, subst, _∙_}
-use mathlib.Core.List.{List, []}
+use mathlib.Core.Bool.{Bool, true, false, cond}
+use mathlib.Core.List.{List, [], _∷_}
 use Prim.Native.Nat.{ℕ, _+_, _-_, _≤_}
 use native.Mathlib.Omega.{arith}
 use borrow.Author.Tests.{le-ltb, eq-eqb}
 use lib.ListN.{length, length-replicate}
-use Rattle.refusals.specs.Outcome.{went, refused, Question, answers, NoValues, done}
+use Rattle.refusals.specs.Outcome.{Outcome, went, refused, Question, answers, NoValues, done}
+use Rattle.refusals.specs.Rows.{Row, byRows}
+use Rattle.refusals.proofs.Rows.{rows-then}
 use Rattle.histogram_bins.specs.Bin.{bins, binOf}
 use Rattle.histogram.specs.Histogram.{empty, sums}
 use Rattle.history.specs.Set.{blockAt, anyOutside, allSound, allShow}
@@ -15,9 +18,10 @@ use Rattle.histogram_range.specs.Counted.{addedTo, blocksIn, countedSpan}
 use Rattle.histogram_range.proofs.Adding.{sums-length}
 use Rattle.range.specs.Range.{queuesIn, rangeOf}
 use Rattle.layout.specs.declared.Kind.the-variants.{Histogram}
-use Rattle.layout.specs.Layout.{orderOf, bodyIn, frameOf, andThen}
+use Rattle.layout.specs.Layout.{orderOf, bodyIn, frameRows}
+use Rattle.layout.proofs.Rows.{made-of}
 use Rattle.layout.proofs.Runs.{numbers-length}
-use Rattle.histogram_reader.specs.Record.{countWidth, countersIn, readHistogram}
+use Rattle.histogram_reader.specs.Record.{countWidth, countersIn, storeRows, readHistogram}
 use Rattle.summary.specs.Summary.{Figures, ranged, rangeless, figuresBy, alone, figuresOf, figuresRead, summaryOf}
 use Rattle.summary.proofs.Rising.{Rising, counted-rises}
 
@@ -58,14 +62,16 @@ counters-length bytes = numbers-length (orderOf Histogram) countWidth bins (body
 abbrev pub figuresFrom : List ℕ → Figures
 figuresFrom bytes = figuresIn (blocksIn (countersIn bytes)) (spanOf (countersIn bytes))
 
-read-then : (bytes : List ℕ) (test : Question NoValues) → figuresRead (andThen test (went (countersIn bytes) done)) ≡ andThen test (answers (figuresFrom bytes))
-read-then bytes (went kept values) = figures-alone (countersIn bytes) (counters-length bytes)
-read-then bytes (refused r) = refl
-
 -- nothing but the record refuses the report
-pub summary-is : (bytes : List ℕ) → summaryOf bytes ≡ andThen (frameOf Histogram bytes) (answers (figuresFrom bytes))
+pub summary-is : (bytes : List ℕ) → summaryOf bytes ≡ byRows (frameRows Histogram bytes) (answers (figuresFrom bytes))
 unfolding summaryOf readHistogram
-summary-is bytes = rw (eq-eqb (length empty) bins empty-length) (read-then bytes (frameOf Histogram bytes))
+summary-is bytes =
+    let rows = frameRows Histogram bytes in
+    let counters : Outcome (List ℕ) NoValues = went (countersIn bytes) done in
+    let stored : byRows (storeRows empty) counters ≡ counters = rw (eq-eqb (length empty) bins empty-length) in
+    ap figuresRead (rows-then counters rows (storeRows empty) ∙ ap (λ (o : Outcome (List ℕ) NoValues). byRows rows o) stored)
+    ∙ made-of figuresRead (λ r. refl) rows counters
+    ∙ ap (λ (o : Question Figures). byRows rows o) (figures-alone (countersIn bytes) (counters-length bytes))
 
 -- ---- in order
 -- the low bin is not above the high bin, and the range is how far they are apart
@@ -83,9 +89,14 @@ record-in-order bytes =
     in-order (blocksIn (countersIn bytes)) (spanOf (countersIn bytes))
     (counted-rises (sums empty (blockAt (countersIn bytes) 0)) (sums-length empty (blockAt (countersIn bytes) 0) ∙ empty-length))
 
-out-of : (test : Question NoValues) (mine figures : Figures) → InOrder mine → andThen test (answers mine) ≡ answers figures → InOrder figures
-out-of (went kept values) mine figures h e = let same : mine ≡ figures = cc in subst InOrder same h
-out-of (refused r) mine figures h e = let z : _≡_ {A = ℕ} 0 1 = cc in absurd (omega arith)
+out-of : (rows : List Row) (mine figures : Figures) → InOrder mine → byRows rows (answers mine) ≡ answers figures → InOrder figures
+out-of [] mine figures h e = let same : mine ≡ figures = cc in subst InOrder same h
+out-of (row ∷ rest) mine figures h e = go (row .holds) e (out-of rest mine figures h)
+  where
+    go : (b : Bool) → cond b (refused (row .refuses)) (byRows rest (answers mine)) ≡ answers figures
+        → (byRows rest (answers mine) ≡ answers figures → InOrder figures) → InOrder figures
+    go true e later = let z : _≡_ {A = ℕ} 0 1 = cc in absurd (omega arith)
+    go false e later = later e
 
 pub report-in-order : (bytes : List ℕ) (figures : Figures) → summaryOf bytes ≡ answers figures → InOrder figures
-report-in-order bytes figures e = out-of (frameOf Histogram bytes) (figuresFrom bytes) figures (record-in-order bytes) (sym (summary-is bytes) ∙ e)
+report-in-order bytes figures e = out-of (frameRows Histogram bytes) (figuresFrom bytes) figures (record-in-order bytes) (sym (summary-is bytes) ∙ e)

@@ -80,7 +80,7 @@ fn figures(counters: &[u32]) -> Summary
 pub fn of_record(bytes: &[u8]) -> Summary
     ensures { λ r. ⌜ said r ≡ saidBy (summaryOf (now (bytes .entry))) ⌝ }
 {
-    let mut counters = [0u32; 1000];
+    let mut counters = [0u32; histogram_bins::BINS];
     match histogram_reader::read_histogram(bytes, &mut counters) {
         Answer::Done => figures(&counters),
         Answer::Refused(number) => Summary::Refused(number),

@@ -1,54 +1,24 @@
--- `fields::put_number` meets its contract. The invariant: the bytes written and those of what is left are those of the whole number. Assumes nothing.
-use mathlib.Core.Path.{_≡_, refl, sym, ap, _∙_}
-use mathlib.Core.List.{_++_}
-use Prim.Native.Nat.{ℕ, _-_, _≤_}
-use native.Mathlib.Omega.{arith}
+-- `fields::put_number` meets its contract, order by order. Assumes nothing.
+use mathlib.Core.Path.{sym, ap, _∙_}
 use borrow.Author.Needs.{needs}
-use lib.ListN.{length, length-set, take}
-use Rattle.fields.specs.Field.{lowBytes}
-use Rattle.fields.proofs.Written.{low-turn, low-end}
+use denote.Ref.{now}
+use lib.ListN.{length}
+use Rattle.fields.specs.declared.Order.{Order}
+use Rattle.fields.specs.Field.{bytesOf}
+use Rattle.fields.proofs.Orders.{low-first}
 use Rattle.fields.proofs.put_number.Statement.{statement}
 use Rattle.fields.proofs.put_number.Tie as tie
 
-abbrev Inv-loop : tie.InvT-loop
-Inv-loop field₀ number left₀ i₀ field left i =
-    (i ≤ length field₀) × (length field ≡ length field₀) × (take i field ++ lowBytes (length field - i) left ≡ lowBytes (length field₀) number)
+put-low-requires : tie.Need-put-low-requires
+put-low-requires c κs = search needs
 
-abbrev μ-loop : tie.MeasureT-loop
-μ-loop field₀ number left₀ i₀ field left i = length field₀ - i
-
-loop-holds : tie.Need-loop-holds Inv-loop μ-loop
-loop-holds c = (omega arith, refl, ap (λ (n : ℕ). lowBytes n (c .args .number)) (omega arith))
-
-cast-field : tie.Need-cast-field Inv-loop μ-loop
-cast-field c = search needs
-
-slice-write-field : tie.Need-slice-write-field Inv-loop μ-loop
-slice-write-field c = search needs
-
-add-i : tie.Need-add-i Inv-loop μ-loop
-add-i c = search needs
-
-loop-less : tie.Need-loop-less Inv-loop μ-loop
-loop-less c = search needs
-
-loop-again : tie.Need-loop-again Inv-loop μ-loop
-loop-again c =
-    let l = c .before in (
-      omega arith,
-      simp length-set (l .loop .inv .1),
-      simp length-set
-          (low-turn (l .loop .field) (l .loop .i) (length (l .loop .field) - l .loop .i) (l .loop .left) (omega arith) (omega arith) ∙ l .loop .inv .2),
-    )
-
-same-length : tie.Need-same-length Inv-loop μ-loop
+same-length : tie.Need-same-length
 same-length c = search needs
 
-returns : tie.Need-returns Inv-loop μ-loop
+returns : tie.Need-returns
 returns c =
-    let l = c .before in
-    sym (low-end (l .loop .field) (l .loop .i) (l .loop .left) (omega arith)) ∙ l .loop .inv .2
+    let a = c .before .before .before .before .before .args in
+    c .before .before .put-low .ensures ∙ ap (λ (o : Order). bytesOf o (length (now (a .field))) (a .number)) (sym (low-first (a .order)))
 
 pub put-number-spec : {M : Type 1} → statement M
-put-number-spec =
-    tie.close (tie.spec Inv-loop μ-loop loop-holds cast-field slice-write-field add-i loop-less loop-again same-length returns)
+put-number-spec = tie.close (tie.spec put-low-requires same-length returns)

@@ -1,7 +1,6 @@
 -- `histogram_reader::read_counters` meets its contract: the places have every counter before they are copied. Assumes nothing.
 use mathlib.Core.Path.{_∙_}
 use borrow.Author.Needs.{needs}
-use Rattle.histogram_reader.specs.Record.{countersIn}
 use Rattle.histogram_reader.proofs.read_counters.Statement.{statement}
 use Rattle.histogram_reader.proofs.read_counters.Tie as tie
 
@@ -21,7 +20,6 @@ same-length : tie.Need-same-length
 same-length c = search needs
 
 returns : tie.Need-returns
-unfolding countersIn
 returns c =
     let k = c .before .before in
     let r = k .before .before .before .before in

@@ -1,12 +1,19 @@
 -- `histogram_reader::read_histogram` meets its contract: bytes that pass the frame are as many as a record has, so every counter has its four. Assumes nothing.
 use mathlib.Core.Path.{_≡_, refl, sym, ap, _∙_}
 use borrow.Author.Needs.{needs}
+use borrow.Author.Tests.{ne-eqb}
 use denote.Ref.{now}
-use Rattle.refusals.specs.Outcome.{says, done, refusal, saidBy}
+use lib.ListN.{length}
+use Rattle.refusals.specs.Outcome.{went, done}
 use Rattle.refusals.specs.Answer.{said}
+use Rattle.refusals.specs.Rows.{numberOf}
+use Rattle.fields.specs.declared.Order.{Order}
+use Rattle.histogram_bins.specs.Bin.{bins}
 use Rattle.layout.specs.declared.Kind.the-variants.{Histogram}
-use Rattle.layout.specs.Layout.{frameOf}
-use Rattle.histogram_reader.proofs.Cases.{framed-length, read-refused, read-kept, read-store, read-went}
+use Rattle.layout.specs.Layout.{frameRows, frameOf, bodyIn, numbersIn}
+use Rattle.layout.proofs.Rows.{passed, stopped-first}
+use Rattle.histogram_reader.specs.Record.{countersIn, storeRows, readHistogram}
+use Rattle.histogram_reader.proofs.Cases.{framed-length, read-behind, read-went}
 use Rattle.histogram_reader.proofs.read_histogram.Statement.{statement}
 use Rattle.histogram_reader.proofs.read_histogram.Tie as tie
 
@@ -16,18 +23,23 @@ frame-requires c κs = search needs
 enum-told : tie.Need-enum-told
 enum-told c = search needs
 
-passed : (c : tie.After-enum-told) → says done ≡ saidBy (frameOf Histogram (now (c .before .before .before .before .before .args .bytes)))
-passed c = sym (ap said (c .enum-told .given .1)) ∙ c .before .before .frame .ensures
+past-frame : (c : tie.After-enum-told) → numberOf (frameRows Histogram (now (c .before .before .before .before .before .args .bytes))) ≡ 0
+unfolding frameOf
+past-frame c =
+    passed (frameRows Histogram (now (c .before .before .before .before .before .args .bytes))) (sym (ap said (c .enum-told .given .1)) ∙ c .before .before .frame .ensures)
 
 returns : tie.Need-returns
 returns c =
     let a = c .before .before .before .before .before .before .args in
-    rw (read-store (now (a .bytes)) (now (a .counters)) (passed (c .before)) (c .if1 .taken)) (refl, refl)
+    rw (read-behind (now (a .bytes)) (now (a .counters)) (past-frame (c .before))) (rw (ne-eqb (length (now (a .counters))) bins (c .if1 .taken)) (refl, refl))
+
+order-of-requires : tie.Need-order-of-requires
+order-of-requires c κs = search needs
 
 read-counters-requires : tie.Need-read-counters-requires
 read-counters-requires c κs =
-    let a = c .before .before .before .before .before .before .before .args in
-    (framed-length (now (a .bytes)) (passed (c .before .before)), c .before .if1 .left)
+    let e = c .before .before in
+    (framed-length (now (e .before .before .before .before .before .before .args .bytes)) (past-frame (e .before)), e .if1 .left)
 
 enum-known-number : tie.Need-enum-known-number
 enum-known-number c = search needs
@@ -36,18 +48,28 @@ same-length : tie.Need-same-length
 same-length c = search needs
 
 returns-2 : tie.Need-returns-2
+unfolding countersIn
 returns-2 c =
-    let d = c .before .before .before .before in
+    let o = c .before .before .before .before in
+    let d = o .before in
     let a = d .before .before .before .before .before .before .args in
-    rw (read-went (now (a .bytes)) (now (a .counters)) (passed (d .before)) (d .if1 .left)) (refl, c .before .before .read-counters .ensures)
+    let bytes = now (a .bytes) in
+    rw (read-went bytes (now (a .counters)) (past-frame (d .before)) (d .if1 .left)) (
+      refl,
+      c .before .before .read-counters .ensures ∙ ap (λ (order : Order). numbersIn order 4 bins (bodyIn bytes)) (o .order-of .ensures),
+    )
 
 returns-3 : tie.Need-returns-3
+unfolding frameOf readHistogram
 returns-3 c =
     let a = c .before .before .before .before .before .before .args in
+    let bytes = now (a .bytes) in
+    let counters = now (a .counters) in
     let n = c .before .number .given .0 .0 in
-    let told : refusal n ≡ saidBy (frameOf Histogram (now (a .bytes))) = sym (ap said (c .before .number .given .1)) ∙ c .before .before .before .frame .ensures in
-    (read-refused (now (a .bytes)) (now (a .counters)) n told, read-kept (now (a .bytes)) (now (a .counters)) n told)
+    let r = stopped-first (went (countersIn bytes) done) (frameRows Histogram bytes) (storeRows counters) counters n
+    (sym (ap said (c .before .number .given .1)) ∙ c .before .before .before .frame .ensures) in
+    (r .says, r .keeps)
 
 pub read-histogram-spec : {M : Type 1} → statement M
 read-histogram-spec =
-    tie.close (tie.spec frame-requires enum-told returns read-counters-requires enum-known-number same-length returns-2 returns-3)
+    tie.close (tie.spec frame-requires enum-told returns order-of-requires read-counters-requires enum-known-number same-length returns-2 returns-3)

@@ -1,31 +1,26 @@
 -- `histogram_reader::read_words` meets its contract. The invariant: the words read and those in the bytes that are left are all of them. Assumes nothing.
-use mathlib.Core.Path.{_≡_, refl, sym, ap, _∙_}
+use mathlib.Core.Path.{_≡_, refl, sym, _∙_}
 use mathlib.Core.List.{_++_}
-use Prim.Native.Nat.{ℕ, _+_, _-_, _*_, _≤_}
+use Prim.Native.Nat.{_+_, _-_, _*_, _≤_}
 use native.Mathlib.Omega.{arith}
 use borrow.Author.Needs.{needs}
 use denote.Ref.{now}
 use lib.ListN.{length, length-set, take, drop}
-use Rattle.fields.proofs.Written.{field-from}
-use Rattle.layout.specs.Layout.{lowFirst, numbersIn}
-use Rattle.layout.proofs.Turns.{read-turn, read-end}
+use Rattle.layout.specs.Layout.{numbersIn}
+use Rattle.layout.proofs.Turns.{all-left, read-turn, read-end}
 use Rattle.histogram_reader.proofs.read_words.Statement.{statement}
 use Rattle.histogram_reader.proofs.read_words.Tie as tie
 
 abbrev Inv-loop : tie.InvT-loop
-Inv-loop bytes at words₀ i₀ words i = (i ≤ length words₀) × (length words ≡ length words₀) × (take i words ++ numbersIn lowFirst 4 (length words - i) (drop (at + 4 * i) bytes) ≡ numbersIn lowFirst 4 (length words₀) (drop at bytes))
+Inv-loop order bytes at words₀ i₀ words i = (i ≤ length words₀) × (length words ≡ length words₀) × (take i words ++ numbersIn order 4 (length words - i) (drop (at + 4 * i) bytes) ≡ numbersIn order 4 (length words₀) (drop at bytes))
 
 abbrev μ-loop : tie.MeasureT-loop
-μ-loop bytes at words₀ i₀ words i = length words₀ - i
+μ-loop order bytes at words₀ i₀ words i = length words₀ - i
 
 loop-holds : tie.Need-loop-holds Inv-loop μ-loop
 loop-holds c =
-    let a = c .before .before .args in (
-      omega arith,
-      refl,
-      ap (λ (n : ℕ). numbersIn lowFirst 4 n (drop (a .at + 0) (now (a .bytes)))) {x = length (now (a .words)) - 0} {y = length (now (a .words))} (omega arith)
-          ∙ ap (λ (n : ℕ). numbersIn lowFirst 4 (length (now (a .words))) (drop n (now (a .bytes)))) {x = a .at + 0} {y = a .at} (omega arith),
-    )
+    let a = c .before .before .args in
+    (omega arith, refl, all-left (a .order) 4 (now (a .bytes)) (a .at) (length (now (a .words))))
 
 mul-word-at : tie.Need-mul-word-at Inv-loop μ-loop
 mul-word-at c = search needs
@@ -56,8 +51,8 @@ loop-again c =
       omega arith,
       simp length-set (l .loop .inv .1),
       simp length-set
-          (read-turn lowFirst 4 (now (a .bytes)) (l .loop .words) at (a .at + 4 * (l .loop .i + 1)) (l .loop .i) (length (l .loop .words) - l .loop .i) (c .word-at .result)
-          (omega arith) (omega arith) (c .word-at .ensures ∙ field-from (now (a .bytes)) at at 0 4 (omega arith)) (omega arith)
+          (read-turn (a .order) 4 (now (a .bytes)) (l .loop .words) at (a .at + 4 * (l .loop .i + 1)) (l .loop .i) (length (l .loop .words) - l .loop .i) (c .word-at .result)
+          (omega arith) (omega arith) (c .word-at .ensures) (omega arith)
           ∙ l .loop .inv .2),
     )
 
@@ -68,7 +63,7 @@ returns : tie.Need-returns Inv-loop μ-loop
 returns c =
     let l = c .before in
     let a = l .before .before .before .args in
-    sym (read-end lowFirst 4 (drop (a .at + 4 * l .loop .i) (now (a .bytes))) (l .loop .words) (l .loop .i) (omega arith)) ∙ l .loop .inv .2
+    sym (read-end (a .order) 4 (drop (a .at + 4 * l .loop .i) (now (a .bytes))) (l .loop .words) (l .loop .i) (omega arith)) ∙ l .loop .inv .2
 
 pub read-words-spec : {M : Type 1} → statement M
 read-words-spec =

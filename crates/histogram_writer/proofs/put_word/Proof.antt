@@ -1,65 +1,25 @@
--- `histogram_writer::put_word` meets its contract. Assumes nothing.
-use native.Mathlib.Omega.{arith}
+-- `histogram_writer::put_word` meets its contract, order by order. Assumes nothing.
+use mathlib.Core.Path.{sym, ap, _∙_}
 use borrow.Author.Needs.{needs}
 use denote.Ref.{now}
-use lib.ListN.{length-set}
-use Rattle.histogram_writer.proofs.Words.{four-stores}
+use lib.Seq.{sets}
+use Rattle.fields.specs.declared.Order.{Order}
+use Rattle.fields.specs.Field.{bytesOf}
+use Rattle.fields.proofs.Orders.{low-first}
 use Rattle.histogram_writer.proofs.put_word.Statement.{statement}
 use Rattle.histogram_writer.proofs.put_word.Tie as tie
 
-cast-out : tie.Need-cast-out
-cast-out c = search needs
-
-slice-write-out : tie.Need-slice-write-out
-slice-write-out c = search needs
-
-cast-out-2 : tie.Need-cast-out-2
-cast-out-2 c = search needs
-
-add-out : tie.Need-add-out
-add-out c = search needs
-
-slice-write-out-2 : tie.Need-slice-write-out-2
-slice-write-out-2 c = simp length-set (omega arith)
-
-cast-out-3 : tie.Need-cast-out-3
-cast-out-3 c = search needs
-
-add-out-2 : tie.Need-add-out-2
-add-out-2 c = search needs
-
-slice-write-out-3 : tie.Need-slice-write-out-3
-slice-write-out-3 c = simp length-set (omega arith)
-
-cast-out-4 : tie.Need-cast-out-4
-cast-out-4 c = search needs
-
-add-out-3 : tie.Need-add-out-3
-add-out-3 c = search needs
-
-slice-write-out-4 : tie.Need-slice-write-out-4
-slice-write-out-4 c = simp length-set (omega arith)
+put-low-word-requires : tie.Need-put-low-word-requires
+put-low-word-requires c κs = search needs
 
 same-length : tie.Need-same-length
 same-length c = search needs
 
 returns : tie.Need-returns
-returns c = let a = c .args in four-stores (now (a .out)) (a .at) (a .word)
+returns c =
+    let a = c .before .before .before .before .before .args in
+    c .before .before .put-low-word .ensures
+    ∙ ap (λ (order : Order). sets (now (a .out)) (a .at) (bytesOf order 4 (a .word))) (sym (low-first (a .order)))
 
 pub put-word-spec : {M : Type 1} → statement M
-put-word-spec =
-    tie.close
-    (tie.spec
-    cast-out
-    slice-write-out
-    cast-out-2
-    add-out
-    slice-write-out-2
-    cast-out-3
-    add-out-2
-    slice-write-out-3
-    cast-out-4
-    add-out-3
-    slice-write-out-4
-    same-length
-    returns)
+put-word-spec = tie.close (tie.spec put-low-word-requires same-length returns)

@@ -9,16 +9,16 @@ use denote.Ref.{now}
 use lib.ListN.{length, length-set, take, drop}
 use lib.Seq.{sets}
 use Rattle.histogram_bins.specs.Bin.{bins}
-use Rattle.layout.specs.Layout.{lowFirst, allBytes}
+use Rattle.layout.specs.Layout.{allBytes}
 use Rattle.histogram_reader.proofs.Copies.{copy-turn, copy-end}
 use Rattle.histogram_writer.proofs.write_counters.Statement.{statement}
 use Rattle.histogram_writer.proofs.write_counters.Tie as tie
 
 abbrev Inv-loop : tie.InvT-loop
-Inv-loop counters out places₀ i₀ places i = (length places ≡ bins) × (take i places ++ drop i counters ≡ counters)
+Inv-loop order counters out places₀ i₀ places i = (length places ≡ bins) × (take i places ++ drop i counters ≡ counters)
 
 abbrev μ-loop : tie.MeasureT-loop
-μ-loop counters out places₀ i₀ places i = length counters - i
+μ-loop order counters out places₀ i₀ places i = length counters - i
 
 loop-holds : tie.Need-loop-holds Inv-loop μ-loop
 loop-holds c = (refl, refl)
@@ -62,7 +62,7 @@ returns c =
     let l = w .before .before .before .before in
     let a = l .before .before .before .args in
     w .write-words .ensures
-    ∙ ap (λ (o : List ℕ). sets (now (a .out)) 6 (allBytes lowFirst 4 o))
+    ∙ ap (λ (o : List ℕ). sets (now (a .out)) 6 (allBytes (a .order) 4 o))
     (sym (copy-end (now (a .counters)) (l .loop .places) (l .loop .i) (omega arith) (omega arith)) ∙ l .loop .inv .1)
 
 pub write-counters-spec : {M : Type 1} → statement M

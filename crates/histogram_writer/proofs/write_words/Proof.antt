@@ -7,22 +7,22 @@ use borrow.Author.Needs.{needs}
 use denote.Ref.{now}
 use lib.ListN.{length, getD, drop}
 use lib.Seq.{sets, length-sets}
-use Rattle.fields.specs.Field.{lowBytes}
-use Rattle.layout.specs.Layout.{lowFirst, allBytes}
+use Rattle.fields.specs.Field.{bytesOf}
+use Rattle.layout.specs.Layout.{allBytes}
 use Rattle.layout.proofs.Turns.{write-turn, write-end}
 use Rattle.histogram_writer.proofs.write_words.Statement.{statement}
 use Rattle.histogram_writer.proofs.write_words.Tie as tie
 
 abbrev Inv-loop : tie.InvT-loop
-Inv-loop words out₀ at i₀ out i = (i ≤ length words) × (length out ≡ length out₀) × (sets out (at + 4 * i) (allBytes lowFirst 4 (drop i words)) ≡ sets out₀ at (allBytes lowFirst 4 words))
+Inv-loop order words out₀ at i₀ out i = (i ≤ length words) × (length out ≡ length out₀) × (sets out (at + 4 * i) (allBytes order 4 (drop i words)) ≡ sets out₀ at (allBytes order 4 words))
 
 abbrev μ-loop : tie.MeasureT-loop
-μ-loop words out₀ at i₀ out i = length words - i
+μ-loop order words out₀ at i₀ out i = length words - i
 
 loop-holds : tie.Need-loop-holds Inv-loop μ-loop
 loop-holds c =
     let a = c .before .before .args in
-    (omega arith, refl, ap (λ (n : ℕ). sets (now (a .out)) n (allBytes lowFirst 4 (now (a .words)))) {x = a .at + 0} {y = a .at} (omega arith))
+    (omega arith, refl, ap (λ (n : ℕ). sets (now (a .out)) n (allBytes (a .order) 4 (now (a .words)))) {x = a .at + 0} {y = a .at} (omega arith))
 
 mul-put-word : tie.Need-mul-put-word Inv-loop μ-loop
 mul-put-word c = search needs
@@ -51,9 +51,9 @@ loop-again c =
     let a = l .before .before .before .args in
     let at = a .at + 4 * l .loop .i in (
       omega arith,
-      ap length (c .before .before .put-word .ensures) ∙ length-sets (l .loop .out) at (lowBytes 4 (getD (now (a .words)) (l .loop .i) 0)) ∙ l .loop .inv .1,
-      ap (λ (o : List ℕ). sets o (a .at + 4 * (l .loop .i + 1)) (allBytes lowFirst 4 (drop (l .loop .i + 1) (now (a .words))))) (c .before .before .put-word .ensures)
-          ∙ write-turn lowFirst 4 (l .loop .out) (now (a .words)) at (a .at + 4 * (l .loop .i + 1)) (l .loop .i) (omega arith) (omega arith)
+      ap length (c .before .before .put-word .ensures) ∙ length-sets (l .loop .out) at (bytesOf (a .order) 4 (getD (now (a .words)) (l .loop .i) 0)) ∙ l .loop .inv .1,
+      ap (λ (o : List ℕ). sets o (a .at + 4 * (l .loop .i + 1)) (allBytes (a .order) 4 (drop (l .loop .i + 1) (now (a .words))))) (c .before .before .put-word .ensures)
+          ∙ write-turn (a .order) 4 (l .loop .out) (now (a .words)) at (a .at + 4 * (l .loop .i + 1)) (l .loop .i) (omega arith) (omega arith)
           ∙ l .loop .inv .2,
     )
 
@@ -64,7 +64,7 @@ returns : tie.Need-returns Inv-loop μ-loop
 returns c =
     let l = c .before in
     let a = l .before .before .before .args in
-    sym (write-end lowFirst 4 (l .loop .out) (now (a .words)) (a .at + 4 * l .loop .i) (l .loop .i) (omega arith)) ∙ l .loop .inv .2
+    sym (write-end (a .order) 4 (l .loop .out) (now (a .words)) (a .at + 4 * l .loop .i) (l .loop .i) (omega arith)) ∙ l .loop .inv .2
 
 pub write-words-spec : {M : Type 1} → statement M
 write-words-spec =

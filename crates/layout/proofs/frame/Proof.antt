@@ -1,27 +1,49 @@
--- `layout::frame` meets its contract: each test is one of the definition's, in its order. Assumes nothing.
+-- `layout::frame` meets its contract: each test is a row, in the order of the rows. Assumes nothing.
 use mathlib.Core.Path.{_≡_, sym, ap, _∙_}
+use mathlib.Core.Bool.{true, false}
+use Prim.Native.Nat.{_-_}
 use borrow.Author.Needs.{needs}
+use borrow.Author.Tests.{lt-ltb, le-ltb, eq-eqb, ne-eqb}
 use denote.Ref.{now}
-use Rattle.layout.specs.Layout.{numberOf, canBe, kindIn}
-use Rattle.layout.proofs.Frames.{frame-short, frame-kind, frame-length, frame-rest}
+use lib.Dec.{eqb, ltb}
+use lib.ListN.{length}
+use Rattle.layout.specs.Layout.{kindNumber, canBe, headWidth, lengthWidth, kindIn, lengthIn, frameOf}
 use Rattle.layout.proofs.frame.Statement.{statement}
 use Rattle.layout.proofs.frame.Tie as tie
 
+-- ---- past each test
+long : (c : tie.Else1) → let bytes = now (c .before .before .args .bytes) in ltb (length bytes) headWidth ≡ false
+long c = le-ltb (length (now (c .before .before .args .bytes))) headWidth (c .if1 .left)
+
+same-kind : (c : tie.Else2) → let a = c .before .before .before .before .before .args in eqb (kindIn (now (a .bytes))) (kindNumber (a .kind)) ≡ true
+same-kind c =
+    let a = c .before .before .before .before .before .args in
+    eq-eqb (kindIn (now (a .bytes))) (kindNumber (a .kind)) (sym (c .before .before .number-at .ensures) ∙ c .if2 .left ∙ c .before .kind-number .ensures)
+
+same-length : (c : tie.Else3) → let bytes = now (c .before .before .before .before .before .before .before .args .bytes) in
+    eqb (lengthIn bytes) (length bytes - lengthWidth) ≡ true
+same-length c =
+    let bytes = now (c .before .before .before .before .before .before .before .args .bytes) in
+    eq-eqb (lengthIn bytes) (length bytes - lengthWidth) (sym (c .before .number-at2 .ensures) ∙ c .if3 .left)
+
 returns : tie.Need-returns
-returns c = let a = c .before .before .args in rw (frame-short (a .kind) (now (a .bytes)) (c .if1 .taken))
+unfolding frameOf
+returns c = rw (lt-ltb (length (now (c .before .before .args .bytes))) headWidth (c .if1 .taken))
 
 number-at-requires : tie.Need-number-at-requires
 number-at-requires c κs = search needs
 
-number-of-requires : tie.Need-number-of-requires
-number-of-requires c κs = search needs
+kind-number-requires : tie.Need-kind-number-requires
+kind-number-requires c κs = search needs
 
 returns-2 : tie.Need-returns-2
+unfolding frameOf
 returns-2 c =
     let a = c .before .before .before .before .before .args in
-    rw
-    (frame-kind (a .kind) (now (a .bytes)) (c .before .before .before .if1 .left)
-    (λ e. c .if2 .taken (c .before .before .number-at .ensures ∙ e ∙ sym (c .before .number-of .ensures))))
+    rw (
+      long (c .before .before .before),
+      ne-eqb (kindIn (now (a .bytes))) (kindNumber (a .kind)) (λ e. c .if2 .taken (c .before .before .number-at .ensures ∙ e ∙ sym (c .before .kind-number .ensures))),
+    )
 
 number-at-requires-2 : tie.Need-number-at-requires-2
 number-at-requires-2 c κs = search needs
@@ -29,42 +51,42 @@ number-at-requires-2 c κs = search needs
 sub-if3 : tie.Need-sub-if3
 sub-if3 c = search needs
 
-same-kind : (c : tie.Else2) → let a = c .before .before .before .before .before .args in kindIn (now (a .bytes)) ≡ numberOf (a .kind)
-same-kind c = sym (c .before .before .number-at .ensures) ∙ c .if2 .left ∙ c .before .number-of .ensures
-
 returns-3 : tie.Need-returns-3
+unfolding frameOf
 returns-3 c =
     let d = c .before .before in
-    let a = d .before .before .before .before .before .args in
-    rw
-    (frame-length (a .kind) (now (a .bytes)) (d .before .before .before .if1 .left) (same-kind d)
-    (λ e. c .if3 .taken (c .before .number-at2 .ensures ∙ e)))
+    let bytes = now (d .before .before .before .before .before .args .bytes) in
+    rw (
+      long (d .before .before .before),
+      same-kind d,
+      ne-eqb (lengthIn bytes) (length bytes - lengthWidth) (λ e. c .if3 .taken (c .before .number-at2 .ensures ∙ e)),
+    )
 
 can-be-requires : tie.Need-can-be-requires
 can-be-requires c κs = search needs
 
--- past the third test the kind's own rule decides
+-- what the kind's own rule decides
+ruled : (c : tie.After-can-be) → let a = c .before .before .before .before .before .before .before .before .args in
+    canBe (a .kind) (lengthIn (now (a .bytes))) ≡ c .can-be .result
+ruled c =
+    let a = c .before .before .before .before .before .before .before .before .args in
+    ap (canBe (a .kind)) (sym (c .before .before .number-at2 .ensures)) ∙ sym (c .can-be .ensures)
+
 returns-4 : tie.Need-returns-4
+unfolding frameOf
 returns-4 c =
     let d = c .before .before in
     let e = d .before .before in
-    let a = e .before .before .before .before .before .args in
-    let length-is = sym (d .before .number-at2 .ensures) ∙ d .if3 .left in
-    rw
-    (frame-rest (a .kind) (now (a .bytes)) (e .before .before .before .if1 .left) (same-kind e) length-is)
-    (rw (ap (canBe (a .kind)) (sym (d .before .number-at2 .ensures)) ∙ sym (c .before .can-be .ensures) ∙ c .if4 .taken))
+    rw (long (e .before .before .before), same-kind e, same-length d, ruled (c .before) ∙ c .if4 .taken)
 
 returns-5 : tie.Need-returns-5
+unfolding frameOf
 returns-5 c =
     let d = c .before .before in
     let e = d .before .before in
-    let a = e .before .before .before .before .before .args in
-    let length-is = sym (d .before .number-at2 .ensures) ∙ d .if3 .left in
-    rw
-    (frame-rest (a .kind) (now (a .bytes)) (e .before .before .before .if1 .left) (same-kind e) length-is)
-    (rw (ap (canBe (a .kind)) (sym (d .before .number-at2 .ensures)) ∙ sym (c .before .can-be .ensures) ∙ c .if4 .left))
+    rw (long (e .before .before .before), same-kind e, same-length d, ruled (c .before) ∙ c .if4 .left)
 
 pub frame-spec : {M : Type 1} → statement M
 frame-spec =
     tie.close
-    (tie.spec returns number-at-requires number-of-requires returns-2 number-at-requires-2 sub-if3 returns-3 can-be-requires returns-4 returns-5)
+    (tie.spec returns number-at-requires kind-number-requires returns-2 number-at-requires-2 sub-if3 returns-3 can-be-requires returns-4 returns-5)

@@ -29,8 +29,8 @@ part-put-number-start c = search needs
 part-put-number-end : tie.Need-part-put-number-end
 part-put-number-end c = search needs
 
-number-of-requires : tie.Need-number-of-requires
-number-of-requires c κs = search needs
+kind-number-requires : tie.Need-kind-number-requires
+kind-number-requires c κs = search needs
 
 put-number-requires-2 : tie.Need-put-number-requires-2
 put-number-requires-2 c κs = search needs
@@ -42,9 +42,9 @@ returns : tie.Need-returns
 returns c =
     let d = c .before .before .before .before .before .before .before in
     let a = d .before .before .before .before .args in
-    let field = take 2 (drop 4 (d .put-number .last .0 ++ drop 4 (now (a .out)))) in
-    head-put (a .kind) (a .length) (now (a .out)) (d .put-number .last .0) (c .before .before .put-number2 .last .0) (omega arith) (d .put-number .ensures)
-    (c .before .before .put-number2 .ensures ∙ ap (lowBytes (length field)) (c .before .before .before .number-of .ensures))
+    let field = take 2 (drop 4 (d .put-number .last .1 .0 ++ drop 4 (now (a .out)))) in
+    head-put (a .kind) (a .length) (now (a .out)) (d .put-number .last .1 .0) (c .before .before .put-number2 .last .1 .0) (omega arith) (d .put-number .ensures)
+    (c .before .before .put-number2 .ensures ∙ ap (lowBytes (length field)) (c .before .before .before .kind-number .ensures))
 
 returns-2 : tie.Need-returns-2
 returns-2 c = let a = c .before .before .args in sym (no-head (a .kind) (a .length) (now (a .out)) (c .if1 .left))
@@ -53,4 +53,4 @@ pub put-head-spec : {M : Type 1} → statement M
 put-head-spec =
     tie.close
     (tie.spec slice-relend-prefix-put-number slice-aggregate-put-number put-number-requires sub-put-number part-put-number-start part-put-number-end
-    number-of-requires put-number-requires-2 same-length returns returns-2)
+    kind-number-requires put-number-requires-2 same-length returns returns-2)

@@ -6,24 +6,24 @@ use native.Mathlib.Omega.{arith}
 use borrow.Author.Needs.{needs}
 use denote.Ref.{now}
 use lib.ListN.{drop}
-use Rattle.fields.proofs.Written.{field-from}
-use Rattle.layout.specs.Layout.{lowFirst, numbersIn}
-use Rattle.queue_reader.specs.Finite.{finiteFits, allFinite}
-use Rattle.queue_reader.proofs.Patterns.{all-left, test-turn, test-end}
+use Rattle.layout.specs.Layout.{numbersIn}
+use Rattle.layout.proofs.Turns.{all-left}
+use Rattle.queue_reader.specs.Inner.{finiteFits, allFinite}
+use Rattle.queue_reader.proofs.Patterns.{test-turn, test-end}
 use Rattle.queue_reader.proofs.all_finite.Statement.{statement}
 use Rattle.queue_reader.proofs.all_finite.Tie as tie
 
 abbrev Inv-loop : tie.InvT-loop
-Inv-loop bytes at count finite₀ i₀ finite i =
-    (i ≤ count) × (finite && allFinite (numbersIn lowFirst 8 (count - i) (drop (at + 8 * i) bytes)) ≡ allFinite (numbersIn lowFirst 8 count (drop at bytes)))
+Inv-loop order bytes at count finite₀ i₀ finite i =
+    (i ≤ count) × (finite && allFinite (numbersIn order 8 (count - i) (drop (at + 8 * i) bytes)) ≡ allFinite (numbersIn order 8 count (drop at bytes)))
 
 abbrev μ-loop : tie.MeasureT-loop
-μ-loop bytes at count finite₀ i₀ finite i = count - i
+μ-loop order bytes at count finite₀ i₀ finite i = count - i
 
 loop-holds : tie.Need-loop-holds Inv-loop μ-loop
 loop-holds c =
     let a = c .before .args in
-    (omega arith, ap allFinite (all-left lowFirst 8 (now (a .bytes)) (a .at) (a .count)))
+    (omega arith, ap allFinite (all-left (a .order) 8 (now (a .bytes)) (a .at) (a .count)))
 
 mul-pattern-at : tie.Need-mul-pattern-at Inv-loop μ-loop
 mul-pattern-at c = search needs
@@ -51,8 +51,8 @@ loop-again c =
     let i = l .loop .i in
     let at = a .at + 8 * i in (
       omega arith,
-      test-turn lowFirst 8 (now (a .bytes)) at (a .at + 8 * (i + 1)) (a .count - i) (a .count - (i + 1)) (d .pattern-at .result) (omega arith) (omega arith)
-          (d .pattern-at .ensures ∙ field-from (now (a .bytes)) at at 0 8 (omega arith)) finiteFits (l .loop .finite) (c .finite-fits .result) (c .finite-fits .ensures)
+      test-turn (a .order) 8 (now (a .bytes)) at (a .at + 8 * (i + 1)) (a .count - i) (a .count - (i + 1)) (d .pattern-at .result) (omega arith) (omega arith)
+          (d .pattern-at .ensures) finiteFits (l .loop .finite) (c .finite-fits .result) (c .finite-fits .ensures)
           ∙ l .loop .inv .1,
     )
 
@@ -60,7 +60,7 @@ returns : tie.Need-returns Inv-loop μ-loop
 returns c =
     let l = c .before in
     let a = l .before .before .args in
-    sym (test-end lowFirst 8 (a .count - l .loop .i) (drop (a .at + 8 * l .loop .i) (now (a .bytes))) finiteFits (l .loop .finite) (omega arith)) ∙ l .loop .inv .1
+    sym (test-end (a .order) 8 (a .count - l .loop .i) (drop (a .at + 8 * l .loop .i) (now (a .bytes))) finiteFits (l .loop .finite) (omega arith)) ∙ l .loop .inv .1
 
 pub all-finite-spec : {M : Type 1} → statement M
 all-finite-spec =

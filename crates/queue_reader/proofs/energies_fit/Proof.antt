@@ -3,7 +3,7 @@ use mathlib.Core.Path.{sym, _∙_}
 use borrow.Author.Needs.{needs}
 use denote.Ref.{now}
 use lib.ListN.{drop}
-use Rattle.layout.specs.Layout.{lowFirst, numbersIn}
+use Rattle.layout.specs.Layout.{numbersIn}
 use Rattle.queue_reader.proofs.Patterns.{finite-fit}
 use Rattle.queue_reader.proofs.energies_fit.Statement.{statement}
 use Rattle.queue_reader.proofs.energies_fit.Tie as tie
@@ -15,7 +15,7 @@ returns : tie.Need-returns
 returns c =
     let f = c .before in
     let a = f .before .before .args in
-    sym (finite-fit (numbersIn lowFirst 8 (a .count) (drop (a .at) (now (a .bytes)))) (sym (f .all-finite .ensures) ∙ c .if1 .taken))
+    sym (finite-fit (numbersIn (a .order) 8 (a .count) (drop (a .at) (now (a .bytes)))) (sym (f .all-finite .ensures) ∙ c .if1 .taken))
 
 all-fit-requires : tie.Need-all-fit-requires
 all-fit-requires c κs = search needs

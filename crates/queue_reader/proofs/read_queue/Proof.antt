@@ -2,11 +2,16 @@
 use mathlib.Core.Path.{_≡_, sym, ap, _∙_}
 use borrow.Author.Needs.{needs}
 use denote.Ref.{now}
-use Rattle.refusals.specs.Outcome.{says, done, refusal, saidBy}
+use Rattle.refusals.specs.Outcome.{went, saidBy, keptBy}
 use Rattle.refusals.specs.Answer.{said}
+use Rattle.refusals.specs.Rows.{numberOf}
+use Rattle.fields.specs.declared.Order.{Order}
 use Rattle.layout.specs.declared.Kind.the-variants.{Queue as QueueKind}
-use Rattle.layout.specs.Layout.{frameOf}
-use Rattle.queue_reader.proofs.Cases.{read-refused, read-kept, read-on, framed-long, framed-length}
+use Rattle.layout.specs.Layout.{orderOf, frameRows, frameOf}
+use Rattle.layout.proofs.Rows.{passed, stopped-first}
+use Rattle.queue_reader.specs.QueueRecord.{stored, queueIn, bodyRows, readQueue}
+use Rattle.queue_reader.specs.Inner.{bodyRead}
+use Rattle.queue_reader.proofs.Cases.{read-behind, framed-long, framed-length}
 use Rattle.queue_reader.proofs.read_queue.Statement.{statement}
 use Rattle.queue_reader.proofs.read_queue.Tie as tie
 
@@ -16,13 +21,19 @@ frame-requires c κs = search needs
 enum-told : tie.Need-enum-told
 enum-told c = search needs
 
-passed : (c : tie.After-enum-told) → says done ≡ saidBy (frameOf QueueKind (now (c .before .before .before .before .before .args .bytes)))
-passed c = sym (ap said (c .enum-told .given .1)) ∙ c .before .before .frame .ensures
+past-frame : (c : tie.After-enum-told) → numberOf (frameRows QueueKind (now (c .before .before .before .before .before .args .bytes))) ≡ 0
+unfolding frameOf
+past-frame c =
+    passed (frameRows QueueKind (now (c .before .before .before .before .before .args .bytes))) (sym (ap said (c .enum-told .given .1)) ∙ c .before .before .frame .ensures)
+
+order-of-requires : tie.Need-order-of-requires
+order-of-requires c κs = search needs
 
 read-body-requires : tie.Need-read-body-requires
 read-body-requires c κs =
-    let bytes = now (c .before .before .before .before .before .before .args .bytes) in
-    (framed-long bytes (passed (c .before)), framed-length bytes (passed (c .before)))
+    let e = c .before .before in
+    let bytes = now (e .before .before .before .before .before .args .bytes) in
+    (framed-long bytes (past-frame e), framed-length bytes (past-frame e))
 
 enum-known-number : tie.Need-enum-known-number
 enum-known-number c = search needs
@@ -32,16 +43,27 @@ same-length c = search needs
 
 returns : tie.Need-returns
 returns c =
-    let e = c .before .before .before .before in
+    let o = c .before .before .before .before in
+    let e = o .before in
     let a = e .before .before .before .before .before .args in
-    rw (read-on (now (a .bytes)) (now (a .store)) (passed e)) (c .before .before .read-body .ensures)
+    let bytes = now (a .bytes) in
+    let store = now (a .store) in
+    let read = c .before .before .read-body .ensures in
+    rw (read-behind bytes (past-frame e) store) (
+      read .0 ∙ ap (λ (order : Order). saidBy (bodyRead order bytes store)) (o .order-of .ensures),
+      read .1 ∙ ap (λ (order : Order). keptBy store (bodyRead order bytes store)) (o .order-of .ensures),
+    )
 
 returns-2 : tie.Need-returns-2
+unfolding frameOf readQueue
 returns-2 c =
     let a = c .before .before .before .before .before .before .args in
-    let n = c .before .number .given .0 .0 in
-    let told : refusal n ≡ saidBy (frameOf QueueKind (now (a .bytes))) = sym (ap said (c .before .number .given .1)) ∙ c .before .before .before .frame .ensures in
-    (read-refused (now (a .bytes)) (now (a .store)) n told, read-kept (now (a .bytes)) (now (a .store)) n told)
+    let bytes = now (a .bytes) in
+    let store = now (a .store) in
+    let order = orderOf QueueKind in
+    let r = stopped-first (went (stored order bytes store) (queueIn order bytes)) (frameRows QueueKind bytes) (bodyRows order bytes store) store (c .before .number .given .0 .0)
+    (sym (ap said (c .before .number .given .1)) ∙ c .before .before .before .frame .ensures) in
+    (r .says, r .keeps)
 
 pub read-queue-spec : {M : Type 1} → statement M
-read-queue-spec = tie.close (tie.spec frame-requires enum-told read-body-requires enum-known-number same-length returns returns-2)
+read-queue-spec = tie.close (tie.spec frame-requires enum-told order-of-requires read-body-requires enum-known-number same-length returns returns-2)

@@ -29,7 +29,7 @@ returns : tie.Need-returns
 returns c =
     let start = c .before .before .before .before .before in
     let a = start .args in
-    field-put (now (a .out)) (c .before .before .put-number .last .0) (a .at) (a .width) (a .at + a .width) (a .number) refl (start .pre) (c .before .before .put-number .ensures)
+    field-put (a .order) (now (a .out)) (c .before .before .put-number .last .1 .0) (a .at) (a .width) (a .at + a .width) (a .number) refl (start .pre) (c .before .before .put-number .ensures)
 
 pub put-field-spec : {M : Type 1} → statement M
 put-field-spec =

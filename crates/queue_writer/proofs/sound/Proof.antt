@@ -2,7 +2,7 @@
 -- Assumes nothing.
 use mathlib.Core.Path.{_≡_, sym, _∙_}
 use mathlib.Core.Bool.{true, false}
-use Prim.Native.Nat.{_+_, _-_}
+use Prim.Native.Nat.{_-_}
 use native.Mathlib.Omega.{arith}
 use borrow.Author.Needs.{needs}
 use denote.Ref.{now}
@@ -11,7 +11,7 @@ use lib.Seq.{length-take-le}
 use Rattle.queue.specs.Queue.{suits}
 use Rattle.queue.proofs.Ring.{Suited, suited}
 use Rattle.history.proofs.Entries.{none-below-append}
-use Rattle.queue_writer.proofs.Places.{held-in}
+use Rattle.queue_writer.proofs.Places.{InStore, in-store, held-in}
 use Rattle.queue_writer.proofs.sound.Statement.{statement}
 use Rattle.queue_writer.proofs.sound.Tie as tie
 
@@ -20,29 +20,29 @@ suited-here c =
     let a = c .before .before .before .args in
     suited (a .queue) (length (now (a .store))) (sym (c .before .suits .ensures) ∙ c .if1 .taken)
 
+-- what is known of the parts
+known : (c : tie.After-parts-of) → let a = c .before .before .before .before .args in InStore (a .queue) (length (now (a .store))) (c .parts-of .result)
+known c =
+    let a = c .before .before .before .before .args in
+    in-store (a .queue) (length (now (a .store))) (suited-here (c .before)) (c .parts-of .result) (c .parts-of .ensures)
+
 suits-requires : tie.Need-suits-requires
 suits-requires c κs = search needs
 
-first-part-requires : tie.Need-first-part-requires
-first-part-requires c κs = search needs
-
-add-until : tie.Need-add-until
-add-until c = let f = suited-here (c .before) in omega (arith, c .first-part .ensures)
-
-sub-rest : tie.Need-sub-rest
-sub-rest c = let f = suited-here (c .before) in omega (arith, c .first-part .ensures)
+parts-of-requires : tie.Need-parts-of-requires
+parts-of-requires c κs = search needs
 
 mul-none-below : tie.Need-mul-none-below
-mul-none-below c = let f = suited-here (c .before) in omega (arith, c .first-part .ensures)
+mul-none-below c = let k = known c in let f = suited-here (c .before) in omega arith
 
 sub-none-below : tie.Need-sub-none-below
-sub-none-below c = search needs
+sub-none-below c = let k = known c in omega arith
 
 part-none-below-start : tie.Need-part-none-below-start
-part-none-below-start c = search needs
+part-none-below-start c = let k = known c in omega arith
 
 part-none-below-end : tie.Need-part-none-below-end
-part-none-below-end c = let f = suited-here (c .before) in omega (arith, c .first-part .ensures)
+part-none-below-end c = let k = known c in omega arith
 
 none-below-requires : tie.Need-none-below-requires
 none-below-requires c κs = search needs
@@ -50,9 +50,7 @@ none-below-requires c κs = search needs
 slice-aggregate-none-below : tie.Need-slice-aggregate-none-below
 slice-aggregate-none-below c =
     let p = c .before .before .before in
-    let a = p .before .before .before .before .args in
-    let f = suited-here (p .before) in
-    sym (length-take-le (a .queue .held - p .first-part .result) (now (a .store)) (omega (arith, p .first-part .ensures)))
+    sym (length-take-le (p .parts-of .result .rest) (now (p .before .before .before .before .args .store)) (known p .start))
 
 none-below-requires-2 : tie.Need-none-below-requires-2
 none-below-requires-2 c κs = search needs
@@ -63,12 +61,12 @@ returns c =
     let a = p .before .before .before .before .args in
     let store = now (a .store) in
     let queue = a .queue in
-    let first = p .first-part .result in
+    let parts = p .parts-of .result in
     let h : suits queue (length store) ≡ true = sym (p .before .before .suits .ensures) ∙ p .before .if1 .taken in
     rw (
       h,
-      held-in queue store (suited-here (p .before)) first (p .first-part .ensures),
-      none-below-append (take (queue .head + first - queue .head) (drop (queue .head) store)) (take (queue .held - first) store),
+      held-in queue store (suited-here (p .before)) parts (p .parts-of .ensures),
+      none-below-append (take (parts .until - queue .head) (drop (queue .head) store)) (take (parts .rest) store),
       ← c .before .before .none-below .ensures,
       ← c .none-below2 .ensures,
     )
@@ -84,9 +82,7 @@ sound-spec =
     tie.close
     (tie.spec
     suits-requires
-    first-part-requires
-    add-until
-    sub-rest
+    parts-of-requires
     mul-none-below
     sub-none-below
     part-none-below-start

@@ -1,51 +1,20 @@
--- `words::double_word` meets its contract: the low and the high word are two fields side by side. Assumes nothing.
-use native.Mathlib.Omega.{arith}
+-- `words::double_word` meets its contract, order by order. Assumes nothing.
+use mathlib.Core.Path.{sym, ap, _∙_}
 use borrow.Author.Needs.{needs}
 use denote.Ref.{now}
-use Rattle.fields.proofs.Fields.{two-fields}
+use Rattle.fields.specs.declared.Order.{Order}
+use Rattle.fields.specs.Field.{widest, numberIn}
+use Rattle.fields.proofs.Orders.{low-first}
 use Rattle.words.proofs.double_word.Statement.{statement}
 use Rattle.words.proofs.double_word.Tie as tie
 
-number-at-requires : tie.Need-number-at-requires
-number-at-requires c κs = search needs
+low-double-word-requires : tie.Need-low-double-word-requires
+low-double-word-requires c κs = search needs
 
 returns : tie.Need-returns
-returns c = search needs
-
-word-at-requires : tie.Need-word-at-requires
-word-at-requires c κs = search needs
-
-cast-result : tie.Need-cast-result
-cast-result c = search needs
-
-word-at-requires-2 : tie.Need-word-at-requires-2
-word-at-requires-2 c κs = search needs
-
-cast-result-2 : tie.Need-cast-result-2
-cast-result-2 c = search needs
-
-mul-result : tie.Need-mul-result
-mul-result c = search needs
-
-add-result : tie.Need-add-result
-add-result c = search needs
-
-returns-2 : tie.Need-returns-2
-returns-2 c =
-    let low = c .before in
-    let bytes = now (low .before .before .before .args .field) in
-    omega (arith, low .word-at .ensures, c .word-at2 .ensures, two-fields bytes 0 4 4 4 8 (omega arith) (omega arith))
+returns c =
+    let a = c .before .before .args in
+    c .low-double-word .ensures ∙ ap (λ (o : Order). numberIn o widest (now (a .field))) (sym (low-first (a .order)))
 
 pub double-word-spec : {M : Type 1} → statement M
-double-word-spec =
-    tie.close
-    (tie.spec
-    number-at-requires
-    returns
-    word-at-requires
-    cast-result
-    word-at-requires-2
-    cast-result-2
-    mul-result
-    add-result
-    returns-2)
+double-word-spec = tie.close (tie.spec low-double-word-requires returns)

@@ -1,28 +1,20 @@
--- `words::word` meets its contract. Assumes nothing.
-use native.Mathlib.Omega.{arith}
+-- `words::word` meets its contract, order by order. Assumes nothing.
+use mathlib.Core.Path.{sym, ap, _∙_}
 use borrow.Author.Needs.{needs}
 use denote.Ref.{now}
-use Rattle.fields.proofs.Fields.{small}
+use Rattle.fields.specs.declared.Order.{Order}
+use Rattle.fields.specs.Field.{wordWidth, numberIn}
+use Rattle.fields.proofs.Orders.{low-first}
 use Rattle.words.proofs.word.Statement.{statement}
 use Rattle.words.proofs.word.Tie as tie
 
-number-at-requires : tie.Need-number-at-requires
-number-at-requires c κs = search needs
-
-cast-result : tie.Need-cast-result
-cast-result c =
-    let start = c .before .before in
-    let bytes = now (start .before .args .field) in
-    record { fits = omega (arith, c .number-at .ensures, small bytes (λ i. omega (arith, start .shared-slice-known .given i)) 0 4) }
+low-word-requires : tie.Need-low-word-requires
+low-word-requires c κs = search needs
 
 returns : tie.Need-returns
-returns c = search needs
-
-word-at-requires : tie.Need-word-at-requires
-word-at-requires c κs = search needs
-
-returns-2 : tie.Need-returns-2
-returns-2 c = search needs
+returns c =
+    let a = c .before .before .args in
+    c .low-word .ensures ∙ ap (λ (o : Order). numberIn o wordWidth (now (a .field))) (sym (low-first (a .order)))
 
 pub word-spec : {M : Type 1} → statement M
-word-spec = tie.close (tie.spec number-at-requires cast-result returns word-at-requires returns-2)
+word-spec = tie.close (tie.spec low-word-requires returns)

@@ -1,4 +1,5 @@
 -- `words::word_at` meets its contract. Assumes nothing.
+use Prim.Native.Nat.{_+_}
 use native.Mathlib.Omega.{arith}
 use borrow.Author.Needs.{needs}
 use denote.Ref.{now}
@@ -6,85 +7,79 @@ use Rattle.fields.proofs.Fields.{four-bytes}
 use Rattle.words.proofs.word_at.Statement.{statement}
 use Rattle.words.proofs.word_at.Tie as tie
 
-shared-slice-read-wide : tie.Need-shared-slice-read-wide
-shared-slice-read-wide c = search needs
+shared-slice-read-low : tie.Need-shared-slice-read-low
+shared-slice-read-low c = search needs
 
-wide-requires : tie.Need-wide-requires
-wide-requires c κs = search needs
-
-add-wide : tie.Need-add-wide
-add-wide c = search needs
-
-shared-slice-read-wide-2 : tie.Need-shared-slice-read-wide-2
-shared-slice-read-wide-2 c = search needs
-
-wide-requires-2 : tie.Need-wide-requires-2
-wide-requires-2 c κs = search needs
-
-mul-low : tie.Need-mul-low
-mul-low c = search needs
+cast-low : tie.Need-cast-low
+cast-low c = omega (arith, c .shared-slice-known .given (c .before .args .at))
 
 add-low : tie.Need-add-low
 add-low c = search needs
 
-add-wide-2 : tie.Need-add-wide-2
-add-wide-2 c = search needs
+shared-slice-read-low-2 : tie.Need-shared-slice-read-low-2
+shared-slice-read-low-2 c = search needs
 
-shared-slice-read-wide-3 : tie.Need-shared-slice-read-wide-3
-shared-slice-read-wide-3 c = search needs
+cast-low-2 : tie.Need-cast-low-2
+cast-low-2 c = omega (arith, c .shared-slice-known2 .given (c .before .before .args .at + 1))
 
-wide-requires-3 : tie.Need-wide-requires-3
-wide-requires-3 c κs = search needs
+mul-low : tie.Need-mul-low
+mul-low c = omega (arith, c .shared-slice-known2 .given (c .before .before .args .at + 1))
 
-add-wide-3 : tie.Need-add-wide-3
-add-wide-3 c = search needs
-
-shared-slice-read-wide-4 : tie.Need-shared-slice-read-wide-4
-shared-slice-read-wide-4 c = search needs
-
-wide-requires-4 : tie.Need-wide-requires-4
-wide-requires-4 c κs = search needs
-
-mul-high : tie.Need-mul-high
-mul-high c = search needs
+add-low-2 : tie.Need-add-low-2
+add-low-2 c = omega (arith, c .shared-slice-known2 .given (c .before .before .args .at + 1), c .before .shared-slice-known .given (c .before .before .args .at))
 
 add-high : tie.Need-add-high
 add-high c = search needs
 
+shared-slice-read-high : tie.Need-shared-slice-read-high
+shared-slice-read-high c = search needs
+
+cast-high : tie.Need-cast-high
+cast-high c = omega (arith, c .shared-slice-known3 .given (c .before .before .before .args .at + 2))
+
+add-high-2 : tie.Need-add-high-2
+add-high-2 c = search needs
+
+shared-slice-read-high-2 : tie.Need-shared-slice-read-high-2
+shared-slice-read-high-2 c = search needs
+
+cast-high-2 : tie.Need-cast-high-2
+cast-high-2 c = omega (arith, c .shared-slice-known4 .given (c .before .before .before .before .args .at + 3))
+
+mul-high : tie.Need-mul-high
+mul-high c = omega (arith, c .shared-slice-known4 .given (c .before .before .before .before .args .at + 3))
+
+add-high-3 : tie.Need-add-high-3
+add-high-3 c = omega (arith, c .shared-slice-known4 .given (c .before .before .before .before .args .at + 3), c .before .shared-slice-known3 .given (c .before .before .before .before .args .at + 2))
+
 mul-result : tie.Need-mul-result
-mul-result c = search needs
+mul-result c = omega (arith, c .shared-slice-known4 .given (c .before .before .before .before .args .at + 3), c .before .shared-slice-known3 .given (c .before .before .before .before .args .at + 2))
 
 add-result : tie.Need-add-result
-add-result c = search needs
+add-result c = omega (arith, c .shared-slice-known4 .given (c .before .before .before .before .args .at + 3), c .before .shared-slice-known3 .given (c .before .before .before .before .args .at + 2), c .before .before .shared-slice-known2 .given (c .before .before .before .before .args .at + 1), c .before .before .before .shared-slice-known .given (c .before .before .before .before .args .at))
 
 returns : tie.Need-returns
-returns c =
-    let a = c .before .before .before .before .before .before .before .before .before .args in
-    let first = c .before .before .before .before .before .before .wide .ensures .0 in
-    let second = c .before .before .before .before .wide2 .ensures .0 in
-    let third = c .before .before .wide3 .ensures .0 in
-    let fourth = c .wide4 .ensures .0 in
-    omega (arith, first, second, third, fourth, four-bytes (now (a .bytes)) (a .at))
+returns c = let a = c .before .before .before .before .args in omega (arith, four-bytes (now (a .bytes)) (a .at))
 
 pub word-at-spec : {M : Type 1} → statement M
 word-at-spec =
     tie.close
     (tie.spec
-    shared-slice-read-wide
-    wide-requires
-    add-wide
-    shared-slice-read-wide-2
-    wide-requires-2
-    mul-low
+    shared-slice-read-low
+    cast-low
     add-low
-    add-wide-2
-    shared-slice-read-wide-3
-    wide-requires-3
-    add-wide-3
-    shared-slice-read-wide-4
-    wide-requires-4
-    mul-high
+    shared-slice-read-low-2
+    cast-low-2
+    mul-low
+    add-low-2
     add-high
+    shared-slice-read-high
+    cast-high
+    add-high-2
+    shared-slice-read-high-2
+    cast-high-2
+    mul-high
+    add-high-3
     mul-result
     add-result
     returns)

@@ -1,0 +1,45 @@
+-- `queue_reader::number_at` meets its contract: the field lies in the part that is lent. Assumes nothing.
+use mathlib.Core.Path.{_∙_}
+use Prim.Native.Nat.{_+_, _-_}
+use native.Mathlib.Omega.{arith}
+use borrow.Author.Needs.{needs}
+use denote.Ref.{now}
+use lib.ListN.{drop}
+use Rattle.fields.proofs.Orders.{number-within}
+use Rattle.queue_reader.proofs.number_at.Statement.{statement}
+use Rattle.queue_reader.proofs.number_at.Tie as tie
+
+add-end : tie.Need-add-end
+add-end c = search needs
+
+sub-word : tie.Need-sub-word
+sub-word c = search needs
+
+part-word-start : tie.Need-part-word-start
+part-word-start c = search needs
+
+part-word-end : tie.Need-part-word-end
+part-word-end c = search needs
+
+word-requires : tie.Need-word-requires
+word-requires c κs = search needs
+
+cast-result : tie.Need-cast-result
+cast-result c = search needs
+
+returns : tie.Need-returns
+returns c =
+    let a = c .before .before .before .args in
+    c .word .ensures ∙ number-within (a .order) 4 (drop (a .at) (now (a .bytes))) (a .at + 4 - a .at) (omega arith)
+
+pub number-at-spec : {M : Type 1} → statement M
+number-at-spec =
+    tie.close
+    (tie.spec
+    add-end
+    sub-word
+    part-word-start
+    part-word-end
+    word-requires
+    cast-result
+    returns)
