@@ -23,6 +23,9 @@ merge-requires c κs = search needs
 number-of-requires : tie.Need-number-of-requires
 number-of-requires c κs = search needs
 
+cast-result : tie.Need-cast-result
+cast-result c = search needs
+
 number-at-requires-2 : tie.Need-number-at-requires-2
 number-at-requires-2 c κs = search needs
 
@@ -41,6 +44,7 @@ merged-spec =
     slice-aggregate-merge
     merge-requires
     number-of-requires
+    cast-result
     number-at-requires-2
     same-length
     returns-2)
