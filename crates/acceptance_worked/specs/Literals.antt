@@ -1,6 +1,6 @@
 -- The numbers that 01 writes, each beside what the definitions behind the contracts have for it. A definition that is bent together with its code and its proofs still
 -- stands against its line here. proofs/Literals.antt computes the table; a change request that moves a number of 01 moves its line.
-use Prim.Native.Nat.{ℕ, _+_}
+use Prim.Native.Nat.{ℕ}
 use mathlib.Core.Path.{_≡_}
 use mathlib.Core.Bool.{Bool, true, false}
 use mathlib.Core.List.{List, [], _∷_, map}
@@ -20,7 +20,8 @@ use Rattle.recurrence.specs.Recurrence.{flush}
 use Rattle.interp.specs.declared.Interp.{Interp}
 use Rattle.interp.specs.Interp.{Kind, upsampled, noTruePeak, kindOf}
 use Rattle.layout.specs.declared.Kind.the-variants.{Histogram, Queue}
-use Rattle.layout.specs.Layout.{numberOf, canBe}
+use Rattle.layout.specs.Layout.{kindNumber, canBe}
+use Rattle.queue_reader.specs.QueueRecord.{nanPattern}
 
 -- what a line compares
 pub data Literal : Type 0 where
@@ -115,13 +116,14 @@ lines =
     ∷ is (float hundredth) (float (f64 0x3F84_7AE1_47AE_147B))
     ∷ is (float lowestLoudness) (float (f64 0xC051_8000_0000_0000))
     -- 'Records': kinds 1 and 2; "kind 1 unlike 4,002, kind 2 under 10, LENGTH"; "NaN as 7FF8000000000000"
-    ∷ has (numberOf Histogram) 1
-    ∷ has (numberOf Queue) 2
+    ∷ has (kindNumber Histogram) 1
+    ∷ has (kindNumber Queue) 2
     ∷ answersNo (canBe Histogram 4_001)
     ∷ answersYes (canBe Histogram 4_002)
     ∷ answersNo (canBe Histogram 4_003)
     ∷ answersNo (canBe Queue 9)
     ∷ answersYes (canBe Queue 10)
+    ∷ has nanPattern 0x7FF8_0000_0000_0000
     ∷ has (toBits binary64 nan) 0x7FF8_0000_0000_0000
     ∷ []
 
