@@ -11,7 +11,10 @@ use Rattle.refusals.specs.Outcome.{Said, says, refusal, NoValues, done}
 use Rattle.refusals.specs.Answer.{said as saidAnswer}
 use Rattle.bin_search.specs.declared.Level.{Level}
 use Rattle.bin_search.specs.declared.Level.the-variants.{Tenths, Refused as Refused-level}
-use Rattle.bin_search.specs.Reading.{said as saidLevel}
+use Rattle.bin_search.specs.Reading.{readingOf, said as saidLevel}
+use Rattle.histogram.specs.Histogram.{addTo, cleared}
+use Rattle.histogram_merge.specs.Merge.{mergeInto}
+use Rattle.queue_add.specs.Adding.{enqueued}
 use Rattle.queue.specs.Queue.{Stored}
 use Rattle.gate.specs.declared.blocks.Totals.{Totals}
 use Rattle.gate.specs.declared.Gated.{Gated}
@@ -20,13 +23,16 @@ use Rattle.gated_energy.specs.declared.Energy.{Energy}
 use Rattle.gated_energy.specs.declared.Energy.the-variants.{Of, Refused as Refused-energy}
 use Rattle.gate.specs.declared.threshold.Threshold.{Threshold}
 use Rattle.gate.specs.declared.threshold.Threshold.the-variants.{Loudness, Energy as Energy-at, Refused as Refused-threshold}
-use Rattle.gate.specs.Gate.{said as saidGated}
-use Rattle.gated_energy.specs.GatedEnergy.{said as saidEnergy}
-use Rattle.gate.specs.Relative.{Level as LevelOf, loudness, energy, said as saidThreshold}
+use Rattle.gate.specs.Gate.{gateOf, said as saidGated}
+use Rattle.gated_energy.specs.GatedEnergy.{gatedEnergyOf, said as saidEnergy}
+use Rattle.gate.specs.Relative.{Level as LevelOf, loudness, energy as energy-of, relativeOf, said as saidThreshold}
 use Rattle.spans.specs.declared.Range.{Range}
 use Rattle.spans.specs.declared.Range.the-variants.{Found, Nothing, NotANumber, Refused as Refused-range}
 use Rattle.spans.specs.Span.{Span, found, nothing, notANumber}
 use Rattle.spans.specs.Span.{said as saidRange}
+use Rattle.histogram_range.specs.Counted.{histogramRange}
+use Rattle.queue_range.specs.Listed.{queueRange}
+use Rattle.range.specs.Range.{rangeOf}
 use Rattle.acceptance_outcomes.specs.Fixed.{Fixes, EachFixed}
 
 -- where there is a way back from what is said, a statement fixes its outcome
@@ -73,7 +79,7 @@ energy-there (Refused-energy n) = refl
 
 threshold-back : Said LevelOf → Threshold
 threshold-back (says (loudness l)) = Loudness l
-threshold-back (says (energy e)) = Energy-at e
+threshold-back (says (energy-of e)) = Energy-at e
 threshold-back (refusal n) = Refused-threshold n
 
 threshold-there : (a : Threshold) → threshold-back (saidThreshold a) ≡ a
@@ -97,11 +103,15 @@ range-there (Refused-range n) = refl
 
 pub each-fixed : EachFixed
 each-fixed = record {
-  reading = fixes Unit saidLevel level-back level-there;
-  histogram = fixes (List ℕ) saidAnswer answer-back answer-there;
-  queue = fixes Stored saidAnswer answer-back answer-there;
-  gate = fixes Unit saidGated gated-back gated-there;
-  gatedEnergy = fixes Unit saidEnergy energy-back energy-there;
-  relativeThreshold = fixes Unit saidThreshold threshold-back threshold-there;
-  loudnessRange = fixes (List Float) saidRange range-back range-there;
+  reading = λ energy. fixes Unit saidLevel level-back level-there tt (readingOf energy);
+  histogramAdd = λ counters energy. fixes (List ℕ) saidAnswer answer-back answer-there counters (addTo counters energy);
+  histogramMerge = λ into from. fixes (List ℕ) saidAnswer answer-back answer-there into (mergeInto into from);
+  histogramReset = λ counters. fixes (List ℕ) saidAnswer answer-back answer-there counters (cleared counters);
+  queueAdd = λ s energy. fixes Stored saidAnswer answer-back answer-there s (enqueued s energy);
+  gate = λ h. fixes Unit saidGated gated-back gated-there tt (gateOf h);
+  gatedEnergy = λ h. fixes Unit saidEnergy energy-back energy-there tt (gatedEnergyOf h);
+  relativeThreshold = λ entry counters energies. fixes Unit saidThreshold threshold-back threshold-there tt (relativeOf entry counters energies);
+  loudnessRange = λ h work. fixes (List Float) saidRange range-back range-there work (rangeOf h work);
+  rangeOfHistograms = λ h. fixes Unit saidRange range-back range-there tt (histogramRange h);
+  rangeOfQueues = λ h work. fixes (List Float) saidRange range-back range-there work (queueRange h work);
 }

@@ -8,12 +8,20 @@ use Prim.Native.Nat.{ℕ}
 use lib.Ieee.{Float}
 use Rattle.refusals.specs.Outcome.{Outcome, Said, saidBy, keptBy}
 use Rattle.refusals.specs.Answer.{said as saidAnswer}
-use Rattle.bin_search.specs.Reading.{said as saidLevel}
+use Rattle.bin_search.specs.Reading.{readingOf, said as saidLevel}
+use Rattle.histogram.specs.Histogram.{addTo, cleared}
+use Rattle.histogram_merge.specs.Merge.{mergeInto}
 use Rattle.queue.specs.Queue.{Stored}
-use Rattle.gate.specs.Gate.{said as saidGated}
-use Rattle.gated_energy.specs.GatedEnergy.{said as saidEnergy}
-use Rattle.gate.specs.Relative.{said as saidThreshold}
+use Rattle.queue_add.specs.Adding.{enqueued}
+use Rattle.history.specs.declared.set.Entry.{Entry}
+use Rattle.history.specs.Set.{Histories}
+use Rattle.gate.specs.Gate.{gateOf, said as saidGated}
+use Rattle.gate.specs.Relative.{relativeOf, said as saidThreshold}
+use Rattle.gated_energy.specs.GatedEnergy.{gatedEnergyOf, said as saidEnergy}
 use Rattle.spans.specs.Span.{said as saidRange}
+use Rattle.histogram_range.specs.Counted.{histogramRange}
+use Rattle.queue_range.specs.Listed.{queueRange}
+use Rattle.range.specs.Range.{rangeOf}
 
 -- a call's end meets its statement: this answer, where `kept` stands after the call and `given` stood before
 pub record Meets {Answer Kept Values : Type 0} (said : Answer → Said Values) (given : Kept) (call : Outcome Kept Values) (answer : Answer) (kept : Kept) : Type 0 where
@@ -21,20 +29,26 @@ pub record Meets {Answer Kept Values : Type 0} (said : Answer → Said Values) (
   pub standing : kept ≡ keptBy given call
 
 -- two ends that meet it are the same
-abbrev pub Fixes : {Answer Values : Type 0} → (Kept : Type 0) → (Answer → Said Values) → Type 0
-Fixes {Answer} {Values} Kept said =
-    (given : Kept) (call : Outcome Kept Values) (answer other : Answer) (kept otherwise : Kept)
-    → Meets said given call answer kept → Meets said given call other otherwise → (answer ≡ other) × (kept ≡ otherwise)
+abbrev pub Fixed : {Answer Kept Values : Type 0} → (Answer → Said Values) → Kept → Outcome Kept Values → Type 0
+Fixed {Answer} {Kept} said given call =
+    (answer other : Answer) (kept otherwise : Kept) → Meets said given call answer kept → Meets said given call other otherwise → (answer ≡ other) × (kept ≡ otherwise)
 
--- the operations by what they answer and what they keep. A question keeps nothing
+-- whatever an operation with such answers comes to
+abbrev pub Fixes : {Answer Values : Type 0} → (Kept : Type 0) → (Answer → Said Values) → Type 0
+Fixes {Answer} {Values} Kept said = (given : Kept) (call : Outcome Kept Values) → Fixed said given call
+
+-- the operations, each by what its contract says of it. A question keeps nothing
 pub record EachFixed : Type 0 where
-  pub reading : Fixes Unit saidLevel
-  -- add, merge and reset
-  pub histogram : Fixes (List ℕ) saidAnswer
+  pub reading : (energy : Float) → Fixed saidLevel tt (readingOf energy)
+  pub histogramAdd : (counters : List ℕ) (energy : Float) → Fixed saidAnswer counters (addTo counters energy)
+  pub histogramMerge : (into from : List ℕ) → Fixed saidAnswer into (mergeInto into from)
+  pub histogramReset : (counters : List ℕ) → Fixed saidAnswer counters (cleared counters)
   -- the queue by value and its lent store
-  pub queue : Fixes Stored saidAnswer
-  pub gate : Fixes Unit saidGated
-  pub gatedEnergy : Fixes Unit saidEnergy
-  pub relativeThreshold : Fixes Unit saidThreshold
-  -- the work slice
-  pub loudnessRange : Fixes (List Float) saidRange
+  pub queueAdd : (s : Stored) (energy : Float) → Fixed saidAnswer s (enqueued s energy)
+  pub gate : (h : Histories) → Fixed saidGated tt (gateOf h)
+  pub gatedEnergy : (h : Histories) → Fixed saidEnergy tt (gatedEnergyOf h)
+  pub relativeThreshold : (entry : Entry) (counters : List ℕ) (energies : List Float) → Fixed saidThreshold tt (relativeOf entry counters energies)
+  -- the work slice; and the range over histograms and over queues by themselves
+  pub loudnessRange : (h : Histories) (work : List Float) → Fixed saidRange work (rangeOf h work)
+  pub rangeOfHistograms : (h : Histories) → Fixed saidRange tt (histogramRange h)
+  pub rangeOfQueues : (h : Histories) (work : List Float) → Fixed saidRange work (queueRange h work)
