@@ -8,7 +8,7 @@ use native.Mathlib.Nat.{le-of-suc-le-suc, not-suc-le-zero, eq-or-lt-of-le}
 use native.Mathlib.Omega.{arith}
 use lib.Dec.{T}
 use lib.ListN.{length, getD}
-use lib.Ieee.{Float, nan, ofBits}
+use lib.Ieee.{Float, nan, le, ofBits}
 use lib.Ieee.Fits.{and-l, and-r}
 use Rattle.interp.specs.Taps.{fourfold, twofold}
 use Rattle.interp.specs.Rules.{one, withinOne, near, Ruled}
@@ -31,7 +31,7 @@ unfolding fourfold twofold
 right = ruled fourfold && ruled twofold
 
 checked : T right
-unfolding right ofBits
+unfolding right ofBits le
 checked = tt
 
 -- ---- what the test says at a place, for any table

@@ -7,16 +7,15 @@ use Prim.Native.Nat.{ℕ, _+_, _-_, _*_, _^_, _<_, _≤_}
 use lib.Dec.{T, leb}
 use lib.ListN.{getD}
 use lib.IntN.{pos}
-use lib.Ieee.{Float, nan, inf, fin, up, down}
+use lib.Ieee.{Float, nan, inf, fin, up, down, le}
+use Rattle.floats.specs.Largest.{magnitude}
 
 abbrev pub one : Float
 one = fin false 1 (pos 0)
 
 -- the magnitude is at most 1
 abbrev pub withinOne : Float → Bool
-withinOne nan = false
-withinOne (inf s) = false
-withinOne (fin s m e) = leb (m * up e) (down e)
+withinOne x = le (magnitude x) one
 
 -- how far ±a and ±b are apart
 abbrev pub apart : Bool → ℕ → Bool → ℕ → ℕ
