@@ -18,10 +18,15 @@ use Rattle.gate.specs.Relative.{levelOf, relativeRows, relativeOf}
 use Rattle.gate.specs.Gate.{leftOf, gateRows, gateOf}
 use Rattle.gated_energy.specs.GatedEnergy.{gatedEnergyOf}
 use Rattle.range.specs.Range.{Span, workAfter, spanOver, rangeRows, rangeOf}
+use Rattle.histogram_reader.specs.Record.{readHistogramRows, readHistogram}
+use Rattle.histogram_writer.specs.Writing.{writeHistogramRows, writeHistogram}
+use Rattle.queue_reader.specs.QueueRecord.{readQueueRows, readQueue}
+use Rattle.queue_writer.specs.Writing.{writeQueueRows, writeQueue}
 use Rattle.codes.specs.Codes.{code, valueOr}
 use Rattle.entries.specs.Sets.{entryAt, setOf, uneven, asked, notOne, askedAlone}
 use Rattle.exports_range.specs.Spans.{rangeAsked, spanCode, lowOr, highOr}
 use Rattle.acceptance_refusals.proofs.Table.{demand-1}
+use Rattle.acceptance_records.proofs.Records.{record-calls}
 use Rattle.acceptance_interface.specs.Interface.{Tells, Interface}
 
 number-said : {Values : Type 0} → Said Values → ℕ
@@ -91,4 +96,8 @@ interface = record {
   relativeThreshold = relates;
   loudnessRange = ranges;
   spans = λ numbers counters energies work. refused-span (rangeAsked numbers counters energies work);
+  histogramRead = λ bytes counters. tells (readHistogramRows bytes counters) (readHistogram bytes counters) (record-calls .histogramRead bytes counters);
+  histogramWrite = λ counters out. tells (writeHistogramRows counters out) (writeHistogram counters out) (record-calls .histogramWritten counters out);
+  queueRead = λ bytes store. tells (readQueueRows bytes store) (readQueue bytes store) (record-calls .queueRead bytes store);
+  queueWrite = λ s out. tells (writeQueueRows s out) (writeQueue s out) (record-calls .queueWritten s out);
 }

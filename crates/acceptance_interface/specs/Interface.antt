@@ -16,6 +16,10 @@ use Rattle.gate.specs.Relative.{relativeRows, relativeOf}
 use Rattle.gate.specs.Gate.{gateRows, gateOf}
 use Rattle.gated_energy.specs.GatedEnergy.{gatedEnergyOf}
 use Rattle.range.specs.Range.{rangeRows}
+use Rattle.histogram_reader.specs.Record.{readHistogramRows, readHistogram}
+use Rattle.histogram_writer.specs.Writing.{writeHistogramRows, writeHistogram}
+use Rattle.queue_reader.specs.QueueRecord.{readQueueRows, readQueue}
+use Rattle.queue_writer.specs.Writing.{writeQueueRows, writeQueue}
 use Rattle.codes.specs.Codes.{code, valueOr}
 use Rattle.entries.specs.Sets.{entryAt, setOf, uneven, asked, notOne, askedAlone}
 use Rattle.exports_range.specs.Spans.{rangeAsked, spanCode, lowOr, highOr}
@@ -44,3 +48,8 @@ pub record Interface : Type 0 where
   pub spans : (numbers counters : List ℕ) (energies work : List Float) →
       let call = rangeAsked numbers counters energies work in
       (code call ≡ 0 → ⊥) → (spanCode call ≡ code call) × ((old : Float) → (lowOr old call ≡ old) × (highOr old call ≡ old))
+  -- the records
+  pub histogramRead : (bytes counters : List ℕ) → Tells (readHistogramRows bytes counters) (readHistogram bytes counters)
+  pub histogramWrite : (counters out : List ℕ) → Tells (writeHistogramRows counters out) (writeHistogram counters out)
+  pub queueRead : (bytes : List ℕ) (store : List Float) → Tells (readQueueRows bytes store) (readQueue bytes store)
+  pub queueWrite : (s : Stored) (out : List ℕ) → Tells (writeQueueRows s out) (writeQueue s out)

@@ -22,7 +22,7 @@ use Rattle.queue_reader.specs.QueueRecord.{stored, queueIn, readQueueRows, read
 use Rattle.queue_writer.specs.Writing.{queueRecord, writeQueueRows, writeQueue}
 use Rattle.summary.specs.declared.Summary.{Summary}
 use Rattle.summary.specs.declared.Summary.the-variants.{Ranged, Rangeless, Refused as Refused-summary}
-use Rattle.summary.specs.Summary.{Figures, ranged, rangeless, said as saidSummary}
+use Rattle.summary.specs.Summary.{Figures, ranged, rangeless, summaryOf, said as saidSummary}
 use Rattle.acceptance_outcomes.proofs.Fixed.{fixes, answer-back, answer-there}
 use Rattle.acceptance_records.specs.Records.{RecordCalls}
 
@@ -72,8 +72,9 @@ record-calls = record {
       λ s out.
       let bytes = queueRecord (s .queue .maximum) (heldOf s) in
       refused-by (writeQueueRows s out) (bytes ++ drop (length bytes) out) (length bytes);
-  fixedRead = fixes (List ℕ) saidAnswer answer-back answer-there;
-  fixedReceived = fixes (List Float) saidReceived received-back received-there;
-  fixedWritten = fixes (List ℕ) saidWritten written-back written-there;
-  fixedSummary = fixes Unit saidSummary summary-back summary-there;
+  fixedHistogramRead = λ bytes counters. fixes (List ℕ) saidAnswer answer-back answer-there counters (readHistogram bytes counters);
+  fixedHistogramWritten = λ counters out. fixes (List ℕ) saidWritten written-back written-there out (writeHistogram counters out);
+  fixedQueueRead = λ bytes store. fixes (List Float) saidReceived received-back received-there store (readQueue bytes store);
+  fixedQueueWritten = λ s out. fixes (List ℕ) saidWritten written-back written-there out (writeQueue s out);
+  fixedSummary = λ bytes. fixes Unit saidSummary summary-back summary-there tt (summaryOf bytes);
 }

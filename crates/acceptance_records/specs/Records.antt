@@ -12,8 +12,8 @@ use Rattle.histogram_reader.specs.Record.{readHistogramRows, readHistogram}
 use Rattle.histogram_writer.specs.Writing.{writeHistogramRows, writeHistogram}
 use Rattle.queue_reader.specs.QueueRecord.{readQueueRows, readQueue, said as saidReceived}
 use Rattle.queue_writer.specs.Writing.{writeQueueRows, writeQueue}
-use Rattle.summary.specs.Summary.{said as saidSummary}
-use Rattle.acceptance_outcomes.specs.Fixed.{Fixes}
+use Rattle.summary.specs.Summary.{summaryOf, said as saidSummary}
+use Rattle.acceptance_outcomes.specs.Fixed.{Fixed}
 
 pub record RecordCalls : Type 0 where
   pub histogramRead : (bytes counters : List ℕ) → RefusedBy (readHistogramRows bytes counters) (readHistogram bytes counters)
@@ -21,8 +21,9 @@ pub record RecordCalls : Type 0 where
   pub queueRead : (bytes : List ℕ) (store : List Float) → RefusedBy (readQueueRows bytes store) (readQueue bytes store)
   pub queueWritten : (s : Stored) (out : List ℕ) → RefusedBy (writeQueueRows s out) (writeQueue s out)
   -- the counters or the energies read into, and the bytes written into
-  pub fixedRead : Fixes (List ℕ) saidAnswer
-  pub fixedReceived : Fixes (List Float) saidReceived
-  pub fixedWritten : Fixes (List ℕ) saidWritten
+  pub fixedHistogramRead : (bytes counters : List ℕ) → Fixed saidAnswer counters (readHistogram bytes counters)
+  pub fixedHistogramWritten : (counters out : List ℕ) → Fixed saidWritten out (writeHistogram counters out)
+  pub fixedQueueRead : (bytes : List ℕ) (store : List Float) → Fixed saidReceived store (readQueue bytes store)
+  pub fixedQueueWritten : (s : Stored) (out : List ℕ) → Fixed saidWritten out (writeQueue s out)
   -- the report keeps nothing
-  pub fixedSummary : Fixes Unit saidSummary
+  pub fixedSummary : (bytes : List ℕ) → Fixed saidSummary tt (summaryOf bytes)
