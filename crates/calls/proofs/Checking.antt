@@ -1,19 +1,21 @@
--- The checks of a call: what a passed check says, and that each number stands for its refusal alone.
--- Each test of the code is a test of the definition, or its contrary; the room of a part is compared with no sum. Assumes nothing.
+-- The checks of a call: what a call that passes has, found by the refusal's name. Each test of the code is a test of the definition, or its contrary; the room of a part is
+-- compared with no sum. Assumes nothing.
 use Prim.Native.Nat.{ℕ, suc, _+_, _-_, _*_, _/_, _%_, _≤_, _<_}
 use native.Mathlib.Numerals.{add-one}
 use native.Mathlib.Nat.{div-add-mod'}
 use native.Mathlib.Omega.{arith}
 use mathlib.Core.Path.{_≡_, refl, ap, sym, _∙_}
 use mathlib.Core.List.{List}
-use mathlib.Core.Bool.{Bool, true, false, cond, not, _&&_, _||_, true≢false}
-use borrow.Author.Tests.{eqb-true, eqb-false, ltb-false, not-false, lt-leb, le-leb, lt-ltb, le-ltb}
+use mathlib.Core.Bool.{Bool, true, false, not, _&&_, _||_, true≢false}
+use borrow.Author.Tests.{eqb-true, eqb-false, eq-eqb, ne-eqb, ltb-false, not-false, lt-leb, le-leb, lt-ltb, le-ltb}
 use lib.Dec.{ltb, eqb}
 use lib.ListN.{length, getD, drop}
 use lib.Seq.{drop-cons}
-use Rattle.refusals.specs.Refusal.{Refusal, number, CHANNELS, SAMPLES, MAP, DEST, STORE, FULL, SET, MODE, NONE, NAN, SCALE, LENGTH, KIND, CONTENT, ROOM}
-use Rattle.calls.specs.Check.{Check, passes, fails, numberOf, then}
-use Rattle.calls.specs.Calls.{mostChannels, allAdmitted, wrongChannels, wrongSamples, wrongMap, wrongDest, checkFrames, checkMap, checkDest, checkSeed, checkProcess}
+use Rattle.refusals.specs.Refusal.{CHANNELS, SAMPLES, MAP, DEST}
+use Rattle.refusals.specs.Rows.{numberOf}
+use Rattle.refusals.proofs.Rows.{not-held, number-parts}
+use Rattle.calls.specs.declared.Sizes.{Sizes}
+use Rattle.calls.specs.Calls.{mostChannels, allAdmitted, wrongChannels, wrongSamples, wrongMap, wrongDest, frameRows, mapRows, destRows, seedRows, processRows}
 
 -- ---- map bytes
 
@@ -39,118 +41,86 @@ too-late p f s h g = lt-ltb p (s + f) (omega arith)
 pub has-room : (p f s : ℕ) → f ≤ p → s ≤ p - f → ltb p (s + f) ≡ false
 has-room p f s h g = le-ltb p (s + f) (omega arith)
 
--- ---- a check's number
-
-positive : (r : Refusal) → number r ≡ 0 → ⊥
-positive CHANNELS e = omega arith
-positive SAMPLES e = omega arith
-positive MAP e = omega arith
-positive DEST e = omega arith
-positive STORE e = omega arith
-positive FULL e = omega arith
-positive SET e = omega arith
-positive MODE e = omega arith
-positive NONE e = omega arith
-positive NAN e = omega arith
-positive SCALE e = omega arith
-positive LENGTH e = omega arith
-positive KIND e = omega arith
-positive CONTENT e = omega arith
-positive ROOM e = omega arith
-
--- 0 is no refusal's number
-pub passed : (check : Check) → numberOf check ≡ 0 → check ≡ passes
-passed passes e = refl
-passed (fails r) e = absurd (positive r e)
-
-stops : (b : Bool) (r : Refusal) (rest : Check) → cond b (fails r) rest ≡ passes → (b ≡ false) × (rest ≡ passes)
-stops true r rest e = absurd (let z : _≡_ {A = ℕ} 0 1 = cc in omega arith)
-stops false r rest e = (refl, e)
+-- ---- what is not wrong
 
 neither : (a b : Bool) → (a || b) ≡ false → (a ≡ false) × (b ≡ false)
 neither true b e = absurd (true≢false e)
 neither false b e = (refl, e)
 
--- ---- checks in a row
-
-pub then-first : (check next : Check) → (numberOf check ≡ 0 → ⊥) → then check next ≡ check
-then-first passes next h = absurd (h refl)
-then-first (fails r) next h = refl
-
-pub then-next : (check next : Check) → check ≡ passes → then check next ≡ next
-then-next check next e = ap (λ (k : Check). then k next) e
-
-both : (check next : Check) → then check next ≡ passes → (check ≡ passes) × (next ≡ passes)
-both passes next e = (refl, e)
-both (fails r) next e = absurd (let z : _≡_ {A = ℕ} 0 1 = cc in omega arith)
-
--- the number of two checks in a row: the first's where it fails, and else the second's
-pub number-first : (check next : Check) (n : ℕ) → n ≡ numberOf check → (n ≡ 0 → ⊥) → n ≡ numberOf (then check next)
-number-first check next n e h = e ∙ ap numberOf (sym (then-first check next (λ z. h (e ∙ z))))
-
-pub number-next : (check next : Check) (n m : ℕ) → n ≡ numberOf check → n ≡ 0 → m ≡ numberOf next → m ≡ numberOf (then check next)
-number-next check next n m e z f = f ∙ ap numberOf (sym (then-next check next (passed check (sym e ∙ z))))
-
--- ---- what a call that passes has
-
--- its samples are whole frames of few channels
+-- the samples are whole frames of few channels
 pub record Framed (channels samples : ℕ) : Type 0 where
   pub some : 0 < channels
   pub few : channels ≤ mostChannels
   pub whole : samples / channels * channels ≡ samples
 
-pub framed : (channels samples : ℕ) → checkFrames channels samples ≡ passes → Framed channels samples
-unfolding checkFrames
-framed channels samples e =
-    let p1 = stops (wrongChannels channels) CHANNELS (cond (wrongSamples channels samples) (fails SAMPLES) passes) e in
-    let p2 = stops (wrongSamples channels samples) SAMPLES passes (p1 .1) in
-    let c = neither (eqb channels 0) (ltb mostChannels channels) (p1 .0) in
-    let z = eqb-false channels 0 (c .0) in
-    let w = eqb-true (samples % channels) 0 (not-false _ (p2 .0)) in
+framed : (channels samples : ℕ) → wrongChannels channels ≡ false → wrongSamples channels samples ≡ false → Framed channels samples
+framed channels samples c s =
+    let p = neither (eqb channels 0) (ltb mostChannels channels) c in
+    let z = eqb-false channels 0 (p .0) in
+    let w = eqb-true (samples % channels) 0 (not-false _ s) in
     record {
       some = omega arith;
-      few = ltb-false mostChannels channels (c .1);
+      few = ltb-false mostChannels channels (p .1);
       whole = omega (arith, div-add-mod' samples channels);
     }
 
--- its map has a byte for each channel
-pub mapped : (channels : ℕ) (map : List ℕ) → checkMap channels map ≡ passes → channels ≡ length map
-unfolding checkMap
+-- the map has a byte for each channel
+mapped : (channels : ℕ) (map : List ℕ) → wrongMap channels map ≡ false → channels ≡ length map
 mapped channels map e =
-    let p = stops (wrongMap channels map) MAP passes e in
-    let m = neither (not (eqb (length map) channels)) (not (allAdmitted map)) (p .0) in
+    let m = neither (not (eqb (length map) channels)) (not (allAdmitted map)) e in
     sym (eqb-true (length map) channels (not-false _ (m .0)))
 
--- its destination has a part for each channel, and room in it
-pub record Roomy (channels samples room start : ℕ) : Type 0 where
-  pub parts : room / channels * channels ≡ room
-  pub fits : start + samples / channels ≤ room / channels
+-- the destination has a part for each channel, and room in it
+pub record Roomy (s : Sizes) : Type 0 where
+  pub parts : s .room / s .channels * s .channels ≡ s .room
+  pub fits : s .start + s .samples / s .channels ≤ s .room / s .channels
 
-pub roomy : (channels samples room start : ℕ) → checkDest true channels samples room start ≡ passes → Roomy channels samples room start
-unfolding checkDest
-roomy channels samples room start e =
-    let p = stops (wrongDest channels samples room start) DEST passes e in
-    let d = neither (eqb room 0) (not (eqb (room % channels) 0) || ltb (room / channels) (start + samples / channels)) (p .0) in
-    let f = neither (not (eqb (room % channels) 0)) (ltb (room / channels) (start + samples / channels)) (d .1) in
-    let w = eqb-true (room % channels) 0 (not-false _ (f .0)) in
-    record { parts = omega (arith, div-add-mod' room channels); fits = ltb-false (room / channels) (start + samples / channels) (f .1) }
+roomy : (s : Sizes) → wrongDest s ≡ false → Roomy s
+roomy s e =
+    let d = neither (eqb (s .room) 0) (not (eqb (s .room % s .channels) 0) || ltb (s .room / s .channels) (s .start + s .samples / s .channels)) e in
+    let f = neither (not (eqb (s .room % s .channels) 0)) (ltb (s .room / s .channels) (s .start + s .samples / s .channels)) (d .1) in
+    let w = eqb-true (s .room % s .channels) 0 (not-false _ (f .0)) in
+    record { parts = omega (arith, div-add-mod' (s .room) (s .channels)); fits = ltb-false (s .room / s .channels) (s .start + s .samples / s .channels) (f .1) }
 
--- a call of `seed`, and of `process`, that passes
+-- ---- what a call that passes has
+
+pub frames-fine : (channels samples : ℕ) → numberOf (frameRows channels samples) ≡ 0 → Framed channels samples
+unfolding frameRows
+frames-fine channels samples e =
+    let rows = frameRows channels samples in
+    framed channels samples (not-held CHANNELS rows e) (not-held SAMPLES rows e)
+
+-- whole frames of 1 to 8 channels pass
+pub frames-pass : (channels samples : ℕ) → 0 < channels → channels ≤ mostChannels → samples % channels ≡ 0 → numberOf (frameRows channels samples) ≡ 0
+unfolding frameRows
+frames-pass channels samples some few whole =
+    rw (ne-eqb channels 0 (λ e. omega arith), le-ltb mostChannels channels few, eq-eqb (samples % channels) 0 whole)
+
+-- a call of `seed`
 pub record Seeds (channels samples : ℕ) (map : List ℕ) : Type 0 where
-  pub frames : checkFrames channels samples ≡ passes
-  pub bytes : checkMap channels map ≡ passes
+  pub frames : Framed channels samples
+  pub bytes : channels ≡ length map
 
-pub seeds : (channels samples : ℕ) (map : List ℕ) → checkSeed channels samples map ≡ passes → Seeds channels samples map
+pub seed-frames : (channels samples : ℕ) (map : List ℕ) → numberOf (seedRows channels samples map) ≡ 0 → numberOf (frameRows channels samples) ≡ 0
+seed-frames channels samples map e = number-parts (frameRows channels samples) (mapRows channels map) e .0
+
+pub seeds : (channels samples : ℕ) (map : List ℕ) → numberOf (seedRows channels samples map) ≡ 0 → Seeds channels samples map
+unfolding frameRows mapRows
 seeds channels samples map e =
-    let p = both (checkFrames channels samples) (checkMap channels map) e in
-    record { frames = p .0; bytes = p .1 }
+    record { frames = frames-fine channels samples (seed-frames channels samples map e); bytes = mapped channels map (not-held MAP (seedRows channels samples map) e) }
 
-pub record Processes (loudness : Bool) (channels samples : ℕ) (map : List ℕ) (room start : ℕ) : Type 0 where
-  pub seed : checkSeed channels samples map ≡ passes
-  pub dest : checkDest loudness channels samples room start ≡ passes
+-- a call of `process`, with loudness on
+pub record Processes (s : Sizes) (map : List ℕ) : Type 0 where
+  pub seed : Seeds (s .channels) (s .samples) map
+  pub room : Roomy s
 
-pub processes : (loudness : Bool) (channels samples : ℕ) (map : List ℕ) (room start : ℕ) → checkProcess loudness channels samples map room start ≡ passes
-    → Processes loudness channels samples map room start
-processes loudness channels samples map room start e =
-    let p = both (checkSeed channels samples map) (checkDest loudness channels samples room start) e in
-    record { seed = p .0; dest = p .1 }
+pub process-seeds : (loudness : Bool) (s : Sizes) (map : List ℕ) → numberOf (processRows loudness s map) ≡ 0 → numberOf (seedRows (s .channels) (s .samples) map) ≡ 0
+process-seeds loudness s map e = number-parts (seedRows (s .channels) (s .samples) map) (destRows loudness s) e .0
+
+pub processes : (s : Sizes) (map : List ℕ) → numberOf (processRows true s map) ≡ 0 → Processes s map
+unfolding frameRows mapRows destRows
+processes s map e =
+    record {
+      seed = seeds (s .channels) (s .samples) map (process-seeds true s map e);
+      room = roomy s (not-held DEST (processRows true s map) e);
+    }

@@ -1,11 +1,12 @@
--- When a call over samples is refused (01, 'Numbers of the refusals'), in table order. Each row of the table is stated here and nowhere else.
+-- When a call over samples is refused (01, 'Numbers of the refusals'): the rows of the table that apply to it, in table order. Each stands here and nowhere else.
 use Prim.Native.Nat.{ℕ, _+_, _/_, _%_}
-use mathlib.Core.Bool.{Bool, true, cond, not, _&&_, _||_}
-use mathlib.Core.List.{List, [], _∷_}
+use mathlib.Core.Bool.{Bool, true, not, _&&_, _||_}
+use mathlib.Core.List.{List, [], _∷_, _++_}
 use lib.Dec.{leb, ltb, eqb}
 use lib.ListN.{length}
 use Rattle.refusals.specs.Refusal.{CHANNELS, SAMPLES, MAP, DEST}
-use Rattle.calls.specs.Check.{Check, passes, fails, then}
+use Rattle.refusals.specs.Rows.{Row, row}
+use Rattle.calls.specs.declared.Sizes.{Sizes}
 
 -- the channels that states and peaks have places for
 abbrev pub mostChannels : ℕ
@@ -34,26 +35,38 @@ wrongSamples channels samples = not (eqb (samples % channels) 0)
 abbrev pub wrongMap : ℕ → List ℕ → Bool
 wrongMap channels map = not (eqb (length map) channels) || not (allAdmitted map)
 
+-- what a call with a destination is checked by: its channels, how many samples it has, the destination's length and the start index
+abbrev pub sizes : ℕ → ℕ → ℕ → ℕ → Sizes
+sizes channels samples room start = record { channels = channels; samples = samples; room = room; start = start }
+
 -- "the destination is empty, not a multiple of channels, or start + frames exceeds its per-channel part"
-abbrev pub wrongDest : ℕ → ℕ → ℕ → ℕ → Bool
-wrongDest channels samples room start =
-    eqb room 0 || (not (eqb (room % channels) 0) || ltb (room / channels) (start + samples / channels))
+abbrev pub wrongDest : Sizes → Bool
+wrongDest s =
+    eqb (s .room) 0 || (not (eqb (s .room % s .channels) 0) || ltb (s .room / s .channels) (s .start + s .samples / s .channels))
 
--- the checks of every call over samples, by their number
-unfoldable pub checkFrames : ℕ → ℕ → Check
-checkFrames channels samples = cond (wrongChannels channels) (fails CHANNELS) (cond (wrongSamples channels samples) (fails SAMPLES) passes)
+-- ---- the rows of each call, by how many samples there are
+-- of every call
+unfoldable pub frameRows : ℕ → ℕ → List Row
+frameRows channels samples =
+    row CHANNELS (wrongChannels channels)
+    ∷ row SAMPLES (wrongSamples channels samples)
+    ∷ []
 
-unfoldable pub checkMap : ℕ → List ℕ → Check
-checkMap channels map = cond (wrongMap channels map) (fails MAP) passes
+-- of a call with a map
+unfoldable pub mapRows : ℕ → List ℕ → List Row
+mapRows channels map =
+    row MAP (wrongMap channels map)
+    ∷ []
 
--- DEST is for calls that write a destination: "loudness on". `room` is the destination's length.
-unfoldable pub checkDest : Bool → ℕ → ℕ → ℕ → ℕ → Check
-checkDest loudness channels samples room start = cond (loudness && wrongDest channels samples room start) (fails DEST) passes
+-- of a call with a destination, which is written where loudness is on
+unfoldable pub destRows : Bool → Sizes → List Row
+destRows loudness s =
+    row DEST (loudness && wrongDest s)
+    ∷ []
 
--- the checks of `seed`, and of `process`
-abbrev pub checkSeed : ℕ → ℕ → List ℕ → Check
-checkSeed channels samples map = then (checkFrames channels samples) (checkMap channels map)
+-- of `seed`, and of `process`
+abbrev pub seedRows : ℕ → ℕ → List ℕ → List Row
+seedRows channels samples map = frameRows channels samples ++ mapRows channels map
 
-abbrev pub checkProcess : Bool → ℕ → ℕ → List ℕ → ℕ → ℕ → Check
-checkProcess loudness channels samples map room start =
-    then (checkSeed channels samples map) (checkDest loudness channels samples room start)
+abbrev pub processRows : Bool → Sizes → List ℕ → List Row
+processRows loudness s map = seedRows (s .channels) (s .samples) map ++ destRows loudness s

@@ -1,11 +1,19 @@
 // The checks of a call over samples, in the order of the table. Each answers the number of the first refusal, and 0 where there is none.
 ghost use mathlib.Core.Path.{_≡_};
 ghost use Prim.Native.Nat.{_<_};
-ghost use Rattle.calls.specs.Check.{numberOf};
-ghost use Rattle.calls.specs.Calls.{allAdmitted, checkFrames, checkMap, checkDest, checkSeed, checkProcess};
+ghost use Rattle.refusals.specs.Rows.{numberOf};
+ghost use Rattle.calls.specs.Calls.{allAdmitted, frameRows, mapRows, destRows, seedRows, processRows};
 
 // The channels that states and peaks have places for.
 const MOST_CHANNELS: usize = 8;
+
+// What a call with a destination is checked by: how many samples it has, the destination's length, and the index in each part that it starts at.
+pub struct Sizes {
+    pub channels: usize,
+    pub samples: usize,
+    pub room: usize,
+    pub start: usize,
+}
 
 fn all_admitted(map: &[u8]) -> bool
     ensures { λ r. ⌜ r ≡ allAdmitted (now (map .entry)) ⌝ }
@@ -22,7 +30,7 @@ fn all_admitted(map: &[u8]) -> bool
 
 // CHANNELS and SAMPLES, for every call. `samples` is their number.
 pub fn refused_frames(channels: usize, samples: usize) -> u8
-    ensures { λ r. ⌜ r ≡ numberOf (checkFrames channels samples) ⌝ }
+    ensures { λ r. ⌜ r ≡ numberOf (frameRows channels samples) ⌝ }
 {
     if channels == 0 {
         return refusals::CHANNELS;
@@ -37,7 +45,7 @@ pub fn refused_frames(channels: usize, samples: usize) -> u8
 }
 
 fn refused_map(channels: usize, map: &[u8]) -> u8
-    ensures { λ r. ⌜ r ≡ numberOf (checkMap channels (now (map .entry))) ⌝ }
+    ensures { λ r. ⌜ r ≡ numberOf (mapRows channels (now (map .entry))) ⌝ }
 {
     if map.len() != channels {
         return refusals::MAP;
@@ -49,25 +57,25 @@ fn refused_map(channels: usize, map: &[u8]) -> u8
 }
 
 // No sum is formed that could wrap.
-fn refused_dest(loudness: bool, channels: usize, samples: usize, room: usize, start: usize) -> u8
-    requires { ⌜ 0 < channels ⌝ }
-    ensures { λ r. ⌜ r ≡ numberOf (checkDest loudness channels samples room start) ⌝ }
+fn refused_dest(loudness: bool, sizes: Sizes) -> u8
+    requires { ⌜ 0 < sizes .channels ⌝ }
+    ensures { λ r. ⌜ r ≡ numberOf (destRows loudness sizes) ⌝ }
 {
     if !loudness {
         return 0;
     }
-    if room == 0 {
+    if sizes.room == 0 {
         return refusals::DEST;
     }
-    if room % channels != 0 {
+    if sizes.room % sizes.channels != 0 {
         return refusals::DEST;
     }
-    let frames = samples / channels;
-    let part = room / channels;
+    let frames = sizes.samples / sizes.channels;
+    let part = sizes.room / sizes.channels;
     if part < frames {
         return refusals::DEST;
     }
-    if part - frames < start {
+    if part - frames < sizes.start {
         return refusals::DEST;
     }
     0
@@ -75,7 +83,7 @@ fn refused_dest(loudness: bool, channels: usize, samples: usize, room: usize, st
 
 // CHANNELS, SAMPLES and MAP, for a call without a destination.
 pub fn refused_seed(channels: usize, samples: usize, map: &[u8]) -> u8
-    ensures { λ r. ⌜ r ≡ numberOf (checkSeed channels samples (now (map .entry))) ⌝ }
+    ensures { λ r. ⌜ r ≡ numberOf (seedRows channels samples (now (map .entry))) ⌝ }
 {
     let number = refused_frames(channels, samples);
     if number != 0 {
@@ -84,20 +92,13 @@ pub fn refused_seed(channels: usize, samples: usize, map: &[u8]) -> u8
     refused_map(channels, map)
 }
 
-// CHANNELS, SAMPLES, MAP and, with loudness on, DEST. `room` is the length of the destination.
-pub fn refused_process(
-    loudness: bool,
-    channels: usize,
-    samples: usize,
-    map: &[u8],
-    room: usize,
-    start: usize,
-) -> u8
-    ensures { λ r. ⌜ r ≡ numberOf (checkProcess loudness channels samples (now (map .entry)) room start) ⌝ }
+// CHANNELS, SAMPLES, MAP and, with loudness on, DEST.
+pub fn refused_process(loudness: bool, sizes: Sizes, map: &[u8]) -> u8
+    ensures { λ r. ⌜ r ≡ numberOf (processRows loudness sizes (now (map .entry))) ⌝ }
 {
-    let number = refused_seed(channels, samples, map);
+    let number = refused_seed(sizes.channels, sizes.samples, map);
     if number != 0 {
         return number;
     }
-    refused_dest(loudness, channels, samples, room, start)
+    refused_dest(loudness, sizes)
 }

@@ -5,8 +5,8 @@ use mathlib.Core.List.{List}
 use lib.ListN.{length}
 use lib.Ieee.{Float}
 use Rattle.refusals.specs.Outcome.{Outcome, went, NoValues, done}
-use Rattle.calls.specs.Check.{Check, unless}
-use Rattle.calls.specs.Calls.{checkProcess}
+use Rattle.refusals.specs.Rows.{Row, byRows}
+use Rattle.calls.specs.Calls as calls
 use Rattle.weighting.specs.Weighting.{destAfter}
 use Rattle.sample_peak.specs.declared.Peaks.{Peaks}
 use Rattle.sample_peak.specs.Peak.{peaksAfter}
@@ -27,12 +27,13 @@ measuredPeaks call =
 abbrev pub measuredTruePeaks : Call → TruePeak
 measuredTruePeaks call = cond (call .filter .switches .«true_peak») (measured (kindOf (call .filter .rate)) (hearing call) (call .filter .«true_peak»)) (call .filter .«true_peak»)
 
--- what is checked
-abbrev pub processCheck : Call → Check
-processCheck call =
-    checkProcess (call .filter .switches .loudness) (call .filter .channels) (length (call .samples)) (call .map) (length (call .dest)) (call .start)
+-- CHANNELS, SAMPLES, MAP and, with loudness on, DEST
+abbrev pub processRows : Call → List Row
+processRows call =
+    calls.processRows (call .filter .switches .loudness) (calls.sizes (call .filter .channels) (length (call .samples)) (length (call .dest)) (call .start))
+    (call .map)
 
 unfoldable pub processed : Call → Outcome Kept NoValues
 processed call =
-    unless (processCheck call)
+    byRows (processRows call)
     (went (record { filter = moved (call .filter) (weighedState call) (measuredPeaks call) (measuredTruePeaks call); dest = weighedDest call }) done)

@@ -15,6 +15,7 @@ ghost use Rattle.true_peak.specs.TruePeak as trues;
 ghost use Rattle.filter.specs.Filter.{lentFilter};
 ghost use Rattle.filter.specs.Call.{callOf, kept};
 ghost use Rattle.filter_process.specs.Process.{processed};
+use calls::Sizes;
 use filter::Filter;
 use filter::Filtered;
 use filter::Switches;
@@ -117,7 +118,13 @@ pub fn process_lent(
 {
     let loudness = switches.loudness;
     let samples = sources::size_of(ints, floats);
-    let number = calls::refused_process(loudness, channels, samples, map, dest.len(), start);
+    let sizes = Sizes {
+        channels: channels,
+        samples: samples,
+        room: dest.len(),
+        start: start,
+    };
+    let number = calls::refused_process(loudness, sizes, map);
     if number != 0 {
         return Answer::Refused(number);
     }

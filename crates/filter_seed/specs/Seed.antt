@@ -1,10 +1,11 @@
 -- The call `seed`: what it comes to.
 -- "`seed` moves filter and interpolator state and writes no peak and no destination."
 use mathlib.Core.Bool.{cond}
+use mathlib.Core.List.{List}
 use lib.ListN.{length}
 use Rattle.refusals.specs.Outcome.{Outcome, went, NoValues, done}
-use Rattle.calls.specs.Check.{Check, unless}
-use Rattle.calls.specs.Calls.{checkSeed}
+use Rattle.refusals.specs.Rows.{Row, byRows}
+use Rattle.calls.specs.Calls as calls
 use Rattle.interp.specs.Interp.{kindOf}
 use Rattle.true_peak_state.specs.declared.TruePeak.{TruePeak}
 use Rattle.true_peak_state.specs.TruePeak.{measured}
@@ -18,10 +19,10 @@ rememberedTruePeaks call =
     (record { memory = measured (kindOf (call .filter .rate)) (hearing call) (call .filter .«true_peak») .memory; peaks = call .filter .«true_peak» .peaks })
     (call .filter .«true_peak»)
 
--- what is checked
-abbrev pub seedCheck : Call → Check
-seedCheck call = checkSeed (call .filter .channels) (length (call .samples)) (call .map)
+-- CHANNELS, SAMPLES and MAP
+abbrev pub seedRows : Call → List Row
+seedRows call = calls.seedRows (call .filter .channels) (length (call .samples)) (call .map)
 
 unfoldable pub seeded : Call → Outcome Kept NoValues
 seeded call =
-    unless (seedCheck call) (went (record { filter = moved (call .filter) (weighedState call) (call .filter .peaks) (rememberedTruePeaks call); dest = call .dest }) done)
+    byRows (seedRows call) (went (record { filter = moved (call .filter) (weighedState call) (call .filter .peaks) (rememberedTruePeaks call); dest = call .dest }) done)

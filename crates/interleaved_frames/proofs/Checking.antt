@@ -9,17 +9,17 @@ use lib.ListN.{length, length-map}
 use lib.Ieee.{Float}
 use Rattle.refusals.specs.Outcome.{Question, answers, Said, says, refusal, saidBy}
 use Rattle.frames.specs.Places.{sampleAt}
-use Rattle.calls.specs.Check.{numberOf}
-use Rattle.calls.specs.Calls.{checkFrames}
-use Rattle.calls.proofs.Stopping as check
+use Rattle.refusals.specs.Rows.{numberOf}
+use Rattle.refusals.proofs.Rows as rows
+use Rattle.calls.specs.Calls.{frameRows}
 use Rattle.interleaved_frames.specs.Shown.{checked, Place, at, pastTheEnd, sampleOr, sampleIn}
 
-module _ {Values : Type 0} (channels samples : ℕ) (values : Values) (n : ℕ) (e : n ≡ numberOf (checkFrames channels samples)) where
+module _ {Values : Type 0} (channels samples : ℕ) (values : Values) (n : ℕ) (e : n ≡ numberOf (frameRows channels samples)) where
   pub goes : n ≡ 0 → says values ≡ saidBy (checked channels samples values)
-  goes h = sym (ap (λ (o : Question Values). saidBy o) (check.goes (checkFrames channels samples) (answers values) n e h))
+  goes h = sym (ap (λ (o : Question Values). saidBy o) (rows.goes (answers values) (frameRows channels samples) (sym e ∙ h)))
 
   pub stops : (n ≡ 0 → ⊥) → refusal n ≡ saidBy (checked channels samples values)
-  stops h = check.stopped (checkFrames channels samples) (answers values) tt n e h .says
+  stops h = rows.stopped (answers values) (frameRows channels samples) tt n e h .says
 
 -- ---- the place asked for
 

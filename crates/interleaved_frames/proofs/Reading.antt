@@ -4,7 +4,6 @@ use mathlib.Core.List.{List, map}
 use mathlib.Core.Bool.{cond, _&&_}
 use Prim.Native.Nat.{ℕ, _+_, _*_, _/_, _%_, _≤_, _<_}
 use native.Mathlib.Omega.{arith}
-use borrow.Author.Tests.{eq-eqb, ne-eqb, le-ltb}
 use lib.Dec.{ltb}
 use lib.ListN.{length, length-map, getD}
 use lib.Ieee.{Float}
@@ -13,15 +12,11 @@ use Rattle.samples.specs.Frames.{framesOf}
 use Rattle.frames.specs.Places.{sampleAt}
 use Rattle.samples.proofs.Columns.{frames-of}
 use Rattle.frames.proofs.Places.{sample-of}
-use Rattle.calls.specs.Check.{Check, passes, unless}
-use Rattle.calls.specs.Calls.{mostChannels, checkFrames}
+use Rattle.refusals.proofs.Rows.{goes}
+use Rattle.calls.specs.Calls.{mostChannels, frameRows}
+use Rattle.calls.proofs.Checking.{frames-pass}
 use Rattle.interleaved_frames.specs.Shown.{Place, at, pastTheEnd, sampleIn, sampleOr}
 use Rattle.interleaved_frames.proofs.Checking.{there}
-
--- what is whole frames of 1 to 8 channels is not refused
-whole : (channels samples : ℕ) → 0 < channels → channels ≤ mostChannels → samples % channels ≡ 0 → checkFrames channels samples ≡ passes
-unfolding checkFrames
-whole channels samples p h w = rw (ne-eqb channels 0 (λ e. omega arith), le-ltb mostChannels channels h, eq-eqb (samples % channels) 0 w)
 
 module _ {A : Type 0} (f : A → Float) (l : List A) (channels channel frame : ℕ) (d : A) where
   -- what the definition picks
@@ -32,7 +27,7 @@ module _ {A : Type 0} (f : A → Float) (l : List A) (channels channel frame : �
       → sampleOr channels (length l) channel frame (sampleAt channels (map f l) channel frame) ≡ answers (at (f (getD l (frame * channels + channel) d)))
   place h m w k =
       let p : 0 < channels = omega arith in
-      ap (λ (check : Check). unless check (answers picked)) (whole channels (length l) p m w)
+      goes (answers picked) (frameRows channels (length l)) (frames-pass channels (length l) p m w)
       ∙ ap answers (there channels (framesOf channels (length l)) channel frame (sampleAt channels (map f l) channel frame) h (subst (λ (n : ℕ). frame < n) (sym (frames-of channels (length l) p)) k))
       ∙ ap (λ (x : Float). answers (at x)) (sample-of f l channels channel frame d h k)
 

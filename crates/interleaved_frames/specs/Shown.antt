@@ -8,12 +8,12 @@ use lib.Ieee.{Float}
 use Rattle.refusals.specs.Outcome.{Question, answers}
 use Rattle.samples.specs.Frames.{framesOf}
 use Rattle.frames.specs.Places.{sampleAt}
-use Rattle.calls.specs.Check.{unless}
-use Rattle.calls.specs.Calls.{checkFrames}
+use Rattle.refusals.specs.Rows.{byRows}
+use Rattle.calls.specs.Calls.{frameRows}
 
 -- an answer over so many samples, after CHANNELS and SAMPLES
 abbrev pub checked : {Values : Type 0} → ℕ → ℕ → Values → Question Values
-checked channels samples values = unless (checkFrames channels samples) (answers values)
+checked channels samples values = byRows (frameRows channels samples) (answers values)
 
 -- how many frames there are
 abbrev pub framesIn : ℕ → ℕ → Question ℕ

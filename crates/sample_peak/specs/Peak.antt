@@ -7,8 +7,8 @@ use Rattle.floats.specs.Entry.{plusZero}
 use Rattle.floats.specs.Largest.{greater, greatest, largest}
 use Rattle.refusals.specs.Outcome.{Outcome, went, NoValues, done}
 use Rattle.samples.specs.Frames.{channelOf}
-use Rattle.calls.specs.Check.{unless}
-use Rattle.calls.specs.Calls.{checkFrames}
+use Rattle.refusals.specs.Rows.{byRows}
+use Rattle.calls.specs.Calls.{frameRows}
 use Rattle.sample_peak.specs.declared.Peaks.{Peaks}
 
 -- n values changed, from channel k on
@@ -25,4 +25,4 @@ peaksAfter channels samples stored =
 -- what a call comes to
 unfoldable pub raised : ℕ → List Float → Peaks → Outcome Peaks NoValues
 raised channels samples stored =
-    unless (checkFrames channels (length samples)) (went (record { values = peaksAfter channels samples (stored .values) }) done)
+    byRows (frameRows channels (length samples)) (went (record { values = peaksAfter channels samples (stored .values) }) done)

@@ -1,11 +1,11 @@
 -- A call of `seed` (01, step 4): "`seed` moves filter and interpolator state and writes no peak and no destination." Here it is the weighting's state.
 use lib.ListN.{length}
 use Rattle.refusals.specs.Outcome.{Outcome, went, NoValues, done}
-use Rattle.calls.specs.Check.{unless}
-use Rattle.calls.specs.Calls.{checkSeed}
+use Rattle.refusals.specs.Rows.{byRows}
+use Rattle.calls.specs.Calls.{seedRows}
 use Rattle.states.specs.declared.State.{State}
 use Rattle.states.specs.Channels.{Call, stateAfter}
 
 -- what a call comes to
 unfoldable pub moved : Call → Outcome State NoValues
-moved call = unless (checkSeed (call .channels) (length (call .samples)) (call .map)) (went (record { values = stateAfter call }) done)
+moved call = byRows (seedRows (call .channels) (length (call .samples)) (call .map)) (went (record { values = stateAfter call }) done)

@@ -1,16 +1,21 @@
 -- A call of the true peak over interleaved samples (01, steps 5 and 6).
 use Prim.Native.Nat.{ℕ}
+use mathlib.Core.List.{List}
 use lib.ListN.{length}
 use Rattle.refusals.specs.Outcome.{Outcome, went, NoValues, done}
-use Rattle.calls.specs.Check.{unless}
-use Rattle.calls.specs.Calls.{checkFrames}
+use Rattle.refusals.specs.Rows.{Row, byRows}
+use Rattle.calls.specs.Calls.{frameRows}
 use Rattle.interp.specs.Interp.{kindOf}
 use Rattle.true_peak_state.specs.declared.TruePeak.{TruePeak}
 use Rattle.true_peak_state.specs.TruePeak.{Block, measured}
 
+-- CHANNELS and SAMPLES
+abbrev pub peakRows : Block → List Row
+peakRows b = frameRows (b .channels) (length (b .samples))
+
 -- what a call comes to that would leave a state
 abbrev pub unlessRefused : Block → TruePeak → Outcome TruePeak NoValues
-unlessRefused b t = unless (checkFrames (b .channels) (length (b .samples))) (went t done)
+unlessRefused b t = byRows (peakRows b) (went t done)
 
 abbrev pub processed : ℕ → Block → TruePeak → Outcome TruePeak NoValues
 processed rate b t = unlessRefused b (measured (kindOf rate) b t)

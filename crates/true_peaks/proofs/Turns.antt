@@ -6,7 +6,6 @@ use native.Mathlib.Omega.{arith}
 use mathlib.Core.Path.{_≡_, refl, sym, ap, subst, _∙_}
 use mathlib.Core.Logic.{inl, inr, ⊎-elim}
 use mathlib.Core.List.{List, [], _∷_, _++_, map}
-use borrow.Author.Tests.{eq-eqb, ne-eqb, le-ltb}
 use lib.IntN.{ℤ}
 use lib.ListN.{length, getD, length-map, take, drop, length-drop, take-append-drop, drop-of-length-le}
 use lib.Seq.{sets, length-sets, length-take-le, drop-drop, ext-getD, getD-take}
@@ -14,8 +13,10 @@ use lib.Ieee.{Float, nan}
 use Rattle.refusals.specs.Outcome.{keptBy, went, done}
 use Rattle.samples.specs.Sample.{sampleOf16, samplesOf16, samplesOfF32}
 use Rattle.samples.specs.Frames.{column}
-use Rattle.calls.specs.Check.{Check, passes, unless}
-use Rattle.calls.specs.Calls.{mostChannels, checkFrames}
+use Rattle.refusals.specs.Rows.{numberOf}
+use Rattle.refusals.proofs.Rows.{goes}
+use Rattle.calls.specs.Calls.{mostChannels, frameRows}
+use Rattle.calls.proofs.Checking.{frames-pass}
 use Rattle.sources.proofs.Stores.{at-within}
 use Rattle.sources.proofs.ByKind.{rest-from}
 use Rattle.interp.specs.Interp.{Kind, upsampled, noTruePeak, kindOf}
@@ -49,10 +50,8 @@ none k channels t s few =
 
 -- ---- whole frames pass the check
 
-pub whole : (channels count : ℕ) → 0 < channels → channels ≤ mostChannels → checkFrames channels (count * channels) ≡ passes
-unfolding checkFrames
-whole channels count some few =
-    rw (ne-eqb channels 0 (λ e. omega arith), le-ltb mostChannels channels few, eq-eqb (count * channels % channels) 0 (mul-mod-left count channels))
+pub whole : (channels count : ℕ) → 0 < channels → channels ≤ mostChannels → numberOf (frameRows channels (count * channels)) ≡ 0
+whole channels count some few = frames-pass channels (count * channels) some few (mul-mod-left count channels)
 
 -- ---- the next block
 
@@ -131,7 +130,7 @@ block-holds ints from size before block e ends fits =
     ap (take size) (e ∙ rest-from sampleOf16 ints {src = samplesOf16 ints} refl before from)
     ∙ first size (drop from (samplesOf16 ints)) before (omega (arith, length-drop from (samplesOf16 ints), length-map ints sampleOf16)) fits
 
-pub went-on : (rate channels : ℕ) (l : List Float) (t state : TruePeak) → checkFrames channels (length l) ≡ passes
+pub went-on : (rate channels : ℕ) (l : List Float) (t state : TruePeak) → numberOf (frameRows channels (length l)) ≡ 0
     → state ≡ keptBy t (processed rate (record { channels = channels; samples = l }) t) → state ≡ measured (kindOf rate) (record { channels = channels; samples = l }) t
 went-on rate channels l t state ok e =
-    e ∙ ap (λ (k : Check). keptBy t (unless k (went (measured (kindOf rate) (record { channels = channels; samples = l }) t) done))) ok
+    e ∙ ap (keptBy t) (goes (went (measured (kindOf rate) (record { channels = channels; samples = l }) t) done) (frameRows channels (length l)) ok)

@@ -5,8 +5,8 @@ ghost use lib.ListN.{length, take, drop};
 ghost use Rattle.refusals.specs.Answer.{said};
 ghost use Rattle.refusals.specs.Outcome.{saidBy, keptBy};
 ghost use Rattle.samples.specs.Sample.{samplesOf16};
-ghost use Rattle.calls.specs.Check.{passes};
-ghost use Rattle.calls.specs.Calls.{mostChannels, checkFrames};
+ghost use Rattle.refusals.specs.Rows.{numberOf};
+ghost use Rattle.calls.specs.Calls.{mostChannels, frameRows};
 ghost use Rattle.sources.specs.Source.{sourceOf};
 ghost use Rattle.interp.specs.Interp.{kindOf};
 ghost use Rattle.true_peak_state.specs.Channel.{past};
@@ -50,7 +50,7 @@ fn hear_ints(
     from: usize,
     size: usize,
 ) -> TruePeak
-    requires { ⌜ checkFrames channels size ≡ passes ⌝ }
+    requires { ⌜ numberOf (frameRows channels size) ≡ 0 ⌝ }
     requires { ⌜ from + size ≤ length (now ints) ⌝ }
     requires { ⌜ size ≤ places ⌝ }
     ensures { λ r. ⌜ r ≡ measured (kindOf rate) (record { channels = channels; samples = take size (drop from (samplesOf16 (now (ints .entry)))) }) t ⌝ }
@@ -71,7 +71,7 @@ fn hear(
     from: usize,
     size: usize,
 ) -> TruePeak
-    requires { ⌜ checkFrames channels size ≡ passes ⌝ }
+    requires { ⌜ numberOf (frameRows channels size) ≡ 0 ⌝ }
     requires { ⌜ from + size ≤ length (sourceOf (now ints) (now floats)) ⌝ }
     requires { ⌜ size ≤ places ⌝ }
     ensures { λ r. ⌜ r ≡ measured (kindOf rate) (record { channels = channels; samples = take size (drop from (sourceOf (now (ints .entry)) (now (floats .entry)))) }) t ⌝ }
@@ -86,7 +86,7 @@ fn hear(
 
 // The state after all samples, block by block, floats too: each channel goes over a block by itself, and a block stays near the processor.
 fn measure(rate: u32, t: TruePeak, channels: usize, ints: &[i16], floats: &[f32]) -> TruePeak
-    requires { ⌜ checkFrames channels (length (sourceOf (now ints) (now floats))) ≡ passes ⌝ }
+    requires { ⌜ numberOf (frameRows channels (length (sourceOf (now ints) (now floats)))) ≡ 0 ⌝ }
     ensures { λ r. ⌜ r ≡ measured (kindOf rate) (record { channels = channels; samples = sourceOf (now (ints .entry)) (now (floats .entry)) }) t ⌝ }
 {
     let frames = sources::size_of(ints, floats) / channels;

@@ -7,8 +7,8 @@ use lib.ListN.{length}
 use lib.Seq.{sets}
 use lib.Ieee.{Float}
 use Rattle.refusals.specs.Outcome.{Outcome, went, keptBy, NoValues, done}
-use Rattle.calls.specs.Check.{unless}
-use Rattle.calls.specs.Calls.{used, checkProcess}
+use Rattle.refusals.specs.Rows.{Row, byRows}
+use Rattle.calls.specs.Calls.{used, sizes, processRows}
 use Rattle.states.specs.declared.State.{State}
 use Rattle.recurrence.specs.Recurrence.{outs}
 use Rattle.states.specs.Channels.{Call, heard, memoryOf, stateAfter}
@@ -31,10 +31,14 @@ pub record Kept : Type 0 where
   pub state : State
   pub dest : List Float
 
+-- CHANNELS, SAMPLES, MAP and DEST
+abbrev pub weighingRows : Call → List Float → ℕ → List Row
+weighingRows call dest start = processRows true (sizes (call .channels) (length (call .samples)) (length dest) start) (call .map)
+
 -- what a call comes to
 unfoldable pub weighed : Call → List Float → ℕ → Outcome Kept NoValues
 weighed call dest start =
-    unless (checkProcess true (call .channels) (length (call .samples)) (call .map) (length dest) start)
+    byRows (weighingRows call dest start)
     (went (record { state = record { values = stateAfter call }; dest = destAfter call dest start }) done)
 
 -- what stands after it: what it leaves, and what it was given where it is refused

@@ -5,6 +5,7 @@ ghost use Rattle.refusals.specs.Outcome.{saidBy};
 ghost use Rattle.sources.specs.Source.{sourceOf};
 ghost use Rattle.states.specs.Channels.{callOf};
 ghost use Rattle.weighting.specs.Weighting.{weighed, kept};
+use calls::Sizes;
 use recurrence::Coefficients;
 use refusals::Answer;
 
@@ -28,7 +29,13 @@ pub fn process_lent(
         × (now (dest .exit) ≡ kept call (now (dest .entry)) start .dest)) ⌝ }
 {
     let samples = sources::size_of(ints, floats);
-    let number = calls::refused_process(true, channels, samples, map, dest.len(), start);
+    let sizes = Sizes {
+        channels: channels,
+        samples: samples,
+        room: dest.len(),
+        start: start,
+    };
+    let number = calls::refused_process(true, sizes, map);
     if number != 0 {
         return Answer::Refused(number);
     }

@@ -5,17 +5,16 @@ use mathlib.Core.Path.{_≡_, sym, ap, _∙_}
 use lib.ListN.{length}
 use denote.Ref.{now}
 use Rattle.refusals.specs.Outcome.{Outcome, saidBy, keptBy, went, NoValues, done}
-use Rattle.calls.specs.Check.{numberOf}
-use Rattle.calls.specs.Calls.{checkProcess}
-use Rattle.calls.proofs.Checking.{passed}
-use Rattle.calls.proofs.Stopping.{stopped, goes}
+use Rattle.refusals.specs.Rows.{numberOf}
+use Rattle.refusals.proofs.Rows.{stopped, goes}
+use Rattle.calls.specs.Calls as calls
 use Rattle.sources.specs.Source.{sourceOf}
 use Rattle.states.specs.declared.State.{State}
 use Rattle.sample_peak.specs.declared.Peaks.{Peaks}
 use Rattle.true_peak_state.specs.declared.TruePeak.{TruePeak}
 use Rattle.filter.specs.Filter.{moved, lentFilter}
 use Rattle.filter.specs.Call.{Call, Kept, callOf, given, weighing, hearing, weighedState}
-use Rattle.filter_process.specs.Process.{weighedDest, measuredPeaks, measuredTruePeaks, processCheck, processed}
+use Rattle.filter_process.specs.Process.{weighedDest, measuredPeaks, measuredTruePeaks, processRows, processed}
 use Rattle.filter_process.proofs.Parts.{process-frames, peaks-are, trues-are, weighed-state, weighed-dest}
 use Rattle.filter_process.proofs.process_lent.Statement.{statement}
 use Rattle.filter_process.proofs.process_lent.Tie as tie
@@ -31,10 +30,10 @@ call s =
 abbrev leaves : tie.Start → Outcome Kept NoValues
 leaves s = let k = call s in went (record { filter = moved (k .filter) (weighedState k) (measuredPeaks k) (measuredTruePeaks k); dest = weighedDest k }) done
 
-numbered : (c : tie.After-refused-process) → c .refused-process .result ≡ numberOf (processCheck (call (c .before .before .before .before .before)))
+numbered : (c : tie.After-refused-process) → c .refused-process .result ≡ numberOf (processRows (call (c .before .before .before .before .before)))
 numbered c =
     let a = c .before .before .before .before .before .args in
-    c .refused-process .ensures ∙ ap (λ (n : ℕ). numberOf (checkProcess (a .switches .loudness) (a .channels) n (now (a .map)) (length (now (a .dest))) (a .start))) (c .before .size-of .ensures)
+    c .refused-process .ensures ∙ ap (λ (n : ℕ). numberOf (calls.processRows (a .switches .loudness) (calls.sizes (a .channels) n (length (now (a .dest))) (a .start)) (now (a .map)))) (c .before .size-of .ensures)
 
 size-of-requires : tie.Need-size-of-requires
 size-of-requires c κs = search needs
@@ -48,7 +47,7 @@ unfolding processed
 returns c =
     let r = c .before in
     let s = r .before .before .before .before .before in
-    let f = stopped (processCheck (call s)) (leaves s) (given (call s)) (r .refused-process .result) (numbered r) (c .if1 .taken) in (
+    let f = stopped (leaves s) (processRows (call s)) (given (call s)) (r .refused-process .result) (numbered r) (c .if1 .taken) in (
       f .says,
       ap (λ (k : Kept). k .filter .state .values) (f .keeps),
       ap (λ (k : Kept). k .filter .peaks .values) (f .keeps),
@@ -80,10 +79,10 @@ returns-2 c =
     let s = r .before .before .before .before .before in
     let k = call s in
     let f = k .filter in
-    let ok = passed (processCheck k) (sym (numbered r) ∙ e .if1 .left) in
+    let ok = sym (numbered r) ∙ e .if1 .left in
     let frames = process-frames k ok in
     let trues = trues-are (f .switches .«true_peak») (f .rate) (hearing k) (f .«true_peak») frames in
-    let z = sym (goes (processCheck k) (leaves s) (r .refused-process .result) (numbered r) (e .if1 .left)) in (
+    let z = sym (goes (leaves s) (processRows k) ok) in (
       ap saidBy z,
       w .weigh .ensures .0
           ∙ ap (λ (x : State). x .values) (weighed-state (f .switches .loudness) (weighing k) (k .dest) (k .start) ok)

@@ -4,16 +4,15 @@ use Prim.Native.Nat.{ℕ}
 use mathlib.Core.Path.{_≡_, sym, ap, _∙_}
 use denote.Ref.{now}
 use Rattle.refusals.specs.Outcome.{Outcome, saidBy, keptBy, went, NoValues, done}
-use Rattle.calls.specs.Check.{numberOf}
-use Rattle.calls.specs.Calls.{checkSeed}
-use Rattle.calls.proofs.Checking.{passed}
-use Rattle.calls.proofs.Stopping.{stopped, goes}
+use Rattle.refusals.specs.Rows.{numberOf}
+use Rattle.refusals.proofs.Rows.{stopped, goes}
+use Rattle.calls.specs.Calls as calls
 use Rattle.sources.specs.Source.{sourceOf}
 use Rattle.states.specs.declared.State.{State}
 use Rattle.true_peak_state.specs.declared.TruePeak.{TruePeak}
 use Rattle.filter.specs.Filter.{moved, lentFilter}
 use Rattle.filter.specs.Call.{Call, Kept, seedOf, given, weighing, hearing, weighedState}
-use Rattle.filter_seed.specs.Seed.{rememberedTruePeaks, seedCheck, seeded}
+use Rattle.filter_seed.specs.Seed.{rememberedTruePeaks, seedRows, seeded}
 use Rattle.filter_seed.proofs.Parts.{seed-frames, memory-is, seeded-state}
 use Rattle.filter_seed.proofs.seed_lent.Statement.{statement}
 use Rattle.filter_seed.proofs.seed_lent.Tie as tie
@@ -29,10 +28,10 @@ call s =
 abbrev leaves : tie.Start → Outcome Kept NoValues
 leaves s = let k = call s in went (record { filter = moved (k .filter) (weighedState k) (k .filter .peaks) (rememberedTruePeaks k); dest = k .dest }) done
 
-numbered : (c : tie.After-refused-seed) → c .refused-seed .result ≡ numberOf (seedCheck (call (c .before .before .before .before)))
+numbered : (c : tie.After-refused-seed) → c .refused-seed .result ≡ numberOf (seedRows (call (c .before .before .before .before)))
 numbered c =
     let a = c .before .before .before .before .args in
-    c .refused-seed .ensures ∙ ap (λ (n : ℕ). numberOf (checkSeed (a .channels) n (now (a .map)))) (c .before .size-of .ensures)
+    c .refused-seed .ensures ∙ ap (λ (n : ℕ). numberOf (calls.seedRows (a .channels) n (now (a .map)))) (c .before .size-of .ensures)
 
 size-of-requires : tie.Need-size-of-requires
 size-of-requires c κs = search needs
@@ -45,7 +44,7 @@ unfolding seeded
 returns c =
     let r = c .before in
     let s = r .before .before .before .before in
-    let f = stopped (seedCheck (call s)) (leaves s) (given (call s)) (r .refused-seed .result) (numbered r) (c .if1 .taken) in
+    let f = stopped (leaves s) (seedRows (call s)) (given (call s)) (r .refused-seed .result) (numbered r) (c .if1 .taken) in
     (f .says, ap (λ (k : Kept). k .filter .state .values) (f .keeps), ap (λ (k : Kept). k .filter .«true_peak» .memory) (f .keeps))
 
 remember-requires : tie.Need-remember-requires
@@ -63,8 +62,8 @@ returns-2 c =
     let s = r .before .before .before .before in
     let k = call s in
     let f = k .filter in
-    let ok = passed (seedCheck k) (sym (numbered r) ∙ e .if1 .left) in
-    let z = sym (goes (seedCheck k) (leaves s) (r .refused-seed .result) (numbered r) (e .if1 .left)) in (
+    let ok = sym (numbered r) ∙ e .if1 .left in
+    let z = sym (goes (leaves s) (seedRows k) ok) in (
       ap saidBy z,
       c .advance .ensures
           ∙ ap (λ (x : State). x .values) (seeded-state (f .switches .loudness) (weighing k) ok)

@@ -7,10 +7,10 @@ use mathlib.Core.List.{List}
 use lib.ListN.{length}
 use lib.Ieee.{Float}
 use Rattle.refusals.specs.Outcome.{Outcome, saidBy, keptBy, went, NoValues, done}
-use Rattle.calls.specs.Check.{Check, numberOf}
-use Rattle.calls.specs.Calls.{checkFrames}
-use Rattle.calls.proofs.Checking.{passed, Framed, framed}
-use Rattle.calls.proofs.Stopping.{stopped, goes}
+use Rattle.refusals.specs.Rows.{Row, numberOf}
+use Rattle.refusals.proofs.Rows.{stopped, goes}
+use Rattle.calls.specs.Calls.{frameRows}
+use Rattle.calls.proofs.Checking.{Framed, frames-fine}
 use Rattle.sources.specs.Source.{sourceOf}
 use Rattle.sources.proofs.Cutting.{all-frames}
 use Rattle.sample_peak.specs.declared.Peaks.{Peaks}
@@ -23,22 +23,22 @@ use Rattle.sample_peak.proofs.process.Tie as tie
 abbrev src : tie.Start → List Float
 src s = sourceOf (s .args .ints .now) (s .args .floats .now)
 
-abbrev check : tie.Start → Check
-check s = checkFrames (s .args .channels) (length (src s))
+abbrev rows : tie.Start → List Row
+rows s = frameRows (s .args .channels) (length (src s))
 
 abbrev leaves : tie.Start → Outcome Peaks NoValues
 leaves s = went (record { values = peaksAfter (s .args .channels) (src s) (s .args .stored .values) }) done
 
-numbered : (c : tie.After-refused-frames) → c .refused-frames .result ≡ numberOf (check (c .before .before .before))
+numbered : (c : tie.After-refused-frames) → c .refused-frames .result ≡ numberOf (rows (c .before .before .before))
 numbered c =
     let s = c .before .before .before in
-    c .refused-frames .ensures ∙ ap (λ (n : ℕ). numberOf (checkFrames (s .args .channels) n)) (c .before .size-of .ensures)
+    c .refused-frames .ensures ∙ ap (λ (n : ℕ). numberOf (frameRows (s .args .channels) n)) (c .before .size-of .ensures)
 
 -- a call that passes its check
 fine : (c : tie.Else1) → let s = c .before .before .before .before in Framed (s .args .channels) (length (src s))
 fine c =
     let s = c .before .before .before .before in
-    framed (s .args .channels) (length (src s)) (passed (check s) (sym (numbered (c .before)) ∙ c .if1 .left))
+    frames-fine (s .args .channels) (length (src s)) (sym (numbered (c .before)) ∙ c .if1 .left)
 
 size-of-requires : tie.Need-size-of-requires
 size-of-requires c κs = search needs
@@ -51,7 +51,7 @@ unfolding raised
 returns c =
     let r = c .before in
     let s = r .before .before .before in
-    let f = stopped (check s) (leaves s) (s .args .stored) (r .refused-frames .result) (numbered r) (c .if1 .taken) in
+    let f = stopped (leaves s) (rows s) (s .args .stored) (r .refused-frames .result) (numbered r) (c .if1 .taken) in
     (f .says, f .keeps)
 
 div-frames : tie.Need-div-frames
@@ -77,7 +77,7 @@ returns-2 c =
     let n = r .before .size-of in
     let s = r .before .before .before in
     let a = s .args in
-    let z = goes (check s) (leaves s) (r .refused-frames .result) (numbered r) (e .if1 .left) in (
+    let z = goes (leaves s) (rows s) (sym (numbered r) ∙ e .if1 .left) in (
       ap saidBy (sym z),
       ap (λ (v : List Float). record { values = v }) (c .raise-peaks .ensures ∙ peaks-are (a .channels) (n .result) (src s) (a .stored .values) (t .largest-all .result .values) (fine e .some) (n .ensures) (t .largest-all .ensures))
           ∙ sym (ap (λ (o : Outcome Peaks NoValues). keptBy (a .stored) o) z),

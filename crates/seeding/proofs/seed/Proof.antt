@@ -8,10 +8,10 @@ use mathlib.Core.List.{List}
 use lib.ListN.{length}
 use lib.Ieee.{Float}
 use Rattle.refusals.specs.Outcome.{Outcome, saidBy, keptBy, went, NoValues, done}
-use Rattle.calls.specs.Check.{Check, numberOf}
-use Rattle.calls.specs.Calls.{checkSeed}
-use Rattle.calls.proofs.Checking.{passed, framed, Framed, mapped, Seeds, seeds}
-use Rattle.calls.proofs.Stopping.{stopped, goes}
+use Rattle.refusals.specs.Rows.{Row, numberOf}
+use Rattle.refusals.proofs.Rows.{stopped, goes}
+use Rattle.calls.specs.Calls.{seedRows}
+use Rattle.calls.proofs.Checking.{Seeds, seeds}
 use Rattle.sources.specs.Source.{sourceOf}
 use Rattle.sources.proofs.Cutting.{all-frames}
 use Rattle.states.specs.declared.State.{State}
@@ -25,27 +25,22 @@ use Rattle.seeding.proofs.seed.Tie as tie
 abbrev call : tie.Start → Call
 call s = let a = s .args in callOf (a .c) (a .s) (a .channels) (sourceOf (a .ints .now) (a .floats .now)) (a .map .now)
 
-abbrev check : tie.Start → Check
-check s = let k = call s in checkSeed (k .channels) (length (k .samples)) (k .map)
+abbrev rows : tie.Start → List Row
+rows s = let k = call s in seedRows (k .channels) (length (k .samples)) (k .map)
 
 abbrev leaves : tie.Start → Outcome State NoValues
 leaves s = went (record { values = stateAfter (call s) }) done
 
-numbered : (c : tie.After-refused-seed) → c .refused-seed .result ≡ numberOf (check (c .before .before .before .before))
+numbered : (c : tie.After-refused-seed) → c .refused-seed .result ≡ numberOf (rows (c .before .before .before .before))
 numbered c =
     let s = c .before .before .before .before in
-    c .refused-seed .ensures ∙ ap (λ (n : ℕ). numberOf (checkSeed (s .args .channels) n (s .args .map .now))) (c .before .size-of .ensures)
+    c .refused-seed .ensures ∙ ap (λ (n : ℕ). numberOf (seedRows (s .args .channels) n (s .args .map .now))) (c .before .size-of .ensures)
 
 -- a call that passes its check
 ok : (c : tie.Else1) → let k = call (c .before .before .before .before .before) in Seeds (k .channels) (length (k .samples)) (k .map)
 ok c =
     let s = c .before .before .before .before .before in
-    seeds (call s .channels) (length (call s .samples)) (call s .map) (passed (check s) (sym (numbered (c .before)) ∙ c .if1 .left))
-
-fine : (c : tie.Else1) → let k = call (c .before .before .before .before .before) in Framed (k .channels) (length (k .samples))
-fine c =
-    let k = call (c .before .before .before .before .before) in
-    framed (k .channels) (length (k .samples)) (ok c .frames)
+    seeds (call s .channels) (length (call s .samples)) (call s .map) (sym (numbered (c .before)) ∙ c .if1 .left)
 
 size-of-requires : tie.Need-size-of-requires
 size-of-requires c κs = search needs
@@ -58,11 +53,11 @@ unfolding moved
 returns c =
     let r = c .before in
     let s = r .before .before .before .before in
-    let f = stopped (check s) (leaves s) (s .args .s) (r .refused-seed .result) (numbered r) (c .if1 .taken) in
+    let f = stopped (leaves s) (rows s) (s .args .s) (r .refused-seed .result) (numbered r) (c .if1 .taken) in
     (f .says, f .keeps)
 
 div-frames : tie.Need-div-frames
-div-frames c = fine c .some
+div-frames c = ok c .frames .some
 
 advance-channels-requires : tie.Need-advance-channels-requires
 advance-channels-requires c κs =
@@ -71,10 +66,10 @@ advance-channels-requires c κs =
     let n = r .before .size-of in
     let s = r .before .before .before .before in
     let a = s .args in (
-      fine e .few,
+      ok e .frames .few,
       (
-        mapped (a .channels) (a .map .now) (ok e .bytes),
-        le-of-eq (all-frames (a .channels) (n .result) (a .ints .now) (a .floats .now) (rw (n .ensures) (fine e)) (n .ensures) (omega (arith, s .good)) (omega (arith, s .good)) .whole),
+        ok e .bytes,
+        le-of-eq (all-frames (a .channels) (n .result) (a .ints .now) (a .floats .now) (rw (n .ensures) (ok e .frames)) (n .ensures) (omega (arith, s .good)) (omega (arith, s .good)) .whole),
       ),
     )
 
@@ -85,9 +80,9 @@ returns-2 c =
     let r = e .before in
     let n = r .before .size-of in
     let s = r .before .before .before .before in
-    let z = goes (check s) (leaves s) (r .refused-seed .result) (numbered r) (e .if1 .left) in (
+    let z = goes (leaves s) (rows s) (sym (numbered r) ∙ e .if1 .left) in (
       ap saidBy (sym z),
-      ap (λ (v : List Float). record { values = v }) (c .advance-channels .ensures ∙ state-is (call s) (n .result) (fine e .some) (n .ensures))
+      ap (λ (v : List Float). record { values = v }) (c .advance-channels .ensures ∙ state-is (call s) (n .result) (ok e .frames .some) (n .ensures))
           ∙ sym (ap (λ (o : Outcome State NoValues). keptBy (s .args .s) o) z),
     )
 

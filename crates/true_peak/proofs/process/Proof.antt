@@ -3,12 +3,12 @@ use borrow.Author.Needs.{needs}
 use mathlib.Core.Path.{sym, ap, _∙_}
 use lib.ListN.{length}
 use Rattle.refusals.specs.Outcome.{saidBy, keptBy, went, done}
-use Rattle.calls.specs.Calls.{checkFrames}
-use Rattle.calls.proofs.Checking.{passed, framed}
-use Rattle.calls.proofs.Stopping.{stopped, goes}
+use Rattle.refusals.proofs.Rows.{stopped, goes}
+use Rattle.calls.proofs.Checking.{frames-fine}
 use Rattle.interp.specs.Interp.{kindOf}
 use Rattle.true_peak_state.specs.declared.TruePeak.{TruePeak}
 use Rattle.true_peak_state.specs.TruePeak.{Block, measured}
+use Rattle.true_peak.specs.TruePeak.{peakRows}
 use Rattle.true_peak.proofs.process.Statement.{statement}
 use Rattle.true_peak.proofs.process.Tie as tie
 
@@ -20,13 +20,13 @@ returns c =
     let a = c .before .before .before .args in
     let b : Block = record { channels = a .channels; samples = a .samples .now } in
     let t : TruePeak = measured (kindOf (a .rate)) b (a .t) in
-    let f = stopped (checkFrames (a .channels) (length (a .samples .now))) (went t done) (a .t) (c .before .refused-frames .result) (c .before .refused-frames .ensures) (c .if1 .taken) in
+    let f = stopped (went t done) (peakRows b) (a .t) (c .before .refused-frames .result) (c .before .refused-frames .ensures) (c .if1 .taken) in
     (f .says, f .keeps)
 
 measure-requires : tie.Need-measure-requires
 measure-requires c κs =
     let a = c .before .before .before .args in
-    let k = framed (a .channels) (length (a .samples .now)) (passed (checkFrames (a .channels) (length (a .samples .now))) (sym (c .before .refused-frames .ensures) ∙ c .if1 .left)) in
+    let k = frames-fine (a .channels) (length (a .samples .now)) (sym (c .before .refused-frames .ensures) ∙ c .if1 .left) in
     (k .some, k .few)
 
 returns-2 : tie.Need-returns-2
@@ -34,7 +34,7 @@ returns-2 c =
     let a = c .before .before .before .before .args in
     let b : Block = record { channels = a .channels; samples = a .samples .now } in
     let t : TruePeak = measured (kindOf (a .rate)) b (a .t) in
-    let e = goes (checkFrames (a .channels) (length (a .samples .now))) (went t done) (c .before .before .refused-frames .result) (c .before .before .refused-frames .ensures) (c .before .if1 .left) in
+    let e = goes (went t done) (peakRows b) (sym (c .before .before .refused-frames .ensures) ∙ c .before .if1 .left) in
     (ap saidBy (sym e), c .measure .ensures ∙ ap (keptBy (a .t)) (sym e))
 
 pub process-spec : {M : Type 1} → statement M

@@ -8,8 +8,8 @@ use lib.ListN.{length, length-map, length-drop, take, drop}
 use lib.Seq.{length-take-le}
 use lib.Ieee.{Float}
 use Rattle.samples.specs.Sample.{sampleOf16}
-use Rattle.calls.specs.Check.{passes}
-use Rattle.calls.specs.Calls.{checkFrames}
+use Rattle.refusals.specs.Rows.{numberOf}
+use Rattle.calls.specs.Calls.{frameRows}
 use Rattle.sources.specs.Source.{sourceOf}
 use Rattle.sources.proofs.ByKind.{source-floats, source-ints}
 use Rattle.interp.specs.Interp.{kindOf}
@@ -54,7 +54,7 @@ returns c =
     let part = take (a .from + a .size - a .from) (drop (a .from) (a .floats .now)) in
     let long : length part ≡ a .size =
     length-take-le (a .from + a .size - a .from) (drop (a .from) (a .floats .now)) (omega (arith, within q, length-drop (a .from) (a .floats .now))) ∙ e in
-    went-on (a .rate) (a .channels) part (a .t) _ (subst (λ (n : ℕ). checkFrames (a .channels) n ≡ passes) (sym long) (s .pre .0)) (c .before .process .ensures .1)
+    went-on (a .rate) (a .channels) part (a .t) _ (subst (λ (n : ℕ). numberOf (frameRows (a .channels) n) ≡ 0) (sym long) (s .pre .0)) (c .before .process .ensures .1)
     ∙ ap (λ (n : ℕ). measured (kindOf (a .rate)) (record { channels = a .channels; samples = take n (drop (a .from) (a .floats .now)) }) (a .t)) e
     ∙ ap (λ (l : List Float). measured (kindOf (a .rate)) (record { channels = a .channels; samples = take (a .size) (drop (a .from) l) }) (a .t)) (sym (stand q))
 

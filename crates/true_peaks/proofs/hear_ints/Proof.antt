@@ -7,8 +7,8 @@ use Prim.Native.Nat.{ℕ}
 use lib.ListN.{length, take}
 use lib.Seq.{length-take-le}
 use lib.Ieee.{Float}
-use Rattle.calls.specs.Check.{passes}
-use Rattle.calls.specs.Calls.{checkFrames}
+use Rattle.refusals.specs.Rows.{numberOf}
+use Rattle.calls.specs.Calls.{frameRows}
 use Rattle.interp.specs.Interp.{kindOf}
 use Rattle.true_peak_state.specs.TruePeak.{measured}
 use Rattle.true_peaks.proofs.Turns.{block-holds, went-on}
@@ -53,7 +53,7 @@ returns c =
     let f = c .before .before .before .before in
     let s = f .before .before .before in
     let a = s .args in
-    went-on (a .rate) (a .channels) (take (a .size) (f .fill-f32-i16 .last .0)) (a .t) _ (subst (λ (n : ℕ). checkFrames (a .channels) n ≡ passes) (sym (long f)) (s .pre .0)) (c .before .process .ensures .1)
+    went-on (a .rate) (a .channels) (take (a .size) (f .fill-f32-i16 .last .0)) (a .t) _ (subst (λ (n : ℕ). numberOf (frameRows (a .channels) n) ≡ 0) (sym (long f)) (s .pre .0)) (c .before .process .ensures .1)
     ∙ ap (λ (l : List Float). measured (kindOf (a .rate)) (record { channels = a .channels; samples = l }) (a .t)) (block-holds (a .ints .now) (a .from) (a .size) _ (f .fill-f32-i16 .last .0) (f .fill-f32-i16 .ensures) (s .pre .1 .0) (s .pre .1 .1))
 
 pub hear-ints-spec : {M : Type 1} → statement M

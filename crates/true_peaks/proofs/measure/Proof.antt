@@ -9,7 +9,7 @@ use lib.Ieee.{Float}
 use lib.ListN.{length, drop}
 use Rattle.sources.specs.Source.{sourceOf}
 use Rattle.sources.proofs.ByKind.{source-below}
-use Rattle.calls.proofs.Checking.{Framed, framed}
+use Rattle.calls.proofs.Checking.{Framed, frames-fine}
 use Rattle.sources.proofs.Cutting.{Step, step-of}
 use Rattle.interp.specs.Interp.{kindOf}
 use Rattle.true_peak_state.specs.declared.TruePeak.{TruePeak}
@@ -35,7 +35,7 @@ abbrev src : tie.Start Inv-loop μ-loop → List Float
 src s = sourceOf (s .args .ints .now) (s .args .floats .now)
 
 ok : (s : tie.Start Inv-loop μ-loop) → Framed (s .args .channels) (length (src s))
-ok s = framed (s .args .channels) (length (src s)) (s .pre)
+ok s = frames-fine (s .args .channels) (length (src s)) (s .pre)
 
 size-of-requires : tie.Need-size-of-requires Inv-loop μ-loop
 size-of-requires c κs = search needs

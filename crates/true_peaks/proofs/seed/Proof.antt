@@ -6,10 +6,9 @@ use mathlib.Core.List.{List}
 use lib.ListN.{length}
 use lib.Ieee.{Float}
 use Rattle.refusals.specs.Outcome.{saidBy, keptBy, went, done}
-use Rattle.calls.specs.Check.{Check, numberOf}
-use Rattle.calls.specs.Calls.{checkFrames}
-use Rattle.calls.proofs.Checking.{passed}
-use Rattle.calls.proofs.Stopping.{stopped, goes}
+use Rattle.refusals.specs.Rows.{Row, numberOf}
+use Rattle.refusals.proofs.Rows.{stopped, goes}
+use Rattle.calls.specs.Calls.{frameRows}
 use Rattle.sources.specs.Source.{sourceOf}
 use Rattle.interp.specs.Interp.{kindOf}
 use Rattle.true_peak_state.specs.declared.TruePeak.{TruePeak}
@@ -21,16 +20,16 @@ use Rattle.true_peaks.proofs.seed.Tie as tie
 abbrev src : tie.Start → List Float
 src s = sourceOf (s .args .ints .now) (s .args .floats .now)
 
-abbrev check : tie.Start → Check
-check s = checkFrames (s .args .channels) (length (src s))
+abbrev rows : tie.Start → List Row
+rows s = frameRows (s .args .channels) (length (src s))
 
 abbrev leaves : tie.Start → TruePeak
 leaves s = record { memory = measured (kindOf (s .args .rate)) (record { channels = s .args .channels; samples = src s }) (s .args .t) .memory; peaks = s .args .t .peaks }
 
-numbered : (c : tie.After-refused-frames) → c .refused-frames .result ≡ numberOf (check (c .before .before .before))
+numbered : (c : tie.After-refused-frames) → c .refused-frames .result ≡ numberOf (rows (c .before .before .before))
 numbered c =
     let s = c .before .before .before in
-    c .refused-frames .ensures ∙ ap (λ (n : ℕ). numberOf (checkFrames (s .args .channels) n)) (c .before .size-of .ensures)
+    c .refused-frames .ensures ∙ ap (λ (n : ℕ). numberOf (frameRows (s .args .channels) n)) (c .before .size-of .ensures)
 
 size-of-requires : tie.Need-size-of-requires
 size-of-requires c κs = search needs
@@ -42,20 +41,20 @@ returns : tie.Need-returns
 returns c =
     let r = c .before in
     let s = r .before .before .before in
-    let f = stopped (check s) (went (leaves s) done) (s .args .t) (r .refused-frames .result) (numbered r) (c .if1 .taken) in
+    let f = stopped (went (leaves s) done) (rows s) (s .args .t) (r .refused-frames .result) (numbered r) (c .if1 .taken) in
     (f .says, f .keeps)
 
 measure-requires : tie.Need-measure-requires
 measure-requires c κs =
     let e = c .before in
-    passed (check (e .before .before .before .before)) (sym (numbered (e .before)) ∙ e .if1 .left)
+    sym (numbered (e .before)) ∙ e .if1 .left
 
 returns-2 : tie.Need-returns-2
 returns-2 c =
     let e = c .before .before in
     let r = e .before in
     let s = r .before .before .before in
-    let z = goes (check s) (went (leaves s) done) (r .refused-frames .result) (numbered r) (e .if1 .left) in
+    let z = goes (went (leaves s) done) (rows s) (sym (numbered r) ∙ e .if1 .left) in
     (ap saidBy (sym z), ap (λ (w : TruePeak). record { memory = w .memory; peaks = s .args .t .peaks }) (c .measure .ensures) ∙ ap (keptBy (s .args .t)) (sym z))
 
 pub seed-spec : {M : Type 1} → statement M

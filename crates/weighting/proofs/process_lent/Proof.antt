@@ -5,17 +5,18 @@ use native.Mathlib.Nat.{le-of-eq}
 use native.Mathlib.Omega.{arith}
 use mathlib.Core.Path.{_≡_, sym, ap, _∙_}
 use mathlib.Core.Bool.{true}
+use mathlib.Core.List.{List}
 use lib.ListN.{length}
 use Rattle.refusals.specs.Outcome.{Outcome, saidBy, keptBy, went, NoValues, done}
-use Rattle.calls.specs.Check.{Check, numberOf}
-use Rattle.calls.specs.Calls.{checkProcess}
-use Rattle.calls.proofs.Checking.{passed, Framed, framed, mapped, seeds, Processes, processes, roomy}
-use Rattle.calls.proofs.Stopping.{stopped, goes}
+use Rattle.refusals.specs.Rows.{Row, numberOf}
+use Rattle.refusals.proofs.Rows.{stopped, goes}
+use Rattle.calls.specs.Calls.{sizes, processRows}
+use Rattle.calls.proofs.Checking.{Processes, processes}
 use Rattle.sources.specs.Source.{sourceOf}
 use Rattle.sources.proofs.Cutting.{all-frames}
 use Rattle.states.specs.Channels.{Call, callOf, stateAfter}
 use Rattle.states.proofs.Whole.{state-is}
-use Rattle.weighting.specs.Weighting.{Kept, destAfter, weighed}
+use Rattle.weighting.specs.Weighting.{Kept, destAfter, weighingRows, weighed}
 use Rattle.weighting.proofs.Destinations.{dest-is}
 use Rattle.weighting.proofs.process_lent.Statement.{statement}
 use Rattle.weighting.proofs.process_lent.Tie as tie
@@ -24,29 +25,24 @@ use Rattle.weighting.proofs.process_lent.Tie as tie
 abbrev call : tie.Start → Call
 call s = let a = s .args in callOf (a .c) (record { values = a .state .now }) (a .channels) (sourceOf (a .ints .now) (a .floats .now)) (a .map .now)
 
-abbrev check : tie.Start → Check
-check s = let k = call s in checkProcess true (k .channels) (length (k .samples)) (k .map) (length (s .args .dest .now)) (s .args .start)
+abbrev rows : tie.Start → List Row
+rows s = weighingRows (call s) (s .args .dest .now) (s .args .start)
 
 abbrev leaves : tie.Start → Outcome Kept NoValues
 leaves s = let a = s .args in went (record { state = record { values = stateAfter (call s) }; dest = destAfter (call s) (a .dest .now) (a .start) }) done
 
 numbered : (c : tie.After-refused-process) → let s = c .before .before .before .before .before in
-    c .refused-process .result ≡ numberOf (check s)
+    c .refused-process .result ≡ numberOf (rows s)
 numbered c =
     let s = c .before .before .before .before .before in
-    c .refused-process .ensures ∙ ap (λ (n : ℕ). numberOf (checkProcess true (s .args .channels) n (s .args .map .now) (length (s .args .dest .now)) (s .args .start))) (c .before .size-of .ensures)
+    c .refused-process .ensures ∙ ap (λ (n : ℕ). numberOf (processRows true (sizes (s .args .channels) n (length (s .args .dest .now)) (s .args .start)) (s .args .map .now))) (c .before .size-of .ensures)
 
 -- a call that passes its check
 ok : (c : tie.Else1) → let s = c .before .before .before .before .before .before in
-    Processes true (call s .channels) (length (call s .samples)) (call s .map) (length (s .args .dest .now)) (s .args .start)
+    Processes (sizes (s .args .channels) (length (call s .samples)) (length (s .args .dest .now)) (s .args .start)) (s .args .map .now)
 ok c =
     let s = c .before .before .before .before .before .before in
-    processes true (call s .channels) (length (call s .samples)) (call s .map) (length (s .args .dest .now)) (s .args .start) (passed (check s) (sym (numbered (c .before)) ∙ c .if1 .left))
-
-fine : (c : tie.Else1) → let s = c .before .before .before .before .before .before in Framed (call s .channels) (length (call s .samples))
-fine c =
-    let s = c .before .before .before .before .before .before in
-    framed (call s .channels) (length (call s .samples)) (seeds (call s .channels) (length (call s .samples)) (call s .map) (ok c .seed) .frames)
+    processes _ (s .args .map .now) (sym (numbered (c .before)) ∙ c .if1 .left)
 
 size-of-requires : tie.Need-size-of-requires
 size-of-requires c κs = search needs
@@ -60,14 +56,14 @@ returns c =
     let r = c .before in
     let s = r .before .before .before .before .before in
     let a = s .args in
-    let f = stopped (check s) (leaves s) (record { state = call s .state; dest = a .dest .now }) (r .refused-process .result) (numbered r) (c .if1 .taken) in
+    let f = stopped (leaves s) (rows s) (record { state = call s .state; dest = a .dest .now }) (r .refused-process .result) (numbered r) (c .if1 .taken) in
     (f .says, ap (λ (k : Kept). k .state .values) (f .keeps), ap (λ (k : Kept). k .dest) (f .keeps))
 
 div-frames : tie.Need-div-frames
-div-frames c = fine c .some
+div-frames c = ok c .seed .frames .some
 
 div-part : tie.Need-div-part
-div-part c = fine c .some
+div-part c = ok c .seed .frames .some
 
 weigh-channels-requires : tie.Need-weigh-channels-requires
 weigh-channels-requires c κs =
@@ -76,11 +72,10 @@ weigh-channels-requires c κs =
     let n = r .before .size-of in
     let s = r .before .before .before .before .before in
     let a = s .args in
-    let k = fine e in
-    let b = mapped (a .channels) (a .map .now) (seeds (call s .channels) (length (call s .samples)) (call s .map) (ok e .seed) .bytes) in
-    let d = roomy (a .channels) (length (call s .samples)) (length (a .dest .now)) (a .start) (ok e .dest) in (
+    let k = ok e .seed .frames in
+    let d = ok e .room in (
       le-of-eq (all-frames (a .channels) (n .result) (a .ints .now) (a .floats .now) (rw (n .ensures) k) (n .ensures) (omega (arith, s .good)) (omega (arith, s .good)) .whole),
-      record { few = k .few; bytes = b; parts = d .parts; fits = rw (n .ensures) (d .fits) },
+      record { few = k .few; bytes = ok e .seed .bytes; parts = d .parts; fits = rw (n .ensures) (d .fits) },
     )
 
 same-length : tie.Need-same-length
@@ -95,8 +90,8 @@ returns-2 c =
     let n = r .before .size-of in
     let s = r .before .before .before .before .before in
     let a = s .args in
-    let some = fine e .some in
-    let z = goes (check s) (leaves s) (r .refused-process .result) (numbered r) (e .if1 .left) in (
+    let some = ok e .seed .frames .some in
+    let z = goes (leaves s) (rows s) (sym (numbered r) ∙ e .if1 .left) in (
       ap saidBy (sym z),
       w .weigh-channels .ensures .0
           ∙ state-is (call s) (n .result) some (n .ensures)
