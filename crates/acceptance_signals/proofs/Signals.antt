@@ -4,8 +4,8 @@ use Rattle.refusals.specs.Outcome.{done}
 use Rattle.refusals.specs.Rows.{RefusedBy}
 use Rattle.refusals.proofs.Rows.{refused-by}
 use Rattle.filter.specs.Call.{Call, Kept}
-use Rattle.filter_process.specs.Process.{processRows, processed}
-use Rattle.filter_seed.specs.Seed.{seedRows, seeded}
+use Rattle.filter.specs.Process.{processRows, processed}
+use Rattle.filter.specs.Seed.{seedRows, seeded}
 use Rattle.true_peak_state.specs.declared.TruePeak.{TruePeak}
 use Rattle.true_peak.specs.TruePeak.{peakRows}
 use Rattle.acceptance_outcomes.proofs.Fixed.{fixes, answer-back, answer-there}

@@ -1,12 +1,12 @@
 -- Demand 1 for the calls over samples: sample peak and weighting (`process`, `seed`), and true peak. "Given exactly when", "Checks run in table order", and "Lent memory and
 -- states passed by value come back as given". And their statements fix their outcomes: the answer, the peaks, the states and the destination.
--- proofs/Signals.antt proves `SignalCalls`. What the samples are, i16 or f32, plays no part: a call is over the floats that they become.
+-- proofs/Signals.antt proves `SignalCalls`, for samples of every kind at once.
 use Prim.Native.Nat.{ℕ}
 use Rattle.refusals.specs.Answer.{said}
 use Rattle.refusals.specs.Rows.{RefusedBy}
 use Rattle.filter.specs.Call.{Call, Kept}
-use Rattle.filter_process.specs.Process.{processRows, processed}
-use Rattle.filter_seed.specs.Seed.{seedRows, seeded}
+use Rattle.filter.specs.Process.{processRows, processed}
+use Rattle.filter.specs.Seed.{seedRows, seeded}
 use Rattle.true_peak_state.specs.declared.TruePeak.{TruePeak}
 use Rattle.true_peak_state.specs.TruePeak.{Block}
 use Rattle.true_peak.specs.TruePeak.{peakRows, processed as peakProcessed, seeded as peakSeeded}

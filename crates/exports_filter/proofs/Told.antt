@@ -1,31 +1,41 @@
 -- A call of the filter as the C interface tells it: the code of what it says, and each array of what it keeps. Assumes nothing.
 use mathlib.Core.Path.{_≡_, ap, _∙_}
-use mathlib.Core.List.{List}
+use mathlib.Core.List.{List, []}
 use Prim.Native.Nat.{ℕ}
+use lib.IntN.{ℤ}
 use lib.Ieee.{Float}
 use Rattle.refusals.specs.Answer.{said}
-use Rattle.refusals.specs.Outcome.{saidBy}
+use Rattle.refusals.specs.Outcome.{Outcome, saidBy, keptBy, NoValues}
 use Rattle.refusals.specs.declared.Answer.{Answer}
+use Rattle.samples.specs.Kinds.{Samples, i16s, f32s, lent}
+use Rattle.samples.proofs.ByKind.{only-i16, only-f32}
 use Rattle.codes.specs.Codes.{code, numberSaid}
 use Rattle.codes.proofs.Told.{answer-told}
 use Rattle.filter.specs.declared.Switches.{Switches}
-use Rattle.filter.specs.declared.Filter.{Filter}
-use Rattle.filter.specs.Filter.{lentFilter}
-use Rattle.filter.specs.Call.{Call, callOf, kept}
-use Rattle.filter_process.specs.Process.{processed}
-use Rattle.filter_seed.specs.Seed.{seeded}
-use Rattle.exports_filter.specs.Filters.{switchesOf, filterOf}
+use Rattle.filter.specs.Call.{Call, Kept, given, kept}
+use Rattle.filter.specs.Process.{processed}
+use Rattle.filter.specs.Seed.{seeded}
 
--- a filter with the switches of a number is the filter of that number
-pub switched : (channels rate on : ℕ) (a b state peaks memory truePeaks : List Float) (s : Switches) → s ≡ switchesOf on
-    → lentFilter channels rate s a b state peaks memory truePeaks ≡ filterOf channels rate on a b state peaks memory truePeaks
-switched channels rate on a b state peaks memory truePeaks s h = rw h
+-- what is asked of the switches of a number and of samples of one kind
+module _ {Asked : Type 0} (asked : Switches → Samples → Asked) (s s′ : Switches) (e : s ≡ s′) where
+  pub on-ints : asked s′ (f32s []) ≡ asked s′ (i16s []) → (ints : List ℤ) → asked s (lent ints []) ≡ asked s′ (i16s ints)
+  on-ints none ints = ap (λ (w : Switches). asked w (lent ints [])) e ∙ only-i16 (asked s′) none ints
 
--- a call of the same filter over the same samples is the same call
-pub same-call : (f f′ : Filter) (x x′ : List Float) (map : List ℕ) (dest : List Float) (start : ℕ) → f ≡ f′ → x ≡ x′ → callOf f x map dest start ≡ callOf f′ x′ map dest start
-same-call f f′ x x′ map dest start e d = ap (λ (g : Filter). callOf g x map dest start) e ∙ ap (λ (y : List Float). callOf f′ y map dest start) d
+  pub on-floats : (floats : List Float) → asked s (lent [] floats) ≡ asked s′ (f32s floats)
+  on-floats floats = ap (λ (w : Switches). asked w (lent [] floats)) e ∙ ap (asked s′) (only-f32 floats)
 
-pub processed-told : (call call′ : Call) (answer : Answer) (state peaks memory truePeaks dest : List Float) (n : ℕ) → call ≡ call′
+module _ (operation : Call → Outcome Kept NoValues) (call call′ : Call) (comes : operation call ≡ operation call′) (has : given call ≡ given call′) where
+  leaves : kept operation call ≡ kept operation call′
+  leaves = ap (λ (g : Kept). keptBy g (operation call)) has ∙ ap (keptBy (given call′)) comes
+
+  code-told : (answer : Answer) (n : ℕ) → said answer ≡ saidBy (operation call) → n ≡ numberSaid answer → n ≡ code (operation call′)
+  code-told answer n h number = number ∙ answer-told (operation call) answer h ∙ ap (λ (o : Outcome Kept NoValues). code o) comes
+
+  left-told : {A : Type 0} (part : Kept → A) {x : A} → x ≡ part (kept operation call) → x ≡ part (kept operation call′)
+  left-told part h = h ∙ ap part leaves
+
+pub processed-told : (call call′ : Call) → processed call ≡ processed call′ → given call ≡ given call′
+    → (answer : Answer) (state peaks memory truePeaks dest : List Float) (n : ℕ)
     → (said answer ≡ saidBy (processed call))
     × (state ≡ kept processed call .filter .state .values)
     × (peaks ≡ kept processed call .filter .peaks .values)
@@ -39,16 +49,17 @@ pub processed-told : (call call′ : Call) (answer : Answer) (state peaks memory
     × (memory ≡ kept processed call′ .filter .«true_peak» .memory)
     × (truePeaks ≡ kept processed call′ .filter .«true_peak» .peaks)
     × (dest ≡ kept processed call′ .dest)
-processed-told call call′ answer state peaks memory truePeaks dest n e told number = (
-  number ∙ answer-told (processed call) answer (told .0) ∙ ap (λ (c : Call). code (processed c)) e,
-  told .1 ∙ ap (λ (c : Call). kept processed c .filter .state .values) e,
-  told .2 ∙ ap (λ (c : Call). kept processed c .filter .peaks .values) e,
-  told .3 ∙ ap (λ (c : Call). kept processed c .filter .«true_peak» .memory) e,
-  told .4 ∙ ap (λ (c : Call). kept processed c .filter .«true_peak» .peaks) e,
-  told .5 ∙ ap (λ (c : Call). kept processed c .dest) e,
+processed-told call call′ comes has answer state peaks memory truePeaks dest n told number = (
+  code-told processed call call′ comes has answer n (told .0) number,
+  left-told processed call call′ comes has (λ k. k .filter .state .values) (told .1),
+  left-told processed call call′ comes has (λ k. k .filter .peaks .values) (told .2),
+  left-told processed call call′ comes has (λ k. k .filter .«true_peak» .memory) (told .3),
+  left-told processed call call′ comes has (λ k. k .filter .«true_peak» .peaks) (told .4),
+  left-told processed call call′ comes has (λ k. k .dest) (told .5),
 )
 
-pub seeded-told : (call call′ : Call) (answer : Answer) (state memory : List Float) (n : ℕ) → call ≡ call′
+pub seeded-told : (call call′ : Call) → seeded call ≡ seeded call′ → given call ≡ given call′
+    → (answer : Answer) (state memory : List Float) (n : ℕ)
     → (said answer ≡ saidBy (seeded call))
     × (state ≡ kept seeded call .filter .state .values)
     × (memory ≡ kept seeded call .filter .«true_peak» .memory)
@@ -56,8 +67,8 @@ pub seeded-told : (call call′ : Call) (answer : Answer) (state memory : List F
     → (n ≡ code (seeded call′))
     × (state ≡ kept seeded call′ .filter .state .values)
     × (memory ≡ kept seeded call′ .filter .«true_peak» .memory)
-seeded-told call call′ answer state memory n e told number = (
-  number ∙ answer-told (seeded call) answer (told .0) ∙ ap (λ (c : Call). code (seeded c)) e,
-  told .1 ∙ ap (λ (c : Call). kept seeded c .filter .state .values) e,
-  told .2 ∙ ap (λ (c : Call). kept seeded c .filter .«true_peak» .memory) e,
+seeded-told call call′ comes has answer state memory n told number = (
+  code-told seeded call call′ comes has answer n (told .0) number,
+  left-told seeded call call′ comes has (λ k. k .filter .state .values) (told .1),
+  left-told seeded call call′ comes has (λ k. k .filter .«true_peak» .memory) (told .2),
 )

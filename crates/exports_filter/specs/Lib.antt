@@ -1,1 +1,1 @@
-pub mod Filters
+pub mod Switches

@@ -1,11 +1,13 @@
 // The C interface of the filter. include/xelamphoun.h declares it.
 ghost use mathlib.Core.Path.{_≡_};
-ghost use Rattle.samples.specs.Sample.{samplesOf16, samplesOfF32};
+ghost use Rattle.samples.specs.Kinds.{i16s, f32s};
 ghost use Rattle.codes.specs.Codes.{code};
-ghost use Rattle.filter.specs.Call.{callOf, seedOf, kept};
-ghost use Rattle.filter_process.specs.Process.{processed};
-ghost use Rattle.filter_seed.specs.Seed.{seeded};
-ghost use Rattle.exports_filter.specs.Filters.{switchesOf, filterOf, seedFilterOf};
+ghost use Rattle.true_peak_state.specs.declared.TruePeak.{TruePeak};
+ghost use Rattle.filter.specs.Filter.{noPeaks, resting, moved};
+ghost use Rattle.filter.specs.Call.{Call, seedOf, kept};
+ghost use Rattle.filter.specs.Process.{processed};
+ghost use Rattle.filter.specs.Seed.{seeded};
+ghost use Rattle.exports_filter.specs.Switches.{switchesOf};
 use codes::number_of;
 use filter::Switches;
 
@@ -35,7 +37,10 @@ pub extern "C" fn xel_process_i16(
     dest: &mut [f64],
     start: usize,
 ) -> u8
-    ensures { λ r. ⌜ (let call = callOf (filterOf channels rate on (now (a .entry)) (now (b .entry)) (now (state .entry)) (now (peaks .entry)) (now (memory .entry)) (now («true_peaks» .entry))) (samplesOf16 (now («data» .entry))) (now (map .entry)) (now (dest .entry)) start in
+    ensures { λ r. ⌜ (let rest = resting channels rate (switchesOf on) (record { a = now (a .entry); b = now (b .entry) }) in
+        let trues : TruePeak = record { memory = now (memory .entry); peaks = now («true_peaks» .entry) } in
+        let filter = moved rest (record { values = now (state .entry) }) (record { values = now (peaks .entry) }) trues in
+        let call : Call = record { filter = filter; samples = i16s (now («data» .entry)); map = now (map .entry); dest = now (dest .entry); start = start } in
         (r ≡ code (processed call))
         × (now (state .exit) ≡ kept processed call .filter .state .values)
         × (now (peaks .exit) ≡ kept processed call .filter .peaks .values)
@@ -79,7 +84,10 @@ pub extern "C" fn xel_process_f32(
     dest: &mut [f64],
     start: usize,
 ) -> u8
-    ensures { λ r. ⌜ (let call = callOf (filterOf channels rate on (now (a .entry)) (now (b .entry)) (now (state .entry)) (now (peaks .entry)) (now (memory .entry)) (now («true_peaks» .entry))) (samplesOfF32 (now («data» .entry))) (now (map .entry)) (now (dest .entry)) start in
+    ensures { λ r. ⌜ (let rest = resting channels rate (switchesOf on) (record { a = now (a .entry); b = now (b .entry) }) in
+        let trues : TruePeak = record { memory = now (memory .entry); peaks = now («true_peaks» .entry) } in
+        let filter = moved rest (record { values = now (state .entry) }) (record { values = now (peaks .entry) }) trues in
+        let call : Call = record { filter = filter; samples = f32s (now («data» .entry)); map = now (map .entry); dest = now (dest .entry); start = start } in
         (r ≡ code (processed call))
         × (now (state .exit) ≡ kept processed call .filter .state .values)
         × (now (peaks .exit) ≡ kept processed call .filter .peaks .values)
@@ -107,6 +115,7 @@ pub extern "C" fn xel_process_f32(
     number_of(answer)
 }
 
+// A seed call looks at no output coefficient and at no peak.
 #[no_mangle]
 pub extern "C" fn xel_seed_i16(
     channels: usize,
@@ -118,7 +127,10 @@ pub extern "C" fn xel_seed_i16(
     data: &[i16],
     map: &[u8],
 ) -> u8
-    ensures { λ r. ⌜ (let call = seedOf (seedFilterOf channels rate on (now (a .entry)) (now (state .entry)) (now (memory .entry))) (samplesOf16 (now («data» .entry))) (now (map .entry)) in
+    ensures { λ r. ⌜ (let rest = resting channels rate (switchesOf on) (record { a = now (a .entry); b = now (a .entry) }) in
+        let trues : TruePeak = record { memory = now (memory .entry); peaks = noPeaks } in
+        let filter = moved rest (record { values = now (state .entry) }) (record { values = noPeaks }) trues in
+        let call = seedOf filter (i16s (now («data» .entry))) (now (map .entry)) in
         (r ≡ code (seeded call))
         × (now (state .exit) ≡ kept seeded call .filter .state .values)
         × (now (memory .exit) ≡ kept seeded call .filter .«true_peak» .memory)) ⌝ }
@@ -154,7 +166,10 @@ pub extern "C" fn xel_seed_f32(
     data: &[f32],
     map: &[u8],
 ) -> u8
-    ensures { λ r. ⌜ (let call = seedOf (seedFilterOf channels rate on (now (a .entry)) (now (state .entry)) (now (memory .entry))) (samplesOfF32 (now («data» .entry))) (now (map .entry)) in
+    ensures { λ r. ⌜ (let rest = resting channels rate (switchesOf on) (record { a = now (a .entry); b = now (a .entry) }) in
+        let trues : TruePeak = record { memory = now (memory .entry); peaks = noPeaks } in
+        let filter = moved rest (record { values = now (state .entry) }) (record { values = noPeaks }) trues in
+        let call = seedOf filter (f32s (now («data» .entry))) (now (map .entry)) in
         (r ≡ code (seeded call))
         × (now (state .exit) ≡ kept seeded call .filter .state .values)
         × (now (memory .exit) ≡ kept seeded call .filter .«true_peak» .memory)) ⌝ }

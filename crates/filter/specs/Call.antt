@@ -4,33 +4,31 @@ use mathlib.Core.Bool.{cond}
 use mathlib.Core.List.{List, []}
 use lib.Ieee.{Float}
 use Rattle.refusals.specs.Outcome.{Outcome, keptBy, NoValues}
+use Rattle.samples.specs.Kinds.{Samples, asF64, asF32}
 use Rattle.states.specs.declared.State.{State}
 use Rattle.states.specs.Channels as recurrence
 use Rattle.true_peak_state.specs.TruePeak.{Block}
 use Rattle.filter.specs.declared.Filter.{Filter}
 
--- `samples` are the floats that the interleaved samples become. A seed call has no destination.
+-- the samples are interleaved; `start` is the index in each channel's part of the destination that the outputs go to from
 pub record Call : Type 0 where
   pub filter : Filter
-  pub samples : List Float
+  pub samples : Samples
   pub map : List ℕ
   pub dest : List Float
   pub start : ℕ
 
-abbrev pub callOf : Filter → List Float → List ℕ → List Float → ℕ → Call
-callOf filter samples map dest start = record { filter = filter; samples = samples; map = map; dest = dest; start = start }
-
--- a seed call
-abbrev pub seedOf : Filter → List Float → List ℕ → Call
-seedOf filter samples map = callOf filter samples map [] 0
+-- a seed call has no destination
+abbrev pub seedOf : Filter → Samples → List ℕ → Call
+seedOf filter samples map = record { filter = filter; samples = samples; map = map; dest = []; start = 0 }
 
 -- what the weighting is given
 abbrev pub weighing : Call → recurrence.Call
-weighing call = recurrence.callOf (call .filter .coefficients) (call .filter .state) (call .filter .channels) (call .samples) (call .map)
+weighing call = recurrence.callOf (call .filter .coefficients) (call .filter .state) (call .filter .channels) (asF64 (call .samples)) (call .map)
 
 -- what the true peak hears
 abbrev pub hearing : Call → Block
-hearing call = record { channels = call .filter .channels; samples = call .samples }
+hearing call = record { channels = call .filter .channels; samples = asF32 (call .samples) }
 
 -- what a call has in hand, and what it leaves
 pub record Kept : Type 0 where

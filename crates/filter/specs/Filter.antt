@@ -46,16 +46,3 @@ moved filter state peaks trues =
       peaks = peaks;
       «true_peak» = trues;
     }
-
--- a filter whose arrays are lent each by itself
-abbrev pub lentFilter : ℕ → ℕ → Switches → List Float → List Float → List Float → List Float → List Float → List Float → Filter
-lentFilter channels rate switches a b state peaks memory truePeaks =
-    record {
-      channels = channels;
-      rate = rate;
-      switches = switches;
-      coefficients = record { a = a; b = b };
-      state = record { values = state };
-      peaks = record { values = peaks };
-      «true_peak» = record { memory = memory; peaks = truePeaks };
-    }

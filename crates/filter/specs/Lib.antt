@@ -1,2 +1,4 @@
 pub mod Filter
 pub mod Call
+pub mod Process
+pub mod Seed

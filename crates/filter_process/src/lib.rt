@@ -3,18 +3,18 @@ ghost use mathlib.Core.Path.{_≡_};
 ghost use mathlib.Core.Bool.{cond};
 ghost use Rattle.refusals.specs.Answer.{said};
 ghost use Rattle.refusals.specs.Outcome.{saidBy, keptBy};
-ghost use Rattle.samples.specs.Sample.{samplesOf16, samplesOfF32};
-ghost use Rattle.sources.specs.Source.{sourceOf};
+ghost use Rattle.samples.specs.Kinds.{i16s, f32s, asF64, asF32, lent};
 ghost use Rattle.states.specs.declared.State.{State};
 ghost use Rattle.states.specs.Channels as recurrence;
 ghost use Rattle.weighting.specs.Weighting as weighting;
 ghost use Rattle.sample_peak.specs.declared.Peaks.{Peaks};
 ghost use Rattle.sample_peak.specs.Peak.{raised};
 ghost use Rattle.true_peak_state.specs.declared.TruePeak.{TruePeak};
+ghost use Rattle.true_peak_state.specs.TruePeak.{Block};
 ghost use Rattle.true_peak.specs.TruePeak as trues;
-ghost use Rattle.filter.specs.Filter.{lentFilter};
-ghost use Rattle.filter.specs.Call.{callOf, kept};
-ghost use Rattle.filter_process.specs.Process.{processed};
+ghost use Rattle.filter.specs.Filter.{resting, moved};
+ghost use Rattle.filter.specs.Call.{Call, kept};
+ghost use Rattle.filter.specs.Process.{processed};
 use calls::Sizes;
 use filter::Filter;
 use filter::Filtered;
@@ -28,7 +28,8 @@ use true_peak_state::TruePeak;
 // The sample peaks after the call. Where the sample peak is off they are not looked at.
 fn raise(on: bool, peaks: &mut [f64; 8], channels: usize, ints: &[i16], floats: &[f32])
     ensures { λ _. ⌜ (let stored : Peaks = record { values = now (peaks .entry) } in
-        now (peaks .exit) ≡ cond on (keptBy stored (raised channels (sourceOf (now (ints .entry)) (now (floats .entry))) stored)) stored .values) ⌝ }
+        let samples = asF64 (lent (now (ints .entry)) (now (floats .entry))) in
+        now (peaks .exit) ≡ cond on (keptBy stored (raised channels samples stored)) stored .values) ⌝ }
 {
     if !on {
         return;
@@ -49,7 +50,8 @@ fn listen(
     floats: &[f32],
 )
     ensures { λ _. ⌜ (let stored : TruePeak = record { memory = now (memory .entry); peaks = now (peaks .entry) } in
-        let after = cond on (keptBy stored (trues.processed rate (record { channels = channels; samples = sourceOf (now (ints .entry)) (now (floats .entry)) }) stored)) stored in
+        let heard : Block = record { channels = channels; samples = asF32 (lent (now (ints .entry)) (now (floats .entry))) } in
+        let after = cond on (keptBy stored (trues.processed rate heard stored)) stored in
         (now (memory .exit) ≡ after .memory) × (now (peaks .exit) ≡ after .peaks)) ⌝ }
 {
     if !on {
@@ -69,29 +71,29 @@ fn listen(
 // The state after the call and the outputs in the destination. Where loudness is off neither is looked at.
 fn weigh(
     on: bool,
-    a: &[f64; 5],
-    b: &[f64; 5],
+    c: Coefficients,
     state: &mut [f64; 40],
-    channels: usize,
+    sizes: Sizes,
     ints: &[i16],
     floats: &[f32],
     map: &[u8],
     dest: &mut [f64],
-    start: usize,
 )
     ensures { λ _. ⌜ (let stored : State = record { values = now (state .entry) } in
-        let after = weighting.kept (recurrence.callOf (record { a = now (a .entry); b = now (b .entry) }) stored channels (sourceOf (now (ints .entry)) (now (floats .entry))) (now (map .entry))) (now (dest .entry)) start in
+        let samples = asF64 (lent (now (ints .entry)) (now (floats .entry))) in
+        let after = weighting.kept (recurrence.callOf c stored (sizes .channels) samples (now (map .entry))) (now (dest .entry)) (sizes .start) in
         (now (state .exit) ≡ cond on (after .state) stored .values) × (now (dest .exit) ≡ cond on (after .dest) (now (dest .entry)))) ⌝ }
 {
     if !on {
         return;
     }
-    let c = Coefficients { a: *a, b: *b };
+    let channels = sizes.channels;
+    let start = sizes.start;
     weighting::process_lent(c, state, channels, ints, floats, map, dest, start);
 }
 
 // One call for samples of either kind, integers, or floats where there are no integers, on arrays that are lent each by itself.
-// Everything is checked before anything moves, and what is off is not looked at.
+// Everything is checked before anything moves, and what is off stays.
 pub fn process_lent(
     channels: usize,
     rate: u32,
@@ -108,7 +110,11 @@ pub fn process_lent(
     dest: &mut [f64],
     start: usize,
 ) -> Answer
-    ensures { λ r. ⌜ (let call = callOf (lentFilter channels rate switches (now (a .entry)) (now (b .entry)) (now (state .entry)) (now (peaks .entry)) (now (memory .entry)) (now («true_peaks» .entry))) (sourceOf (now (ints .entry)) (now (floats .entry))) (now (map .entry)) (now (dest .entry)) start in
+    ensures { λ r. ⌜ (let rest = resting channels rate switches (record { a = now (a .entry); b = now (b .entry) }) in
+        let trues : TruePeak = record { memory = now (memory .entry); peaks = now («true_peaks» .entry) } in
+        let filter = moved rest (record { values = now (state .entry) }) (record { values = now (peaks .entry) }) trues in
+        let samples = lent (now (ints .entry)) (now (floats .entry)) in
+        let call : Call = record { filter = filter; samples = samples; map = now (map .entry); dest = now (dest .entry); start = start } in
         (said r ≡ saidBy (processed call))
         × (now (state .exit) ≡ kept processed call .filter .state .values)
         × (now (peaks .exit) ≡ kept processed call .filter .peaks .values)
@@ -138,18 +144,8 @@ pub fn process_lent(
         ints,
         floats,
     );
-    weigh(
-        loudness,
-        a,
-        b,
-        state,
-        channels,
-        ints,
-        floats,
-        map,
-        dest,
-        start,
-    );
+    let c = Coefficients { a: *a, b: *b };
+    weigh(loudness, c, state, sizes, ints, floats, map, dest);
     Answer::Done
 }
 
@@ -162,9 +158,11 @@ fn process(
     dest: &mut [f64],
     start: usize,
 ) -> Filtered
-    ensures { λ r. ⌜ said (r .answer) ≡ saidBy (processed (callOf filter (sourceOf (now (ints .entry)) (now (floats .entry))) (now (map .entry)) (now (dest .entry)) start)) ⌝ }
-    ensures { λ r. ⌜ r .filter ≡ kept processed (callOf filter (sourceOf (now (ints .entry)) (now (floats .entry))) (now (map .entry)) (now (dest .entry)) start) .filter ⌝ }
-    ensures { λ r. ⌜ now (dest .exit) ≡ kept processed (callOf filter (sourceOf (now (ints .entry)) (now (floats .entry))) (now (map .entry)) (now (dest .entry)) start) .dest ⌝ }
+    ensures { λ r. ⌜ (let samples = lent (now (ints .entry)) (now (floats .entry)) in
+        let call : Call = record { filter = filter; samples = samples; map = now (map .entry); dest = now (dest .entry); start = start } in
+        (said (r .answer) ≡ saidBy (processed call))
+        × (r .filter ≡ kept processed call .filter)
+        × (now (dest .exit) ≡ kept processed call .dest)) ⌝ }
 {
     let switches = filter.switches;
     let a = filter.coefficients.a;
@@ -212,9 +210,10 @@ pub fn process_i16(
     dest: &mut [f64],
     start: usize,
 ) -> Filtered
-    ensures { λ r. ⌜ said (r .answer) ≡ saidBy (processed (callOf filter (samplesOf16 (now («data» .entry))) (now (map .entry)) (now (dest .entry)) start)) ⌝ }
-    ensures { λ r. ⌜ r .filter ≡ kept processed (callOf filter (samplesOf16 (now («data» .entry))) (now (map .entry)) (now (dest .entry)) start) .filter ⌝ }
-    ensures { λ r. ⌜ now (dest .exit) ≡ kept processed (callOf filter (samplesOf16 (now («data» .entry))) (now (map .entry)) (now (dest .entry)) start) .dest ⌝ }
+    ensures { λ r. ⌜ (let call : Call = record { filter = filter; samples = i16s (now («data» .entry)); map = now (map .entry); dest = now (dest .entry); start = start } in
+        (said (r .answer) ≡ saidBy (processed call))
+        × (r .filter ≡ kept processed call .filter)
+        × (now (dest .exit) ≡ kept processed call .dest)) ⌝ }
 {
     let none: [f32; 0] = [];
     process(filter, data, &none, map, dest, start)
@@ -227,9 +226,10 @@ pub fn process_f32(
     dest: &mut [f64],
     start: usize,
 ) -> Filtered
-    ensures { λ r. ⌜ said (r .answer) ≡ saidBy (processed (callOf filter (samplesOfF32 (now («data» .entry))) (now (map .entry)) (now (dest .entry)) start)) ⌝ }
-    ensures { λ r. ⌜ r .filter ≡ kept processed (callOf filter (samplesOfF32 (now («data» .entry))) (now (map .entry)) (now (dest .entry)) start) .filter ⌝ }
-    ensures { λ r. ⌜ now (dest .exit) ≡ kept processed (callOf filter (samplesOfF32 (now («data» .entry))) (now (map .entry)) (now (dest .entry)) start) .dest ⌝ }
+    ensures { λ r. ⌜ (let call : Call = record { filter = filter; samples = f32s (now («data» .entry)); map = now (map .entry); dest = now (dest .entry); start = start } in
+        (said (r .answer) ≡ saidBy (processed call))
+        × (r .filter ≡ kept processed call .filter)
+        × (now (dest .exit) ≡ kept processed call .dest)) ⌝ }
 {
     let none: [i16; 0] = [];
     process(filter, &none, data, map, dest, start)

@@ -1,6 +1,6 @@
 -- What each part of the filter leaves of a seed call that passes: what its definition says. Assumes nothing.
 use Prim.Native.Nat.{ℕ}
-use mathlib.Core.Path.{_≡_, refl, ap}
+use mathlib.Core.Path.{_≡_, refl, ap, _∙_}
 use mathlib.Core.Bool.{Bool, true, false, cond}
 use mathlib.Core.List.{List}
 use lib.ListN.{length}
@@ -8,33 +8,43 @@ use lib.Ieee.{Float}
 use Rattle.refusals.specs.Outcome.{Outcome, keptBy, went, NoValues, done}
 use Rattle.refusals.specs.Rows.{numberOf}
 use Rattle.refusals.proofs.Rows.{goes, either-way}
+use Rattle.samples.specs.Kinds.{sizeOf, asF64}
+use Rattle.samples.proofs.ByKind.{size-f64, size-f32}
 use Rattle.states.specs.declared.State.{State}
 use Rattle.calls.specs.Calls as calls
-use Rattle.calls.proofs.Checking as checking
+use Rattle.calls.proofs.Checking.{seed-frames}
 use Rattle.states.specs.Channels as recurrence
 use Rattle.seeding.specs.Seeding as seeding
 use Rattle.interp.specs.Interp.{kindOf}
 use Rattle.true_peak_state.specs.declared.TruePeak.{TruePeak}
-use Rattle.true_peak_state.specs.TruePeak.{Block, measured}
+use Rattle.true_peak_state.specs.TruePeak.{measured}
 use Rattle.true_peak.specs.TruePeak as trues
+use Rattle.filter.specs.declared.Filter.{Filter}
 use Rattle.filter.specs.Filter.{moved}
-use Rattle.filter.specs.Call.{Call, Kept, given, kept, weighedState}
+use Rattle.filter.specs.Call.{Call, Kept, given, kept, weighing, hearing, weighedState}
 use Rattle.filter.proofs.Moving.{left-moved}
-use Rattle.filter_seed.specs.Seed.{rememberedTruePeaks, seedRows, seeded}
+use Rattle.filter.specs.Seed.{rememberedTruePeaks, seedRows, seeded}
 
-pub seed-frames : (call : Call) → numberOf (seedRows call) ≡ 0 → numberOf (calls.frameRows (call .filter .channels) (length (call .samples))) ≡ 0
-seed-frames call = checking.seed-frames (call .filter .channels) (length (call .samples)) (call .map)
+module _ (call : Call) (ok : numberOf (seedRows call) ≡ 0) where
+  abbrev f : Filter
+  f = call .filter
 
-module _ (on : Bool) (rate : ℕ) (b : Block) (t : TruePeak) (e : numberOf (trues.peakRows b) ≡ 0) where
-  pub memory-is : cond on (keptBy t (trues.seeded rate b t)) t ≡ cond on (record { memory = measured (kindOf rate) b t .memory; peaks = t .peaks }) t
-  memory-is = ap (λ (o : Outcome TruePeak NoValues). cond on (keptBy t o) t) (goes (went (record { memory = measured (kindOf rate) b t .memory; peaks = t .peaks }) done) (trues.peakRows b) e)
+  heard-passes : numberOf (trues.peakRows (hearing call)) ≡ 0
+  heard-passes =
+      ap (λ (n : ℕ). numberOf (calls.frameRows (f .channels) n)) (size-f32 (call .samples))
+      ∙ seed-frames (f .channels) (sizeOf (call .samples)) (call .map) ok
 
-pub seeded-state : (on : Bool) (call : recurrence.Call) → numberOf (calls.seedRows (call .channels) (length (call .samples)) (call .map)) ≡ 0
-    → cond on (keptBy (call .state) (seeding.moved call)) (call .state) ≡ cond on (record { values = recurrence.stateAfter call }) (call .state)
-unfolding seeding.moved
-seeded-state on call e =
-    ap (λ (o : Outcome State NoValues). cond on (keptBy (call .state) o) (call .state))
-    (goes (went (record { values = recurrence.stateAfter call }) done) (calls.seedRows (call .channels) (length (call .samples)) (call .map)) e)
+  pub memory-is : cond (f .switches .«true_peak») (keptBy (f .«true_peak») (trues.seeded (f .rate) (hearing call) (f .«true_peak»))) (f .«true_peak») ≡ rememberedTruePeaks call
+  memory-is =
+      ap (λ (o : Outcome TruePeak NoValues). cond (f .switches .«true_peak») (keptBy (f .«true_peak») o) (f .«true_peak»))
+      (goes (went (record { memory = measured (kindOf (f .rate)) (hearing call) (f .«true_peak») .memory; peaks = f .«true_peak» .peaks }) done) (trues.peakRows (hearing call)) heard-passes)
+
+  pub state-is : cond (f .switches .loudness) (keptBy (f .state) (seeding.moved (weighing call))) (f .state) ≡ weighedState call
+  unfolding seeding.moved
+  state-is =
+      ap (λ (o : Outcome State NoValues). cond (f .switches .loudness) (keptBy (f .state) o) (f .state))
+      (goes (went (record { values = recurrence.stateAfter (weighing call) }) done) (calls.seedRows (f .channels) (length (asF64 (call .samples))) (call .map))
+      (ap (λ (n : ℕ). numberOf (calls.seedRows (f .channels) n (call .map))) (size-f64 (call .samples)) ∙ ok))
 
 -- ---- the filter, of which a seed call moves no peak
 

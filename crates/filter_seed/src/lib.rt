@@ -3,16 +3,16 @@ ghost use mathlib.Core.Path.{_≡_};
 ghost use mathlib.Core.Bool.{cond};
 ghost use Rattle.refusals.specs.Answer.{said};
 ghost use Rattle.refusals.specs.Outcome.{saidBy, keptBy};
-ghost use Rattle.samples.specs.Sample.{samplesOf16, samplesOfF32};
-ghost use Rattle.sources.specs.Source.{sourceOf};
+ghost use Rattle.samples.specs.Kinds.{i16s, f32s, asF64, asF32, lent};
 ghost use Rattle.states.specs.declared.State.{State};
 ghost use Rattle.states.specs.Channels as recurrence;
 ghost use Rattle.seeding.specs.Seeding as seeding;
 ghost use Rattle.true_peak_state.specs.declared.TruePeak.{TruePeak};
+ghost use Rattle.true_peak_state.specs.TruePeak.{Block};
 ghost use Rattle.true_peak.specs.TruePeak as trues;
-ghost use Rattle.filter.specs.Filter.{lentFilter};
+ghost use Rattle.filter.specs.Filter.{resting, moved};
 ghost use Rattle.filter.specs.Call.{seedOf, kept};
-ghost use Rattle.filter_seed.specs.Seed.{seeded};
+ghost use Rattle.filter.specs.Seed.{seeded};
 use filter::Filter;
 use filter::Filtered;
 use filter::Switches;
@@ -33,7 +33,8 @@ fn remember(
     floats: &[f32],
 )
     ensures { λ _. ⌜ (let stored : TruePeak = record { memory = now (memory .entry); peaks = now (peaks .entry) } in
-        now (memory .exit) ≡ cond on (keptBy stored (trues.seeded rate (record { channels = channels; samples = sourceOf (now (ints .entry)) (now (floats .entry)) }) stored)) stored .memory) ⌝ }
+        let heard : Block = record { channels = channels; samples = asF32 (lent (now (ints .entry)) (now (floats .entry))) } in
+        now (memory .exit) ≡ cond on (keptBy stored (trues.seeded rate heard stored)) stored .memory) ⌝ }
 {
     if !on {
         return;
@@ -59,7 +60,9 @@ fn advance(
     map: &[u8],
 )
     ensures { λ _. ⌜ (let stored : State = record { values = now (state .entry) } in
-        now (state .exit) ≡ cond on (keptBy stored (seeding.moved (recurrence.callOf (record { a = now (a .entry); b = now (b .entry) }) stored channels (sourceOf (now (ints .entry)) (now (floats .entry))) (now (map .entry))))) stored .values) ⌝ }
+        let samples = asF64 (lent (now (ints .entry)) (now (floats .entry))) in
+        let call = recurrence.callOf (record { a = now (a .entry); b = now (b .entry) }) stored channels samples (now (map .entry)) in
+        now (state .exit) ≡ cond on (keptBy stored (seeding.moved call)) stored .values) ⌝ }
 {
     if !on {
         return;
@@ -87,7 +90,10 @@ pub fn seed_lent(
     floats: &[f32],
     map: &[u8],
 ) -> Answer
-    ensures { λ r. ⌜ (let call = seedOf (lentFilter channels rate switches (now (a .entry)) (now (b .entry)) (now (state .entry)) (now (peaks .entry)) (now (memory .entry)) (now («true_peaks» .entry))) (sourceOf (now (ints .entry)) (now (floats .entry))) (now (map .entry)) in
+    ensures { λ r. ⌜ (let rest = resting channels rate switches (record { a = now (a .entry); b = now (b .entry) }) in
+        let trues : TruePeak = record { memory = now (memory .entry); peaks = now («true_peaks» .entry) } in
+        let filter = moved rest (record { values = now (state .entry) }) (record { values = now (peaks .entry) }) trues in
+        let call = seedOf filter (lent (now (ints .entry)) (now (floats .entry))) (now (map .entry)) in
         (said r ≡ saidBy (seeded call))
         × (now (state .exit) ≡ kept seeded call .filter .state .values)
         × (now (memory .exit) ≡ kept seeded call .filter .«true_peak» .memory)) ⌝ }
@@ -112,8 +118,8 @@ pub fn seed_lent(
 
 // `seed_lent` on copies of the filter's arrays.
 fn seed(filter: Filter, ints: &[i16], floats: &[f32], map: &[u8]) -> Filtered
-    ensures { λ r. ⌜ said (r .answer) ≡ saidBy (seeded (seedOf filter (sourceOf (now (ints .entry)) (now (floats .entry))) (now (map .entry)))) ⌝ }
-    ensures { λ r. ⌜ r .filter ≡ kept seeded (seedOf filter (sourceOf (now (ints .entry)) (now (floats .entry))) (now (map .entry))) .filter ⌝ }
+    ensures { λ r. ⌜ (let call = seedOf filter (lent (now (ints .entry)) (now (floats .entry))) (now (map .entry)) in
+        (said (r .answer) ≡ saidBy (seeded call)) × (r .filter ≡ kept seeded call .filter)) ⌝ }
 {
     let switches = filter.switches;
     let a = filter.coefficients.a;
@@ -152,16 +158,16 @@ fn seed(filter: Filter, ints: &[i16], floats: &[f32], map: &[u8]) -> Filtered
 
 // One call over interleaved samples. A map byte of 0 is an unused channel, 1 a used one.
 pub fn seed_i16(filter: Filter, data: &[i16], map: &[u8]) -> Filtered
-    ensures { λ r. ⌜ said (r .answer) ≡ saidBy (seeded (seedOf filter (samplesOf16 (now («data» .entry))) (now (map .entry)))) ⌝ }
-    ensures { λ r. ⌜ r .filter ≡ kept seeded (seedOf filter (samplesOf16 (now («data» .entry))) (now (map .entry))) .filter ⌝ }
+    ensures { λ r. ⌜ (let call = seedOf filter (i16s (now («data» .entry))) (now (map .entry)) in
+        (said (r .answer) ≡ saidBy (seeded call)) × (r .filter ≡ kept seeded call .filter)) ⌝ }
 {
     let none: [f32; 0] = [];
     seed(filter, data, &none, map)
 }
 
 pub fn seed_f32(filter: Filter, data: &[f32], map: &[u8]) -> Filtered
-    ensures { λ r. ⌜ said (r .answer) ≡ saidBy (seeded (seedOf filter (samplesOfF32 (now («data» .entry))) (now (map .entry)))) ⌝ }
-    ensures { λ r. ⌜ r .filter ≡ kept seeded (seedOf filter (samplesOfF32 (now («data» .entry))) (now (map .entry))) .filter ⌝ }
+    ensures { λ r. ⌜ (let call = seedOf filter (f32s (now («data» .entry))) (now (map .entry)) in
+        (said (r .answer) ≡ saidBy (seeded call)) × (r .filter ≡ kept seeded call .filter)) ⌝ }
 {
     let none: [i16; 0] = [];
     seed(filter, &none, data, map)

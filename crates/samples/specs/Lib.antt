@@ -1,2 +1,3 @@
 pub mod Sample
+pub mod Kinds
 pub mod Frames

@@ -1,8 +1,14 @@
 -- `exports_filter::xel_process_f32` meets its contract: the filter is that of the numbers and arrays, its samples are those of this kind, and what the call comes to is told. Assumes nothing.
 use denote.Ref.{now}
 use borrow.Author.Needs.{needs}
-use Rattle.sources.proofs.ByKind.{only-floats}
-use Rattle.exports_filter.proofs.Told.{switched, same-call, processed-told}
+use mathlib.Core.List.{[]}
+use Rattle.samples.specs.Kinds.{Samples, f32s, lent}
+use Rattle.filter.specs.declared.Switches.{Switches}
+use Rattle.filter.specs.Filter.{resting, moved}
+use Rattle.filter.specs.Call.{Call, given}
+use Rattle.filter.specs.Process.{processed}
+use Rattle.exports_filter.specs.Switches.{switchesOf}
+use Rattle.exports_filter.proofs.Told.{on-floats, processed-told}
 use Rattle.exports_filter.proofs.xel_process_f32.Statement.{statement}
 use Rattle.exports_filter.proofs.xel_process_f32.Tie as tie
 
@@ -25,14 +31,22 @@ returns : tie.Need-returns
 returns c =
     let called = c .before .before .before in
     let on = called .before .before .before .before .before .before .before in
-    let given = on .before .before .before .before .args in
+    let a = on .before .before .before .before .args in
     let call = called .process-lent in
-    let filter =
-    switched (given .channels) (given .rate) (given .on) (now (given .a)) (now (given .b)) (now (given .state)) (now (given .peaks)) (now (given .memory)) (now (given .true-peaks))
-    (on .switches-of .result) (on .switches-of .ensures) in
-    processed-told _ _ (call .result) _ _ _ _ _ _
-    (same-call _ _ _ _ (now (given .map)) (now (given .dest)) (given .start) filter (only-floats (now (given .«data»))))
-    (call .ensures) (c .number-of .ensures)
+    let asked : Switches → Samples → Call = λ on x. record {
+      filter =
+          moved (resting (a .channels) (a .rate) on (record { a = now (a .a); b = now (a .b) }))
+          (record { values = now (a .state) }) (record { values = now (a .peaks) }) (record { memory = now (a .memory); peaks = now (a .true-peaks) });
+      samples = x;
+      map = now (a .map);
+      dest = now (a .dest);
+      start = a .start;
+    } in
+    let s = on .switches-of in
+    processed-told (asked (s .result) (lent [] (now (a .«data»)))) (asked (switchesOf (a .on)) (f32s (now (a .«data»))))
+    (on-floats (λ w x. processed (asked w x)) (s .result) (switchesOf (a .on)) (s .ensures) (now (a .«data»)))
+    (on-floats (λ w x. given (asked w x)) (s .result) (switchesOf (a .on)) (s .ensures) (now (a .«data»)))
+    (call .result) _ _ _ _ _ _ (call .ensures) (c .number-of .ensures)
 
 pub xel-process-f32-spec : {M : Type 1} → statement M
 xel-process-f32-spec = tie.close (tie.spec switches-of-requires slice-aggregate-process-lent process-lent-requires number-of-requires same-length returns)

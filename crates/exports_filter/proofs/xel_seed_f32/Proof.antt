@@ -1,11 +1,15 @@
 -- `exports_filter::xel_seed_f32` meets its contract: the filter is that of the numbers and arrays, with peaks of 0, its samples are those of this kind, and what the call comes to is told. Assumes nothing.
-use mathlib.Core.List.{[]}
 use denote.Ref.{now}
 use borrow.Author.Needs.{needs}
+use mathlib.Core.List.{[]}
 use lib.Ieee.{ofBits}
-use Rattle.sources.proofs.ByKind.{only-floats}
-use Rattle.filter.specs.Filter.{noPeaks}
-use Rattle.exports_filter.proofs.Told.{switched, same-call, seeded-told}
+use Rattle.samples.specs.Kinds.{Samples, f32s, lent}
+use Rattle.filter.specs.declared.Switches.{Switches}
+use Rattle.filter.specs.Filter.{noPeaks, resting, moved}
+use Rattle.filter.specs.Call.{Call, seedOf, given}
+use Rattle.filter.specs.Seed.{seeded}
+use Rattle.exports_filter.specs.Switches.{switchesOf}
+use Rattle.exports_filter.proofs.Told.{on-floats, seeded-told}
 use Rattle.exports_filter.proofs.xel_seed_f32.Statement.{statement}
 use Rattle.exports_filter.proofs.xel_seed_f32.Tie as tie
 
@@ -26,14 +30,16 @@ unfolding ofBits
 returns c =
     let called = c .before in
     let on = called .before .before .before .before .before .before in
-    let given = on .before .before .before .args in
+    let a = on .before .before .before .args in
     let call = called .seed-lent in
-    let filter =
-    switched (given .channels) (given .rate) (given .on) (now (given .a)) (now (given .a)) (now (given .state)) noPeaks (now (given .memory)) noPeaks
-    (on .switches-of .result) (on .switches-of .ensures) in
-    seeded-told _ _ (call .result) _ _ _
-    (same-call _ _ _ _ (now (given .map)) [] 0 filter (only-floats (now (given .«data»))))
-    (call .ensures) (c .number-of .ensures)
+    let asked : Switches → Samples → Call = λ on x. seedOf
+    (moved (resting (a .channels) (a .rate) on (record { a = now (a .a); b = now (a .a) })) (record { values = now (a .state) }) (record { values = noPeaks }) (record { memory = now (a .memory); peaks = noPeaks }))
+    x (now (a .map)) in
+    let s = on .switches-of in
+    seeded-told (asked (s .result) (lent [] (now (a .«data»)))) (asked (switchesOf (a .on)) (f32s (now (a .«data»))))
+    (on-floats (λ w x. seeded (asked w x)) (s .result) (switchesOf (a .on)) (s .ensures) (now (a .«data»)))
+    (on-floats (λ w x. given (asked w x)) (s .result) (switchesOf (a .on)) (s .ensures) (now (a .«data»)))
+    (call .result) _ _ _ (call .ensures) (c .number-of .ensures)
 
 pub xel-seed-f32-spec : {M : Type 1} → statement M
 xel-seed-f32-spec = tie.close (tie.spec switches-of-requires slice-aggregate-seed-lent seed-lent-requires number-of-requires returns)

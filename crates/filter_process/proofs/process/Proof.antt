@@ -2,8 +2,7 @@
 use borrow.Author.Needs.{needs}
 use mathlib.Core.Path.{_∙_}
 use denote.Ref.{now}
-use Rattle.sources.specs.Source.{sourceOf}
-use Rattle.filter.specs.Call.{callOf}
+use Rattle.samples.specs.Kinds.{lent}
 use Rattle.filter_process.proofs.Parts.{moved-to}
 use Rattle.filter_process.proofs.process.Statement.{statement}
 use Rattle.filter_process.proofs.process.Tie as tie
@@ -24,11 +23,9 @@ returns c =
     let a = s .args in
     let e = p .process-lent .ensures in (
       e .0,
-      (
-        c .with .ensures
-            ∙ moved-to (callOf (a .filter) (sourceOf (now (a .ints)) (now (a .floats))) (now (a .map)) (now (a .dest)) (a .start)) (e .1) (e .2) (e .3) (e .4),
-        e .5,
-      ),
+      c .with .ensures
+          ∙ moved-to (record { filter = a .filter; samples = lent (now (a .ints)) (now (a .floats)); map = now (a .map); dest = now (a .dest); start = a .start }) (e .1) (e .2) (e .3) (e .4),
+      e .5,
     )
 
 pub process-spec : {M : Type 1} → statement M

@@ -1,12 +1,11 @@
--- `process_f32` meets its contract: with no samples of the other kind the floats are those of this one. Assumes nothing.
+-- `process_f32` meets its contract: with no samples of the other kind the call is over those of this one. Assumes nothing.
 use borrow.Author.Needs.{needs}
 use mathlib.Core.Path.{ap, _∙_}
-use mathlib.Core.List.{List}
-use lib.Ieee.{Float}
 use Rattle.refusals.specs.Outcome.{saidBy}
-use Rattle.filter.specs.Call.{callOf, kept}
-use Rattle.filter_process.specs.Process.{processed}
-use Rattle.sources.proofs.ByKind.{only-floats}
+use Rattle.samples.specs.Kinds.{Samples}
+use Rattle.samples.proofs.ByKind.{only-f32}
+use Rattle.filter.specs.Call.{Call, kept}
+use Rattle.filter.specs.Process.{processed}
 use Rattle.filter_process.proofs.process_f32.Statement.{statement}
 use Rattle.filter_process.proofs.process_f32.Tie as tie
 
@@ -23,13 +22,12 @@ returns : tie.Need-returns
 returns c =
     let p = c .before .before in
     let a = p .before .before .before .before .before .before .args in
-    let e = only-floats (a .«data» .now) in
-    let w = p .process .ensures in (
-      w .0 ∙ ap (λ (x : List Float). saidBy (processed (callOf (a .filter) x (a .map .now) (a .dest .now) (a .start)))) e,
-      (
-        w .1 .0 ∙ ap (λ (x : List Float). kept processed (callOf (a .filter) x (a .map .now) (a .dest .now) (a .start)) .filter) e,
-        w .1 .1 ∙ ap (λ (x : List Float). kept processed (callOf (a .filter) x (a .map .now) (a .dest .now) (a .start)) .dest) e,
-      ),
+    let w = p .process .ensures in
+    let call : Samples → Call = λ x. record { filter = a .filter; samples = x; map = a .map .now; dest = a .dest .now; start = a .start } in
+    let e = only-f32 (a .«data» .now) in (
+      w .0 ∙ ap (λ (x : Samples). saidBy (processed (call x))) e,
+      w .1 ∙ ap (λ (x : Samples). kept processed (call x) .filter) e,
+      w .2 ∙ ap (λ (x : Samples). kept processed (call x) .dest) e,
     )
 
 pub process-f32-spec : {M : Type 1} → statement M

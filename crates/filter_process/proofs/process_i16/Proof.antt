@@ -1,12 +1,11 @@
--- `process_i16` meets its contract: with no samples of the other kind the floats are those of this one. Assumes nothing.
+-- `process_i16` meets its contract: with no samples of the other kind the call is over those of this one. Assumes nothing.
 use borrow.Author.Needs.{needs}
-use mathlib.Core.Path.{ap, _∙_}
-use mathlib.Core.List.{List}
-use lib.Ieee.{Float}
+use mathlib.Core.Path.{refl, _∙_}
 use Rattle.refusals.specs.Outcome.{saidBy}
-use Rattle.filter.specs.Call.{callOf, kept}
-use Rattle.filter_process.specs.Process.{processed}
-use Rattle.sources.proofs.ByKind.{only-ints}
+use Rattle.samples.specs.Kinds.{Samples, sizeOf, asF64, asF32}
+use Rattle.samples.proofs.ByKind.{only-i16}
+use Rattle.filter.specs.Call.{Call, kept}
+use Rattle.filter.specs.Process.{processed}
 use Rattle.filter_process.proofs.process_i16.Statement.{statement}
 use Rattle.filter_process.proofs.process_i16.Tie as tie
 
@@ -20,16 +19,15 @@ same-length : tie.Need-same-length
 same-length c = search needs
 
 returns : tie.Need-returns
+unfolding processed sizeOf asF64 asF32
 returns c =
     let p = c .before .before in
     let a = p .before .before .before .before .before .args in
-    let e = only-ints (a .«data» .now) in
-    let w = p .process .ensures in (
-      w .0 ∙ ap (λ (x : List Float). saidBy (processed (callOf (a .filter) x (a .map .now) (a .dest .now) (a .start)))) e,
-      (
-        w .1 .0 ∙ ap (λ (x : List Float). kept processed (callOf (a .filter) x (a .map .now) (a .dest .now) (a .start)) .filter) e,
-        w .1 .1 ∙ ap (λ (x : List Float). kept processed (callOf (a .filter) x (a .map .now) (a .dest .now) (a .start)) .dest) e,
-      ),
+    let w = p .process .ensures in
+    let call : Samples → Call = λ x. record { filter = a .filter; samples = x; map = a .map .now; dest = a .dest .now; start = a .start } in (
+      w .0 ∙ only-i16 (λ x. saidBy (processed (call x))) refl (a .«data» .now),
+      w .1 ∙ only-i16 (λ x. kept processed (call x) .filter) refl (a .«data» .now),
+      w .2 ∙ only-i16 (λ x. kept processed (call x) .dest) refl (a .«data» .now),
     )
 
 pub process-i16-spec : {M : Type 1} → statement M

@@ -8,14 +8,15 @@ use Rattle.refusals.specs.Outcome.{Outcome, saidBy, keptBy, went, NoValues, don
 use Rattle.refusals.specs.Rows.{numberOf}
 use Rattle.refusals.proofs.Rows.{stopped, goes}
 use Rattle.calls.specs.Calls as calls
-use Rattle.sources.specs.Source.{sourceOf}
+use Rattle.samples.specs.Kinds.{lent}
 use Rattle.states.specs.declared.State.{State}
 use Rattle.sample_peak.specs.declared.Peaks.{Peaks}
 use Rattle.true_peak_state.specs.declared.TruePeak.{TruePeak}
-use Rattle.filter.specs.Filter.{moved, lentFilter}
-use Rattle.filter.specs.Call.{Call, Kept, callOf, given, weighing, hearing, weighedState}
-use Rattle.filter_process.specs.Process.{weighedDest, measuredPeaks, measuredTruePeaks, processRows, processed}
-use Rattle.filter_process.proofs.Parts.{process-frames, peaks-are, trues-are, weighed-state, weighed-dest}
+use Rattle.filter.specs.Filter.{resting, moved}
+use Rattle.filter.specs.Call.{Call, Kept, given, weighedState}
+use Rattle.filter.proofs.Lent.{lent-size}
+use Rattle.filter.specs.Process.{weighedDest, measuredPeaks, measuredTruePeaks, processRows, processed}
+use Rattle.filter_process.proofs.Parts.{peaks-are, trues-are, state-is, dest-is}
 use Rattle.filter_process.proofs.process_lent.Statement.{statement}
 use Rattle.filter_process.proofs.process_lent.Tie as tie
 
@@ -23,9 +24,15 @@ use Rattle.filter_process.proofs.process_lent.Tie as tie
 abbrev call : tie.Start → Call
 call s =
     let a = s .args in
-    callOf
-    (lentFilter (a .channels) (a .rate) (a .switches) (now (a .a)) (now (a .b)) (now (a .state)) (now (a .peaks)) (now (a .memory)) (now (a .true-peaks)))
-    (sourceOf (now (a .ints)) (now (a .floats))) (now (a .map)) (now (a .dest)) (a .start)
+    record {
+      filter =
+          moved (resting (a .channels) (a .rate) (a .switches) (record { a = now (a .a); b = now (a .b) }))
+          (record { values = now (a .state) }) (record { values = now (a .peaks) }) (record { memory = now (a .memory); peaks = now (a .true-peaks) });
+      samples = lent (now (a .ints)) (now (a .floats));
+      map = now (a .map);
+      dest = now (a .dest);
+      start = a .start;
+    }
 
 abbrev leaves : tie.Start → Outcome Kept NoValues
 leaves s = let k = call s in went (record { filter = moved (k .filter) (weighedState k) (measuredPeaks k) (measuredTruePeaks k); dest = weighedDest k }) done
@@ -33,7 +40,7 @@ leaves s = let k = call s in went (record { filter = moved (k .filter) (weighedS
 numbered : (c : tie.After-refused-process) → c .refused-process .result ≡ numberOf (processRows (call (c .before .before .before .before .before)))
 numbered c =
     let a = c .before .before .before .before .before .args in
-    c .refused-process .ensures ∙ ap (λ (n : ℕ). numberOf (calls.processRows (a .switches .loudness) (calls.sizes (a .channels) n (length (now (a .dest))) (a .start)) (now (a .map)))) (c .before .size-of .ensures)
+    c .refused-process .ensures ∙ ap (λ (n : ℕ). numberOf (calls.processRows (a .switches .loudness) (calls.sizes (a .channels) n (length (now (a .dest))) (a .start)) (now (a .map)))) (c .before .size-of .ensures ∙ lent-size (now (a .ints)) (now (a .floats)))
 
 size-of-requires : tie.Need-size-of-requires
 size-of-requires c κs = search needs
@@ -72,23 +79,21 @@ returns-2 : tie.Need-returns-2
 unfolding processed
 returns-2 c =
     let w = c .before .before in
-    let l = w .before .before .before in
+    let l = w .before .before .before .before .before in
     let p = l .before .before .before in
     let e = p .before .before in
     let r = e .before in
     let s = r .before .before .before .before .before in
     let k = call s in
-    let f = k .filter in
     let ok = sym (numbered r) ∙ e .if1 .left in
-    let frames = process-frames k ok in
-    let trues = trues-are (f .switches .«true_peak») (f .rate) (hearing k) (f .«true_peak») frames in
+    let trues = trues-are k ok in
     let z = sym (goes (leaves s) (processRows k) ok) in (
       ap saidBy z,
       w .weigh .ensures .0
-          ∙ ap (λ (x : State). x .values) (weighed-state (f .switches .loudness) (weighing k) (k .dest) (k .start) ok)
+          ∙ ap (λ (x : State). x .values) (state-is k ok)
           ∙ ap (λ (o : Outcome Kept NoValues). keptBy (given k) o .filter .state .values) z,
       p .raise .ensures
-          ∙ ap (λ (x : Peaks). x .values) (peaks-are (f .switches .peak) (f .channels) (k .samples) (f .peaks) frames)
+          ∙ ap (λ (x : Peaks). x .values) (peaks-are k ok)
           ∙ ap (λ (o : Outcome Kept NoValues). keptBy (given k) o .filter .peaks .values) z,
       l .listen .ensures .0
           ∙ ap (λ (x : TruePeak). x .memory) trues
@@ -97,7 +102,7 @@ returns-2 c =
           ∙ ap (λ (x : TruePeak). x .peaks) trues
           ∙ ap (λ (o : Outcome Kept NoValues). keptBy (given k) o .filter .«true_peak» .peaks) z,
       w .weigh .ensures .1
-          ∙ weighed-dest (f .switches .loudness) (weighing k) (k .dest) (k .start) ok
+          ∙ dest-is k ok
           ∙ ap (λ (o : Outcome Kept NoValues). keptBy (given k) o .dest) z,
     )
 

@@ -1,8 +1,14 @@
 -- `advance` meets its contract: its test is the definition's. Assumes nothing.
 use borrow.Author.Needs.{needs}
 use borrow.Author.Tests.{not-true, not-false}
-use mathlib.Core.Path.{ap}
+use mathlib.Core.Path.{ap, _∙_}
+use mathlib.Core.List.{List}
+use lib.Ieee.{Float}
+use Rattle.refusals.specs.Outcome.{keptBy}
 use Rattle.states.specs.declared.State.{State}
+use Rattle.states.specs.Channels.{callOf}
+use Rattle.seeding.specs.Seeding.{moved}
+use Rattle.filter.proofs.Lent.{lent-f64}
 use Rattle.filter_seed.proofs.advance.Statement.{statement}
 use Rattle.filter_seed.proofs.advance.Tie as tie
 
@@ -15,7 +21,11 @@ seed-requires c κs = search needs
 returns-2 : tie.Need-returns-2
 returns-2 c =
     let q = c .before .before .before .before .before in
-    rw (not-false (q .before .before .before .args .on) (q .if1 .left)) (ap (λ (s : State). s .values) (c .before .seed .ensures .1))
+    let a = q .before .before .before .args in
+    let stored : State = record { values = a .state .now } in
+    rw (not-false (a .on) (q .if1 .left))
+    (ap (λ (s : State). s .values) (c .before .seed .ensures .1)
+    ∙ ap (λ (x : List Float). keptBy stored (moved (callOf (record { a = a .a .now; b = a .b .now }) stored (a .channels) x (a .map .now))) .values) (lent-f64 (a .ints .now) (a .floats .now)))
 
 pub advance-spec : {M : Type 1} → statement M
 advance-spec = tie.close (tie.spec returns seed-requires returns-2)

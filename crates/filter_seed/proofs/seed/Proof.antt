@@ -2,7 +2,7 @@
 use borrow.Author.Needs.{needs}
 use mathlib.Core.Path.{_∙_}
 use denote.Ref.{now}
-use Rattle.sources.specs.Source.{sourceOf}
+use Rattle.samples.specs.Kinds.{lent}
 use Rattle.filter.specs.Call.{seedOf}
 use Rattle.filter_seed.proofs.Parts.{seeded-to}
 use Rattle.filter_seed.proofs.seed.Statement.{statement}
@@ -20,7 +20,7 @@ returns c =
     let s = p .before .before .before .before .before .before .before .before .before .before .before .before .before .before .before .before in
     let a = s .args in
     let e = p .seed-lent .ensures in
-    (e .0, c .with .ensures ∙ seeded-to (seedOf (a .filter) (sourceOf (now (a .ints)) (now (a .floats))) (now (a .map))) (e .1) (e .2))
+    (e .0, c .with .ensures ∙ seeded-to (seedOf (a .filter) (lent (now (a .ints)) (now (a .floats))) (now (a .map))) (e .1) (e .2))
 
 pub seed-spec : {M : Type 1} → statement M
 seed-spec = tie.close (tie.spec seed-lent-requires with-requires returns)

@@ -1,12 +1,11 @@
--- `seed_f32` meets its contract: with no samples of the other kind the floats are those of this one. Assumes nothing.
+-- `seed_f32` meets its contract: with no samples of the other kind the call is over those of this one. Assumes nothing.
 use borrow.Author.Needs.{needs}
 use mathlib.Core.Path.{ap, _∙_}
-use mathlib.Core.List.{List}
-use lib.Ieee.{Float}
 use Rattle.refusals.specs.Outcome.{saidBy}
+use Rattle.samples.specs.Kinds.{Samples}
+use Rattle.samples.proofs.ByKind.{only-f32}
 use Rattle.filter.specs.Call.{seedOf, kept}
-use Rattle.filter_seed.specs.Seed.{seeded}
-use Rattle.sources.proofs.ByKind.{only-floats}
+use Rattle.filter.specs.Seed.{seeded}
 use Rattle.filter_seed.proofs.seed_f32.Statement.{statement}
 use Rattle.filter_seed.proofs.seed_f32.Tie as tie
 
@@ -19,10 +18,10 @@ seed-requires c κs = search needs
 returns : tie.Need-returns
 returns c =
     let a = c .before .before .before .before .args in
-    let e = only-floats (a .«data» .now) in
+    let e = only-f32 (a .«data» .now) in
     let w = c .seed .ensures in (
-      w .0 ∙ ap (λ (x : List Float). saidBy (seeded (seedOf (a .filter) x (a .map .now)))) e,
-      w .1 ∙ ap (λ (x : List Float). kept seeded (seedOf (a .filter) x (a .map .now)) .filter) e,
+      w .0 ∙ ap (λ (x : Samples). saidBy (seeded (seedOf (a .filter) x (a .map .now)))) e,
+      w .1 ∙ ap (λ (x : Samples). kept seeded (seedOf (a .filter) x (a .map .now)) .filter) e,
     )
 
 pub seed-f32-spec : {M : Type 1} → statement M

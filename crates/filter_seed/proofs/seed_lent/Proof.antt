@@ -7,13 +7,14 @@ use Rattle.refusals.specs.Outcome.{Outcome, saidBy, keptBy, went, NoValues, don
 use Rattle.refusals.specs.Rows.{numberOf}
 use Rattle.refusals.proofs.Rows.{stopped, goes}
 use Rattle.calls.specs.Calls as calls
-use Rattle.sources.specs.Source.{sourceOf}
+use Rattle.samples.specs.Kinds.{lent}
 use Rattle.states.specs.declared.State.{State}
 use Rattle.true_peak_state.specs.declared.TruePeak.{TruePeak}
-use Rattle.filter.specs.Filter.{moved, lentFilter}
-use Rattle.filter.specs.Call.{Call, Kept, seedOf, given, weighing, hearing, weighedState}
-use Rattle.filter_seed.specs.Seed.{rememberedTruePeaks, seedRows, seeded}
-use Rattle.filter_seed.proofs.Parts.{seed-frames, memory-is, seeded-state}
+use Rattle.filter.specs.Filter.{resting, moved}
+use Rattle.filter.specs.Call.{Call, Kept, seedOf, given, weighedState}
+use Rattle.filter.proofs.Lent.{lent-size}
+use Rattle.filter.specs.Seed.{rememberedTruePeaks, seedRows, seeded}
+use Rattle.filter_seed.proofs.Parts.{memory-is, state-is}
 use Rattle.filter_seed.proofs.seed_lent.Statement.{statement}
 use Rattle.filter_seed.proofs.seed_lent.Tie as tie
 
@@ -22,8 +23,9 @@ abbrev call : tie.Start → Call
 call s =
     let a = s .args in
     seedOf
-    (lentFilter (a .channels) (a .rate) (a .switches) (now (a .a)) (now (a .b)) (now (a .state)) (now (a .peaks)) (now (a .memory)) (now (a .true-peaks)))
-    (sourceOf (now (a .ints)) (now (a .floats))) (now (a .map))
+    (moved (resting (a .channels) (a .rate) (a .switches) (record { a = now (a .a); b = now (a .b) }))
+    (record { values = now (a .state) }) (record { values = now (a .peaks) }) (record { memory = now (a .memory); peaks = now (a .true-peaks) }))
+    (lent (now (a .ints)) (now (a .floats))) (now (a .map))
 
 abbrev leaves : tie.Start → Outcome Kept NoValues
 leaves s = let k = call s in went (record { filter = moved (k .filter) (weighedState k) (k .filter .peaks) (rememberedTruePeaks k); dest = k .dest }) done
@@ -31,7 +33,7 @@ leaves s = let k = call s in went (record { filter = moved (k .filter) (weighedS
 numbered : (c : tie.After-refused-seed) → c .refused-seed .result ≡ numberOf (seedRows (call (c .before .before .before .before)))
 numbered c =
     let a = c .before .before .before .before .args in
-    c .refused-seed .ensures ∙ ap (λ (n : ℕ). numberOf (calls.seedRows (a .channels) n (now (a .map)))) (c .before .size-of .ensures)
+    c .refused-seed .ensures ∙ ap (λ (n : ℕ). numberOf (calls.seedRows (a .channels) n (now (a .map)))) (c .before .size-of .ensures ∙ lent-size (now (a .ints)) (now (a .floats)))
 
 size-of-requires : tie.Need-size-of-requires
 size-of-requires c κs = search needs
@@ -61,15 +63,14 @@ returns-2 c =
     let r = e .before in
     let s = r .before .before .before .before in
     let k = call s in
-    let f = k .filter in
     let ok = sym (numbered r) ∙ e .if1 .left in
     let z = sym (goes (leaves s) (seedRows k) ok) in (
       ap saidBy z,
       c .advance .ensures
-          ∙ ap (λ (x : State). x .values) (seeded-state (f .switches .loudness) (weighing k) ok)
+          ∙ ap (λ (x : State). x .values) (state-is k ok)
           ∙ ap (λ (o : Outcome Kept NoValues). keptBy (given k) o .filter .state .values) z,
       l .remember .ensures
-          ∙ ap (λ (x : TruePeak). x .memory) (memory-is (f .switches .«true_peak») (f .rate) (hearing k) (f .«true_peak») (seed-frames k ok))
+          ∙ ap (λ (x : TruePeak). x .memory) (memory-is k ok)
           ∙ ap (λ (o : Outcome Kept NoValues). keptBy (given k) o .filter .«true_peak» .memory) z,
     )
 

@@ -37,8 +37,9 @@ use denote.Triple.Spec.{Meets, tripleOf}
 use denote.Triple.Walked.{says, Stays, stay-none, stay-none-slice, gave-slice, walkOf, goes-none, goes-none-slice, goes-gave-slice, Walks, ends-at, walked, walk-meets}
 use denote.Exit.{yes}
 use Rattle.refusals.specs.Outcome.{saidBy}
-use Rattle.filter.specs.Call.{callOf}
-use Rattle.filter_process.specs.Process.{processed}
+use Rattle.samples.specs.Kinds.{Samples}
+use Rattle.filter.specs.Call.{Call}
+use Rattle.filter.specs.Process.{processed}
 use Rattle.filter.specs.declared.Filter.{Filter}
 use Rattle.filter.proofs.Filter as F
 use Rattle.filter.proofs.Filter.Laws as F′
@@ -50,13 +51,14 @@ use Rattle.interleaved_filter.specs.declared.Heard.{Heard}
 use Rattle.interleaved_filter.proofs.Heard as R
 use Rattle.interleaved_filter.proofs.Heard.Laws as R′
 
-module _ (K : Kind) (callee : Name) where
+module _ (K : Kind) (kind : List (K .Elem .Denot) → Samples) (callee : Name) where
   -- what is said of the answer
   abbrev Said : Filter → RefT (List (K .Elem .Denot)) → ℕ → RefT (List ℕ) → RefT (List Float) → ℕ → Heard → List Float → Type 0
   Said f s n m x k r zs =
-      (saidOf (r .answer) ≡ saidBy (over processed n (callOf f (K .floats (now s)) (now m) (now x) k)))
-      × ((r .filter ≡ left processed n (callOf f (K .floats (now s)) (now m) (now x) k) .filter)
-      × (zs ≡ left processed n (callOf f (K .floats (now s)) (now m) (now x) k) .dest))
+      let call : Call = record { filter = f; samples = kind (now s); map = now m; dest = now x; start = k } in
+      (saidOf (r .answer) ≡ saidBy (over processed n call))
+      × (r .filter ≡ left processed n call .filter)
+      × (zs ≡ left processed n call .dest)
 
   -- the function that is called, and its contract
   abbrev calleeSignature : Signature

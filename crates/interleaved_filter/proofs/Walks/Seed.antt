@@ -37,7 +37,8 @@ use denote.Triple.Walked.{says, Stays, stay-none, stay-none-slice, walkOf, goes-
 use denote.Exit.{yes}
 use Rattle.refusals.specs.Outcome.{saidBy}
 use Rattle.filter.specs.Call.{seedOf}
-use Rattle.filter_seed.specs.Seed.{seeded}
+use Rattle.samples.specs.Kinds.{Samples}
+use Rattle.filter.specs.Seed.{seeded}
 use Rattle.filter.specs.declared.Filter.{Filter}
 use Rattle.filter.proofs.Filter as F
 use Rattle.filter.proofs.Filter.Laws as F′
@@ -49,12 +50,12 @@ use Rattle.interleaved_filter.specs.declared.Heard.{Heard}
 use Rattle.interleaved_filter.proofs.Heard as R
 use Rattle.interleaved_filter.proofs.Heard.Laws as R′
 
-module _ (K : Kind) (callee : Name) where
+module _ (K : Kind) (kind : List (K .Elem .Denot) → Samples) (callee : Name) where
   -- what is said of the answer
   abbrev Said : Filter → RefT (List (K .Elem .Denot)) → ℕ → RefT (List ℕ) → Heard → Type 0
   Said f s n m r =
-      (saidOf (r .answer) ≡ saidBy (over seeded n (seedOf f (K .floats (now s)) (now m))))
-      × (r .filter ≡ left seeded n (seedOf f (K .floats (now s)) (now m)) .filter)
+      let call = seedOf f (kind (now s)) (now m) in
+      (saidOf (r .answer) ≡ saidBy (over seeded n call)) × (r .filter ≡ left seeded n call .filter)
 
   -- the function that is called, and its contract
   abbrev calleeSignature : Signature

@@ -1,8 +1,8 @@
 -- `interleaved_filter::floats::seed_slice` meets its contract: the number of channels decides. Assumes nothing.
 use borrow.Author.Needs.{needs}
-use Rattle.samples.specs.Sample.{samplesOfF32}
+use Rattle.samples.specs.Kinds.{f32s}
 use Rattle.filter.specs.Call.{seedOf}
-use Rattle.filter_seed.specs.Seed.{seeded}
+use Rattle.filter.specs.Seed.{seeded}
 use Rattle.interleaved_filter.proofs.Counts.{said-on, filter-on, said-off, filter-off}
 use Rattle.interleaved_filter.proofs.floats.seed_slice.Statement.{statement}
 use Rattle.interleaved_filter.proofs.floats.seed_slice.Tie as tie
@@ -13,7 +13,7 @@ other-channels-requires c κs = search needs
 returns : tie.Need-returns
 returns c =
     let a = c .before .before .before .before .before .args in
-    let call = seedOf (a .filter) (samplesOfF32 (a .samples .now)) (a .map .now) in
+    let call = seedOf (a .filter) (f32s (a .samples .now)) (a .map .now) in
     let h = c .before .if1 .taken in
     let o = c .other-channels .ensures in
     (said-off seeded (a .channels) call h _ (o .0), filter-off seeded (a .channels) call h _ (o .1))
@@ -27,7 +27,7 @@ heard-of-requires c κs = search needs
 returns-2 : tie.Need-returns-2
 returns-2 c =
     let a = c .before .before .before .before .before .before .args in
-    let call = seedOf (a .filter) (samplesOfF32 (a .samples .now)) (a .map .now) in
+    let call = seedOf (a .filter) (f32s (a .samples .now)) (a .map .now) in
     let e = c .before .before .if1 .left in
     let r = c .heard-of .ensures in
     let p = c .before .seed-f32 .ensures in

@@ -2,6 +2,7 @@
 use contract.Running.{givenOf, tables, tablesOf}
 use denote.Triple.Spec.{tripleOf}
 use denote.Triple.Table.{entered, cited}
+use Rattle.samples.specs.Kinds.{i16s}
 use Rattle.interleaved_ints.proofs.Ints.{ints}
 use Rattle.interleaved_filter.proofs.Walks.Seed.{meets}
 use Rattle.interleaved_filter.proofs.ints.seed_slice as seed-slice
@@ -18,5 +19,5 @@ unfolding code.routine tablesOf
 seed-spec 𝓤 H 𝓜 𝓖 𝓡 =
     entered 𝓤 H (tripleOf 𝓤 H (𝓖 .A) seed.signature (seed.spec 𝓤 H (𝓖 .A) (𝓜 .mem) (𝓡 .run)))
     (tables 𝓤 H 𝓜 𝓡 code.env .C) (tables 𝓤 H 𝓜 𝓡 code.env .Λ) #seed code.function (code.unfolded 𝓤 H 𝓜 𝓡)
-    (meets ints #seed-slice 𝓤 H (𝓖 .A) (givenOf 𝓤 H 𝓜 𝓖) (tablesOf 𝓤 H 𝓜 (tables 𝓤 H 𝓜 𝓡 code.env))
+    (meets ints i16s #seed-slice 𝓤 H (𝓖 .A) (givenOf 𝓤 H 𝓜 𝓖) (tablesOf 𝓤 H 𝓜 (tables 𝓤 H 𝓜 𝓡 code.env))
     (cited 𝓤 H (tripleOf 𝓤 H (𝓖 .A) seed-slice.signature (seed-slice.spec 𝓤 H (𝓖 .A) (𝓜 .mem) (𝓡 .run))) 𝓜 𝓡 code.env #seed-slice seed-slice-def.routine code.calls-interleaved-filter·ints·seed-slice (seed-slice-thm.met 𝓤 H 𝓜 𝓖 𝓡)))

@@ -6,6 +6,7 @@ use lib.ListN.{length}
 use lib.Ieee.{Float}
 use Rattle.refusals.specs.Outcome.{Outcome, went, NoValues, done}
 use Rattle.refusals.specs.Rows.{Row, byRows}
+use Rattle.samples.specs.Kinds.{sizeOf, asF64}
 use Rattle.calls.specs.Calls as calls
 use Rattle.weighting.specs.Weighting.{destAfter}
 use Rattle.sample_peak.specs.declared.Peaks.{Peaks}
@@ -22,7 +23,7 @@ weighedDest call = cond (call .filter .switches .loudness) (destAfter (weighing 
 
 abbrev pub measuredPeaks : Call → Peaks
 measuredPeaks call =
-    cond (call .filter .switches .peak) (record { values = peaksAfter (call .filter .channels) (call .samples) (call .filter .peaks .values) }) (call .filter .peaks)
+    cond (call .filter .switches .peak) (record { values = peaksAfter (call .filter .channels) (asF64 (call .samples)) (call .filter .peaks .values) }) (call .filter .peaks)
 
 abbrev pub measuredTruePeaks : Call → TruePeak
 measuredTruePeaks call = cond (call .filter .switches .«true_peak») (measured (kindOf (call .filter .rate)) (hearing call) (call .filter .«true_peak»)) (call .filter .«true_peak»)
@@ -30,8 +31,8 @@ measuredTruePeaks call = cond (call .filter .switches .«true_peak») (measured 
 -- CHANNELS, SAMPLES, MAP and, with loudness on, DEST
 abbrev pub processRows : Call → List Row
 processRows call =
-    calls.processRows (call .filter .switches .loudness) (calls.sizes (call .filter .channels) (length (call .samples)) (length (call .dest)) (call .start))
-    (call .map)
+    calls.processRows (call .filter .switches .loudness)
+    (calls.sizes (call .filter .channels) (sizeOf (call .samples)) (length (call .dest)) (call .start)) (call .map)
 
 unfoldable pub processed : Call → Outcome Kept NoValues
 processed call =

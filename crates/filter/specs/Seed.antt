@@ -2,15 +2,15 @@
 -- "`seed` moves filter and interpolator state and writes no peak and no destination."
 use mathlib.Core.Bool.{cond}
 use mathlib.Core.List.{List}
-use lib.ListN.{length}
 use Rattle.refusals.specs.Outcome.{Outcome, went, NoValues, done}
 use Rattle.refusals.specs.Rows.{Row, byRows}
+use Rattle.samples.specs.Kinds.{sizeOf}
 use Rattle.calls.specs.Calls as calls
 use Rattle.interp.specs.Interp.{kindOf}
 use Rattle.true_peak_state.specs.declared.TruePeak.{TruePeak}
 use Rattle.true_peak_state.specs.TruePeak.{measured}
 use Rattle.filter.specs.Filter.{moved}
 use Rattle.filter.specs.Call.{Call, Kept, hearing, weighedState}
 
 -- the interpolator's memory moves, where the true peak is on, and its peaks stay
 abbrev pub rememberedTruePeaks : Call → TruePeak
@@ -21,7 +21,7 @@ rememberedTruePeaks call =
 
 -- CHANNELS, SAMPLES and MAP
 abbrev pub seedRows : Call → List Row
-seedRows call = calls.seedRows (call .filter .channels) (length (call .samples)) (call .map)
+seedRows call = calls.seedRows (call .filter .channels) (sizeOf (call .samples)) (call .map)
 
 unfoldable pub seeded : Call → Outcome Kept NoValues
 seeded call =
