@@ -1,6 +1,9 @@
-// The flush of a channel's memory at the end of a call.
+// The flush of the weighting's state at the end of a call.
 ghost use mathlib.Core.Path.{_≡_};
+ghost use mathlib.Core.Bool.{cond};
+ghost use Rattle.calls.specs.Calls.{used};
 ghost use Rattle.recurrence.specs.Recurrence.{flush, flushed};
+ghost use Rattle.states.specs.Channels.{memoryOf, withMemory, overUsed};
 use recurrence::Memory;
 
 // 2^-1022 and its negative bound the values that are flushed.
@@ -16,7 +19,7 @@ fn flush_one(v: f64) -> f64
 }
 
 // Every value of a memory, flushed.
-pub fn flush_all(m: Memory) -> Memory
+fn flush_all(m: Memory) -> Memory
     ensures { λ r. ⌜ r ≡ flushed m ⌝ }
 {
     Memory {
@@ -25,5 +28,27 @@ pub fn flush_all(m: Memory) -> Memory
         s2: flush_one(m.s2),
         s3: flush_one(m.s3),
         s4: flush_one(m.s4),
+    }
+}
+
+// Channel k at its map byte.
+fn flush_channel(state: &mut [f64; 40], byte: u8, k: usize)
+    ensures { λ _. ⌜ (let v = now (state .entry) in now (state .exit) ≡ cond (used byte) (withMemory v k (flushed (memoryOf v k))) v) ⌝ }
+{
+    if byte == 0 {
+        return;
+    }
+    let m = states::load(state, k);
+    states::store(state, k, flush_all(m));
+}
+
+// Every used channel's memory, flushed. A map byte of 0 is an unused channel.
+pub fn flush_used(state: &mut [f64; 40], map: &[u8])
+    ensures { λ _. ⌜ now (state .exit) ≡ overUsed (λ _ m. flushed m) (now (map .entry)) 0 (now (state .entry)) ⌝ }
+{
+    let mut k = 0;
+    while k < map.len() {
+        flush_channel(state, map[k], k);
+        k += 1;
     }
 }

@@ -3,7 +3,7 @@
 use Prim.Native.Nat.{ℕ, suc, _+_, _-_, _<_}
 use native.Mathlib.Numerals.{add-one}
 use mathlib.Core.Path.{_≡_, refl, ap, sym, _∙_}
-use mathlib.Core.List.{List, [], _∷_}
+use mathlib.Core.List.{List, [], _∷_, _++_}
 use lib.ListN.{set, getD, length}
 use lib.Seq.{sets}
 use lib.Ieee.{Float, nan}
@@ -11,11 +11,7 @@ use Rattle.samples.specs.Frames.{silence, column}
 use Rattle.samples.proofs.Columns.{within}
 use Rattle.sources.proofs.Reaching.{one-less}
 use Rattle.recurrence.specs.declared.Memory.{Memory}
-use Rattle.recurrence.specs.Recurrence.{head, output, shift, next, out, after, outs, flushed}
-
--- what a call does to channel k's memory: its frames, and the flush at the end
-abbrev pub ends : List Float → List Float → ℕ → ℕ → ℕ → Memory → Memory
-ends a samples channels frames k m = flushed (after a m (column samples k channels frames))
+use Rattle.recurrence.specs.Recurrence.{head, output, shift, next, out, after, outs}
 
 -- ---- one turn: x is the sample, g the new s0, y the output and m′ the memory after it
 
@@ -56,3 +52,15 @@ pub length-outs : (a b : List Float) (m : Memory) (xs : List Float) → length (
 unfolding outs
 length-outs a b m [] = refl
 length-outs a b m (x ∷ xs) = ap suc (length-outs a b (next a m x) xs)
+
+-- ---- samples, and then further ones
+
+pub after-append : (a : List Float) (m : Memory) (xs ys : List Float) → after a m (xs ++ ys) ≡ after a (after a m xs) ys
+unfolding after
+after-append a m [] ys = refl
+after-append a m (x ∷ xs) ys = after-append a (next a m x) xs ys
+
+pub outs-append : (a b : List Float) (m : Memory) (xs ys : List Float) → outs a b m (xs ++ ys) ≡ outs a b m xs ++ outs a b (after a m xs) ys
+unfolding outs after
+outs-append a b m [] ys = refl
+outs-append a b m (x ∷ xs) ys = ap (λ (t : List Float). out a b m x ∷ t) (outs-append a b (next a m x) xs ys)

@@ -39,7 +39,7 @@ pub fn seed(
     let frames = samples / channels;
     let a = c.a;
     let mut state = s.values;
-    channels::advance_channels(a, &mut state, channels, frames, ints, floats, map);
+    channels::advance_all(a, &mut state, channels, frames, ints, floats, map);
     Seeded {
         answer: refusals::Answer::Done,
         state: State { values: state },

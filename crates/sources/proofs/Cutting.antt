@@ -13,7 +13,7 @@ use Rattle.samples.specs.Frames.{silence, framesOf, column}
 use Rattle.samples.proofs.Columns.{frames-of, column-append, column-agrees}
 use Rattle.calls.specs.Calls.{mostChannels}
 use Rattle.calls.proofs.Checking.{Framed}
-use Rattle.sources.specs.Blocks.{Whole, blockPlaces}
+use Rattle.sources.specs.Blocks.{Whole}
 use Rattle.sources.specs.Source.{sourceOf}
 use Rattle.sources.proofs.Stores.{at-within}
 use Rattle.sources.proofs.ByKind.{source-below}
@@ -67,16 +67,15 @@ step-of {places} {channels} {frames} {samples} {done} {count} {most} some fits a
       forward = omega arith;
     }
 
-most-fits : (channels : ℕ) → blockPlaces / channels * channels ≤ blockPlaces
-most-fits channels = omega (arith, div-add-mod' blockPlaces channels)
+some-frames : (places channels : ℕ) → 0 < channels → channels ≤ places → 0 < places / channels
+some-frames places channels h few =
+    ⊎-elim (λ (z : places / channels ≡ 0). absurd (lt-irrefl 0 (omega (arith, div-add-mod' places channels, ap (λ (x : ℕ). x * channels) z, zero-mul channels, mod-lt places h))))
+    (λ (p : 0 < places / channels). p) (eq-zero-or-pos (places / channels))
 
-some-frames : (channels : ℕ) → 0 < channels → channels ≤ mostChannels → 0 < blockPlaces / channels
-some-frames channels h few =
-    ⊎-elim (λ (z : blockPlaces / channels ≡ 0). absurd (lt-irrefl 0 (omega (arith, div-add-mod' blockPlaces channels, ap (λ (x : ℕ). x * channels) z, zero-mul channels, mod-lt blockPlaces h))))
-    (λ (p : 0 < blockPlaces / channels). p) (eq-zero-or-pos (blockPlaces / channels))
-
-pub step : {channels frames samples done count : ℕ} → Whole channels frames samples → done < frames → count ≡ min (frames - done) (blockPlaces / channels) → Step blockPlaces channels frames samples done count
-step {channels} all left e = step-of (some-frames channels (all .some) (all .few)) (most-fits channels) (all .whole) left e
+pub step : {places channels frames samples done count : ℕ} → mostChannels ≤ places → Whole channels frames samples → done < frames → count ≡ min (frames - done) (places / channels)
+    → Step places channels frames samples done count
+step {places} {channels} wide all left e =
+    step-of (some-frames places channels (all .some) (omega (arith, all .few))) (omega (arith, div-add-mod' places channels)) (all .whole) left e
 
 -- ---- all samples of a call are frames, and few enough
 

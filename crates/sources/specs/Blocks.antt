@@ -7,6 +7,10 @@ use Rattle.calls.specs.Calls.{mostChannels}
 abbrev pub blockPlaces : ℕ
 blockPlaces = 1024
 
+-- the places of a run
+abbrev pub runPlaces : ℕ
+runPlaces = 128
+
 -- count samples from place first on, one in every step places, lie within a block of so many places
 pub record Reach (first step count size : ℕ) : Type 0 where
   pub few : step ≤ mostChannels

@@ -32,6 +32,9 @@ pub fn fill(block: &mut [f64], ints: &[i16], floats: &[f32], at: usize)
     fills::fill_f64_i16(block, &ints[at..]);
 }
 
+// The places of a run of samples on their way to the weighting. At eight channels they are 16 frames.
+pub const RUN: usize = 128;
+
 // The smaller: as many frames as a block has places for, or those that are left.
 pub fn shorter(a: usize, b: usize) -> usize
     ensures { λ r. ⌜ r ≡ min a b ⌝ }

@@ -1,3 +1,4 @@
+pub mod Each
 pub mod Memories
-pub mod Whole
+pub mod Runs
 pub mod Alone

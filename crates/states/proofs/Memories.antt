@@ -2,26 +2,20 @@
 -- A channel's five places are no other channel's, so a change of one leaves the others. Assumes nothing.
 use Prim.Native.Nat.{ℕ, zero, suc, _+_, _*_, _≤_, _<_}
 use native.Mathlib.Nat.{not-suc-le-zero, le-of-suc-le-suc}
-use native.Mathlib.Numerals.{add-one}
 use native.Mathlib.Omega.{arith}
 use mathlib.Core.Path.{_≡_, refl, ap, sym, _∙_}
 use mathlib.Core.List.{List, [], _∷_}
 use mathlib.Core.Bool.{Bool, true, false, cond}
-use lib.ListN.{length, getD, drop, drop-of-length-le, List·getD-eq-default}
-use lib.Seq.{length-sets, drop-cons}
+use lib.ListN.{length, getD, set, List·getD-eq-default}
+use lib.Seq.{length-sets, set-getD}
 use lib.Ieee.{Float, nan}
 use Rattle.fills.proofs.Fill.{past-end}
 use Rattle.calls.specs.Calls.{mostChannels, used}
-use Rattle.sources.proofs.Stores.{at-before, at-after, at-within}
+use Rattle.sources.proofs.Stores.{five-stores, sets-comm, sets-again, at-before, at-after, at-within}
 use Rattle.recurrence.specs.declared.Memory.{Memory}
-use Rattle.samples.specs.Frames.{column}
 use Rattle.floats.specs.Entry.{at}
-use Rattle.recurrence.specs.Recurrence.{outs}
-use Rattle.states.specs.Channels.{statePlaces, memoryOf, withMemory, overUsed}
-
--- the outputs that the frames of a block give channel k, from the flat state `values`
-abbrev pub writes : List Float → List Float → List Float → List Float → ℕ → ℕ → ℕ → List Float
-writes a b values block channels count k = outs a b (memoryOf values k) (column block k channels count)
+use Rattle.states.specs.Channels.{statePlaces, memoryOf, withMemory, eachUsed, overUsed}
+use Rattle.states.proofs.Each.{each-twice}
 
 abbrev five : Memory → List Float
 five m = m .s0 ∷ m .s1 ∷ m .s2 ∷ m .s3 ∷ m .s4 ∷ []
@@ -69,6 +63,27 @@ memory-same v k m h l =
     (at-within (five m) v (k * 5) 3 nan (omega arith) (omega arith))
     (at-within (five m) v (k * 5) 4 nan (omega arith) (omega arith))
 
+-- a memory put over another, and memories of two channels in either order
+pub with-again : (v : List Float) (k : ℕ) (m n : Memory) → withMemory (withMemory v k m) k n ≡ withMemory v k n
+unfolding withMemory
+with-again v k m n = sets-again (five m) (five n) v (k * 5) refl
+
+pub with-past : (v : List Float) (j k : ℕ) (m n : Memory) → j < k → withMemory (withMemory v k n) j m ≡ withMemory (withMemory v j m) k n
+unfolding withMemory
+with-past v j k m n h = sym (sets-comm (five m) (five n) v (j * 5) (k * 5) (omega arith))
+
+-- a channel's own memory put in its places
+pub with-own : (v : List Float) (k : ℕ) → withMemory v k (memoryOf v k) ≡ v
+unfolding withMemory
+with-own v k =
+    let p = k * 5 in
+    sym (five-stores v p (at v p) (at v (p + 1)) (at v (p + 2)) (at v (p + 3)) (at v (p + 4)))
+    ∙ ap (λ (u : List Float). set (set (set (set u (p + 1) (at v (p + 1))) (p + 2) (at v (p + 2))) (p + 3) (at v (p + 3))) (p + 4) (at v (p + 4))) (set-getD v p nan)
+    ∙ ap (λ (u : List Float). set (set (set u (p + 2) (at v (p + 2))) (p + 3) (at v (p + 3))) (p + 4) (at v (p + 4))) (set-getD v (p + 1) nan)
+    ∙ ap (λ (u : List Float). set (set u (p + 3) (at v (p + 3))) (p + 4) (at v (p + 4))) (set-getD v (p + 2) nan)
+    ∙ ap (λ (u : List Float). set u (p + 4) (at v (p + 4))) (set-getD v (p + 3) nan)
+    ∙ set-getD v (p + 4) nan
+
 -- a channel past the eighth has no places
 module _ (v : List Float) (k : ℕ) (h : mostChannels ≤ k) (l : length v ≡ statePlaces) where
   pub memory-nowhere : memoryOf v k ≡ record { s0 = nan; s1 = nan; s2 = nan; s3 = nan; s4 = nan }
@@ -101,37 +116,39 @@ pub changed-above : (f : ℕ → Memory → Memory) (b : Bool) (j k : ℕ) (v : 
 changed-above f true j k v h = memory-above v j k (f j (memoryOf v j)) h
 changed-above f false j k v h = refl
 
--- ---- the channels
+-- changes of two channels, in either order
+pub changes-part : (f g : ℕ → Memory → Memory) (i j : ℕ) (v : List Float) → i < j
+    → withMemory (withMemory v j (f j (memoryOf v j))) i (g i (memoryOf (withMemory v j (f j (memoryOf v j))) i))
+    ≡ withMemory (withMemory v i (g i (memoryOf v i))) j (f j (memoryOf (withMemory v i (g i (memoryOf v i))) j))
+changes-part f g i j v h =
+    ap (λ (m : Memory). withMemory (withMemory v j (f j (memoryOf v j))) i (g i m)) (memory-below v i j (f j (memoryOf v j)) h)
+    ∙ with-past v i j (g i (memoryOf v i)) (f j (memoryOf v j)) h
+    ∙ ap (λ (m : Memory). withMemory (withMemory v i (g i (memoryOf v i))) j (f j m)) (sym (memory-above v i j (g i (memoryOf v i)) h))
 
-pub over-length : (f : ℕ → Memory → Memory) (bytes : List ℕ) (k : ℕ) (v : List Float) → length (overUsed f bytes k v) ≡ length v
-unfolding overUsed
-over-length f [] k v = refl
-over-length f (b ∷ bytes) k v = over-length f bytes (suc k) (changed f (used b) k v) ∙ changed-length f (used b) k v
+-- ---- the channels
 
 -- a channel before k keeps its memory
 pub over-before : (f : ℕ → Memory → Memory) (bytes : List ℕ) (j k : ℕ) (v : List Float) → j < k → memoryOf (overUsed f bytes k v) j ≡ memoryOf v j
-unfolding overUsed
+unfolding eachUsed
 over-before f [] j k v h = refl
 over-before f (b ∷ bytes) j k v h = over-before f bytes j (suc k) (changed f (used b) k v) (omega arith) ∙ changed-below f (used b) j k v h
 
--- one channel more
-pub over-again : (f : ℕ → Memory → Memory) (bytes : List ℕ) (k : ℕ) (v v′ : List Float) → k < length bytes → v′ ≡ changed f (used (getD bytes k 0)) k v
-    → overUsed f (drop (k + 1) bytes) (k + 1) v′ ≡ overUsed f (drop k bytes) k v
-unfolding overUsed
-over-again f bytes k v v′ h e =
-    ap (overUsed f (drop (k + 1) bytes) (k + 1)) e
-    ∙ sym (ap (λ (t : List ℕ). overUsed f t k v) (drop-cons bytes k 0 h)
-    ∙ ap (λ (n : ℕ). overUsed f (drop n bytes) n (changed f (used (getD bytes k 0)) k v)) (sym (add-one k)))
-
-pub over-end : (f : ℕ → Memory → Memory) (bytes : List ℕ) (k : ℕ) (v : List Float) → length bytes ≤ k → overUsed f (drop k bytes) k v ≡ v
-unfolding overUsed
-over-end f bytes k v h = ap (λ (t : List ℕ). overUsed f t k v) (drop-of-length-le bytes h)
+-- one change of each memory after another is one change
+pub over-twice : (f g : ℕ → Memory → Memory) (bytes : List ℕ) (v : List Float) → length bytes ≤ mostChannels → length v ≡ statePlaces
+    → overUsed g bytes 0 (overUsed f bytes 0 v) ≡ overUsed (λ k m. g k (f k m)) bytes 0 v
+over-twice f g bytes v few l =
+    each-twice (λ u. length u ≡ statePlaces) (λ j u. withMemory u j (f j (memoryOf u j))) (λ j u. withMemory u j (g j (memoryOf u j))) mostChannels
+    (λ i j u h. changes-part f g i j u h)
+    (λ j u q. length-with (withMemory u j (f j (memoryOf u j))) j (g j (memoryOf (withMemory u j (f j (memoryOf u j))) j)) ∙ length-with u j (f j (memoryOf u j)) ∙ q)
+    (λ j u. withMemory u j (g j (f j (memoryOf u j))))
+    (λ j u h q. with-again u j (f j (memoryOf u j)) (g j (memoryOf (withMemory u j (f j (memoryOf u j))) j)) ∙ ap (λ (m : Memory). withMemory u j (g j m)) (memory-same u j (f j (memoryOf u j)) h q))
+    bytes 0 v (omega arith) l
 
 -- ---- one channel alone: channel k + i's memory afterwards is its own memory, changed where its byte says so, whatever the other channels hold
 
 pub over-own : (f : ℕ → Memory → Memory) (bytes : List ℕ) (k i : ℕ) (v : List Float) → i < length bytes → k + i < mostChannels → length v ≡ statePlaces
     → memoryOf (overUsed f bytes k v) (k + i) ≡ cond (used (getD bytes i 0)) (f (k + i) (memoryOf v (k + i))) (memoryOf v (k + i))
-unfolding overUsed
+unfolding eachUsed
 over-own f [] k i v h few l = absurd (not-suc-le-zero h)
 over-own f (b ∷ bytes) k zero v h few l =
     let e : k + 0 ≡ k = omega arith in

@@ -25,12 +25,14 @@ memoryOf values k =
 unfoldable pub withMemory : List Float → ℕ → Memory → List Float
 withMemory values k m = sets values (k * 5) (m .s0 ∷ m .s1 ∷ m .s2 ∷ m .s3 ∷ m .s4 ∷ [])
 
--- each used channel's memory changed, from channel k on, one byte of the map each
-unfoldable pub overUsed : (ℕ → Memory → Memory) → List ℕ → ℕ → List Float → List Float
-unfolding withMemory
-overUsed change [] k values = values
-overUsed change (byte ∷ bytes) k values =
-    overUsed change bytes (suc k) (cond (used byte) (withMemory values k (change k (memoryOf values k))) values)
+-- each used channel's change made, from channel k on, one byte of the map each
+unfoldable pub eachUsed : {S : Type 0} → (ℕ → S → S) → List ℕ → ℕ → S → S
+eachUsed change [] k held = held
+eachUsed change (byte ∷ bytes) k held = eachUsed change bytes (suc k) (cond (used byte) (change k held) held)
+
+-- each used channel's memory changed
+abbrev pub overUsed : (ℕ → Memory → Memory) → List ℕ → ℕ → List Float → List Float
+overUsed change bytes k values = eachUsed (λ j v. withMemory v j (change j (memoryOf v j))) bytes k values
 
 -- what the weighting is given in a call; `samples` are the floats that the interleaved samples become
 pub record Call : Type 0 where
@@ -50,5 +52,5 @@ heard call k = channelOf (call .channels) (call .samples) k
 
 -- the flat state after the call
 unfoldable pub stateAfter : Call → List Float
-unfolding overUsed after flushed
+unfolding eachUsed after flushed
 stateAfter call = overUsed (λ k m. flushed (after (call .coefficients .a) m (heard call k))) (call .map) 0 (call .state .values)

@@ -2,51 +2,32 @@
 -- A part is no other channel's. Assumes nothing.
 use Prim.Native.Nat.{ℕ, zero, suc, _+_, _*_, _/_, _≤_, _<_}
 use native.Mathlib.Nat.{suc-mul, mul-comm, mul-le-mul-right, not-suc-le-zero, le-of-suc-le-suc, le-add-right}
-use native.Mathlib.Numerals.{add-one}
 use native.Mathlib.Omega.{arith}
 use mathlib.Core.Path.{_≡_, refl, ap, sym, subst, _∙_}
 use mathlib.Core.List.{List, [], _∷_}
 use mathlib.Core.Logic.{_⊎_, inl, inr}
 use mathlib.Core.Bool.{Bool, true, false, cond}
-use lib.ListN.{length, getD, drop, drop-of-length-le}
-use lib.Seq.{sets, length-sets, drop-cons}
+use lib.ListN.{length, getD}
+use lib.Seq.{sets, length-sets}
 use lib.Ieee.{Float}
 use Rattle.samples.specs.Frames.{column, channelOf}
 use Rattle.calls.specs.Calls.{used}
 use Rattle.sources.proofs.Stores.{at-before, at-after, at-within}
 use Rattle.sources.proofs.Cutting.{frames-are}
 use Rattle.recurrence.specs.Recurrence.{outs}
-use Rattle.states.specs.Channels.{Call, memoryOf}
+use Rattle.states.specs.Channels.{Call, memoryOf, eachUsed}
 use Rattle.weighting.specs.Weighting.{overParts, destAfter}
 
-abbrev pub stored : (ℕ → List Float) → ℕ → ℕ → Bool → ℕ → List Float → List Float
+abbrev stored : (ℕ → List Float) → ℕ → ℕ → Bool → ℕ → List Float → List Float
 stored g part start b k d = cond b (sets d (k * part + start) (g k)) d
 
 stored-length : (g : ℕ → List Float) (part start : ℕ) (b : Bool) (k : ℕ) (d : List Float) → length (stored g part start b k d) ≡ length d
 stored-length g part start true k d = length-sets d (k * part + start) (g k)
 stored-length g part start false k d = refl
 
-pub parts-length : (g : ℕ → List Float) (part start : ℕ) (bytes : List ℕ) (k : ℕ) (d : List Float) → length (overParts g part start bytes k d) ≡ length d
-unfolding overParts
-parts-length g part start [] k d = refl
-parts-length g part start (b ∷ bytes) k d = parts-length g part start bytes (suc k) (stored g part start (used b) k d) ∙ stored-length g part start (used b) k d
-
--- one channel more
-pub parts-again : (g : ℕ → List Float) (part start : ℕ) (bytes : List ℕ) (k : ℕ) (d d′ : List Float) → k < length bytes → d′ ≡ stored g part start (used (getD bytes k 0)) k d
-    → overParts g part start (drop (k + 1) bytes) (k + 1) d′ ≡ overParts g part start (drop k bytes) k d
-unfolding overParts
-parts-again g part start bytes k d d′ h e =
-    ap (overParts g part start (drop (k + 1) bytes) (k + 1)) e
-    ∙ sym (ap (λ (t : List ℕ). overParts g part start t k d) (drop-cons bytes k 0 h)
-    ∙ ap (λ (n : ℕ). overParts g part start (drop n bytes) n (stored g part start (used (getD bytes k 0)) k d)) (sym (add-one k)))
-
 -- a channel's frames lie within the destination
 pub part-ends : (k channels part to count room : ℕ) → k < channels → part * channels ≡ room → to + count ≤ part → k * part + to + count ≤ room
 part-ends k channels part to count room h e fit = omega (arith, mul-le-mul-right part h, suc-mul k part, mul-comm channels part)
-
-pub parts-end : (g : ℕ → List Float) (part start : ℕ) (bytes : List ℕ) (k : ℕ) (d : List Float) → length bytes ≤ k → overParts g part start (drop k bytes) k d ≡ d
-unfolding overParts
-parts-end g part start bytes k d h = ap (λ (t : List ℕ). overParts g part start t k d) (drop-of-length-le bytes h)
 
 -- ---- one place
 
@@ -54,7 +35,7 @@ parts-end g part start bytes k d h = ap (λ (t : List ℕ). overParts g part sta
 pub parts-stay : (g : ℕ → List Float) (part start : ℕ) (bytes : List ℕ) (k : ℕ) (d : List Float) (p : ℕ) (x : Float)
     → ((i : ℕ) → i < length bytes → used (getD bytes i 0) ≡ true → p < (k + i) * part + start ⊎ (k + i) * part + start + length (g (k + i)) ≤ p)
     → getD (overParts g part start bytes k d) p x ≡ getD d p x
-unfolding overParts
+unfolding eachUsed
 parts-stay g part start [] k d p x h = refl
 parts-stay g part start (b ∷ bytes) k d p x h =
     parts-stay g part start bytes (suc k) (stored g part start (used b) k d) p x
@@ -73,7 +54,7 @@ parts-stay g part start (b ∷ bytes) k d p x h =
 pub parts-own : (g : ℕ → List Float) (part start n : ℕ) → ((j : ℕ) → length (g j) ≡ n) → start + n ≤ part
     → (bytes : List ℕ) (k i f : ℕ) (d : List Float) (x : Float) → i < length bytes → f < n → (k + length bytes) * part ≤ length d → used (getD bytes i 0) ≡ true
     → getD (overParts g part start bytes k d) ((k + i) * part + start + f) x ≡ getD (g (k + i)) f x
-unfolding overParts
+unfolding eachUsed
 parts-own g part start n gn fit [] k i f d x h q r u = absurd (not-suc-le-zero h)
 parts-own g part start n gn fit (b ∷ bytes) k zero f d x h q r u =
     let e : k + 0 ≡ k = omega arith in

@@ -1,26 +1,25 @@
 -- Two channels weighed side by side: the first is told by its memory, the second by the law of one channel over what the first leaves.
 -- The outputs of the first stand before those of the second, so an output of the second may be stored before the first's are all there. Assumes nothing.
-use Prim.Native.Nat.{ℕ, _+_, _-_, _*_, _≤_, _<_}
+use Prim.Native.Nat.{ℕ, _+_, _-_, _≤_, _<_}
 use native.Mathlib.Nat.{suc-mul}
 use native.Mathlib.Omega.{arith}
 use mathlib.Core.Path.{_≡_, refl, ap, sym, _∙_}
-use mathlib.Core.Bool.{Bool, true}
 use mathlib.Core.List.{List, [], _∷_}
-use lib.ListN.{length, set, getD, drop}
+use lib.ListN.{length, set, getD}
 use lib.Seq.{sets, length-sets}
 use lib.Ieee.{Float, nan}
 use Rattle.samples.specs.Frames.{column}
 use Rattle.samples.proofs.Columns.{length-column}
 use Rattle.recurrence.specs.declared.Memory.{Memory}
-use Rattle.calls.specs.Calls.{mostChannels, used}
+use Rattle.calls.specs.Calls.{mostChannels}
 use Rattle.sources.specs.Blocks.{Reach}
 use Rattle.recurrence.specs.Recurrence.{head, next, out, after, outs}
-use Rattle.states.specs.Channels.{memoryOf, withMemory, overUsed}
-use Rattle.weighting.specs.Weighting.{overParts}
+use Rattle.states.specs.Channels.{memoryOf, withMemory}
+use Rattle.states.proofs.Memories.{memory-above}
+use Rattle.weighting.specs.declared.channels.Work.{Work}
+use Rattle.weighting.specs.Inner.{memoryIn, outsIn, givenIn, placeOf, keptOf, weighOne}
 use Rattle.recurrence.proofs.Moving.{turn-after, turn-outs, none-after, none-outs, length-outs}
 use Rattle.sources.proofs.Stores.{sets-comm}
-use Rattle.states.proofs.Memories.{changed, changed-above, over-again}
-use Rattle.weighting.proofs.Destinations.{stored, parts-again}
 use Rattle.weighting.proofs.Single.{Single, moved, turn, here, following, end}
 
 -- from memories m and n and a destination, `left` frames of two neighbouring channels give these memories and this destination
@@ -90,31 +89,16 @@ pub both-start : (a b block : List Float) (step part : ℕ) (m n : Memory) (i j 
 both-start a b block step part m n i j left dest r h room =
     record { apart = h; first = refl; second = record { reach = r; room = omega (arith, room, length-sets dest j (outs a b m (column block i step left))); memory = refl; given = refl } }
 
--- ---- two channels more, both used
+-- ---- both in state and destination
 
-module _ (bytes : List ℕ) (k : ℕ) (more : k + 1 < length bytes) (one : used (getD bytes k 0) ≡ true) (two : used (getD bytes (k + 1) 0) ≡ true) where
-  pub over-two : (f : ℕ → Memory → Memory) (v v′ : List Float) → v′ ≡ withMemory (withMemory v k (f k (memoryOf v k))) (k + 1) (f (k + 1) (memoryOf v (k + 1)))
-      → overUsed f (drop (k + 2) bytes) (k + 2) v′ ≡ overUsed f (drop k bytes) k v
-  over-two f v v′ e =
-      let u = withMemory v k (f k (memoryOf v k)) in
-      let n : k + 2 ≡ k + 1 + 1 = omega arith in
-      ap (λ (j : ℕ). overUsed f (drop j bytes) j v′) n
-      ∙ over-again f bytes (k + 1) u v′ more
-      (e ∙ ap (λ (m : Memory). withMemory u (k + 1) (f (k + 1) m)) (sym (changed-above f true k (k + 1) v (omega arith))) ∙ ap (λ (b : Bool). changed f b (k + 1) u) (sym two))
-      ∙ over-again f bytes k v u (omega arith) (ap (λ (b : Bool). changed f b k v) (sym one))
-
-  pub parts-two : (g : ℕ → List Float) (part start : ℕ) (d d′ : List Float) → d′ ≡ sets (sets d (k * part + start) (g k)) (k * part + start + part) (g (k + 1))
-      → overParts g part start (drop (k + 2) bytes) (k + 2) d′ ≡ overParts g part start (drop k bytes) k d
-  parts-two g part start d d′ e =
-      let u = sets d (k * part + start) (g k) in
-      let n : k + 2 ≡ k + 1 + 1 = omega arith in
-      let p : k * part + start + part ≡ (k + 1) * part + start = omega (arith, suc-mul k part) in
-      ap (λ (j : ℕ). overParts g part start (drop j bytes) j d′) n
-      ∙ parts-again g part start bytes (k + 1) u d′ more
-      (e ∙ ap (λ (j : ℕ). sets u j (g (k + 1))) p ∙ ap (λ (b : Bool). stored g part start b (k + 1) u) (sym two))
-      ∙ parts-again g part start bytes k d u (omega arith) (ap (λ (b : Bool). stored g part start b k d) (sym one))
-
--- the channels after two keep their memory
-pub above-two : (k j : ℕ) (v : List Float) (m n : Memory) → k + 2 ≤ j → memoryOf (withMemory (withMemory v k m) (k + 1) n) j ≡ memoryOf v j
-above-two k j v m n h =
-    changed-above (λ _ _. n) true (k + 1) j (withMemory v k m) (omega arith) ∙ changed-above (λ _ _. m) true k j v (omega arith)
+pub pair-is : (work : Work) (samples : List Float) (k : ℕ) (v d : List Float)
+    → let m = memoryIn work samples k (memoryOf v k) in
+    let n = memoryIn work samples (k + 1) (memoryOf v (k + 1)) in
+    keptOf (withMemory (withMemory v k m) (k + 1) n) (sets (sets d (placeOf work k) (givenIn work samples v k)) (placeOf work k + work .part) (givenIn work samples v (k + 1)))
+    ≡ weighOne work samples (k + 1) (weighOne work samples k (keptOf v d))
+pair-is work samples k v d =
+    let m = memoryIn work samples k (memoryOf v k) in
+    let mine = sets d (placeOf work k) (givenIn work samples v k) in
+    let e = sym (memory-above v k (k + 1) m (omega arith)) in
+    let p : placeOf work k + work .part ≡ placeOf work (k + 1) = omega (arith, suc-mul k (work .part)) in
+    λ i. keptOf (withMemory (withMemory v k m) (k + 1) (memoryIn work samples (k + 1) (e i))) (sets mine (p i) (outsIn work samples (k + 1) (e i)))

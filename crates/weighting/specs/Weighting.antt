@@ -1,27 +1,25 @@
 -- A call of the weighting (01, step 4): "Output goes to the channel's own equal part of the destination, from the start index."
 -- "An unused channel keeps state and destination."
-use Prim.Native.Nat.{ℕ, suc, _+_, _*_, _/_}
-use mathlib.Core.Bool.{true, cond}
-use mathlib.Core.List.{List, [], _∷_}
+use Prim.Native.Nat.{ℕ, _+_, _*_, _/_}
+use mathlib.Core.Bool.{true}
+use mathlib.Core.List.{List}
 use lib.ListN.{length}
 use lib.Seq.{sets}
 use lib.Ieee.{Float}
 use Rattle.refusals.specs.Outcome.{Outcome, went, keptBy, NoValues, done}
 use Rattle.refusals.specs.Rows.{Row, byRows}
-use Rattle.calls.specs.Calls.{used, sizes, processRows}
+use Rattle.calls.specs.Calls.{sizes, processRows}
 use Rattle.states.specs.declared.State.{State}
 use Rattle.recurrence.specs.Recurrence.{outs}
-use Rattle.states.specs.Channels.{Call, heard, memoryOf, stateAfter}
+use Rattle.states.specs.Channels.{Call, heard, memoryOf, eachUsed, stateAfter}
 
 -- each used channel's outputs stored in its own equal part of the destination, from the start index
-unfoldable pub overParts : (ℕ → List Float) → ℕ → ℕ → List ℕ → ℕ → List Float → List Float
-overParts outputs part start [] k dest = dest
-overParts outputs part start (byte ∷ bytes) k dest =
-    overParts outputs part start bytes (suc k) (cond (used byte) (sets dest (k * part + start) (outputs k)) dest)
+abbrev pub overParts : (ℕ → List Float) → ℕ → ℕ → List ℕ → ℕ → List Float → List Float
+overParts outputs part start bytes k dest = eachUsed (λ j d. sets d (j * part + start) (outputs j)) bytes k dest
 
 -- the destination after a call
 unfoldable pub destAfter : Call → List Float → ℕ → List Float
-unfolding overParts outs
+unfolding eachUsed outs
 destAfter call dest start =
     overParts (λ k. outs (call .coefficients .a) (call .coefficients .b) (memoryOf (call .state .values) k) (heard call k))
     (length dest / call .channels) start (call .map) 0 dest

@@ -1,31 +1,27 @@
-// The weighting of a call, channel by channel. A sample becomes a float where it is used: a channel's sums wait on themselves, and the conversion beside them takes no time.
+// The weighting of a call, run by run and channel by channel. Two used channels are weighed side by side: one channel's sums wait on themselves, and two channels' do not wait on each other.
 ghost use mathlib.Core.Path.{_≡_};
 ghost use mathlib.Core.Bool.{true, cond};
-ghost use mathlib.Core.List.{List};
-ghost use Prim.Native.Nat.{ℕ, _+_, _*_, _<_, _≤_};
+ghost use Prim.Native.Nat.{_+_, _*_, _<_, _≤_};
 ghost use lib.ListN.{length, set, drop, getD};
-ghost use lib.Ieee.{Float, nan};
+ghost use lib.Ieee.{nan};
 ghost use lib.Seq.{sets};
-ghost use Rattle.samples.specs.Frames.{column};
 ghost use Rattle.calls.specs.Calls.{mostChannels, used};
 ghost use Rattle.sources.specs.Source.{sourceOf};
-ghost use Rattle.sources.specs.Blocks.{Reach};
-ghost use Rattle.recurrence.specs.Recurrence.{next, out, after, outs, flushed};
-ghost use Rattle.states.specs.Channels.{memoryOf, withMemory, overUsed};
-ghost use Rattle.weighting.specs.Parts.{Parts};
+ghost use Rattle.sources.specs.Blocks.{Reach, Whole};
+ghost use Rattle.recurrence.specs.Recurrence.{next, out, flushed};
+ghost use Rattle.states.specs.Channels.{eachUsed, overUsed};
 ghost use Rattle.weighting.specs.Weighting.{overParts};
+ghost use Rattle.weighting.specs.Inner.{memoryIn, outsIn, givenIn, placeOf, keptOf, weighOne, Parts};
 use recurrence::Coefficients;
 use recurrence::Memory;
 
-// Sample i of a call, as a float.
-fn sample_at(ints: &[i16], floats: &[f32], i: usize) -> f64
-    requires { ⌜ i < length (sourceOf (now ints) (now floats)) ⌝ }
-    ensures { λ r. ⌜ r ≡ getD (sourceOf (now (ints .entry)) (now (floats .entry))) i nan ⌝ }
-{
-    if ints.len() == 0 {
-        return samples::f32_to_f64(floats[i]);
-    }
-    samples::i16_to_f64(ints[i])
+// What a run of frames is weighed by, and where its outputs go: from `place` of each channel's part of the destination on.
+pub(crate) struct Work {
+    pub(crate) c: Coefficients,
+    pub(crate) channels: usize,
+    pub(crate) frames: usize,
+    pub(crate) part: usize,
+    pub(crate) place: usize,
 }
 
 // A frame of one channel, by its sample.
@@ -41,31 +37,22 @@ fn frame(c: Coefficients, m: Memory, x: f64, dest: &mut [f64], j: usize) -> Memo
     recurrence::shifted(m, s0)
 }
 
-// One channel's frames, two a turn: its memory after them, and their outputs in dest from place `to` on. One a turn, the compiler puts a move of the newest value into the chain.
-// Both samples are taken first, since a sample has its kind asked: what follows is then one run of operations, and the two outputs are summed side by side.
-fn weigh(
-    c: Coefficients,
-    m: Memory,
-    ints: &[i16],
-    floats: &[f32],
-    first: usize,
-    step: usize,
-    count: usize,
-    dest: &mut [f64],
-    to: usize,
-) -> Memory
-    requires { ⌜ Reach first step count (length (sourceOf (now ints) (now floats))) ⌝ }
-    requires { ⌜ to + count ≤ length (now dest) ⌝ }
-    ensures { λ r. ⌜ r ≡ after (c .a) m (column (sourceOf (now (ints .entry)) (now (floats .entry))) first step count) ⌝ }
-    ensures { λ r. ⌜ now (dest .exit) ≡ sets (now (dest .entry)) to (outs (c .a) (c .b) m (column (sourceOf (now (ints .entry)) (now (floats .entry))) first step count)) ⌝ }
+// Channel k's frames of a run, two a turn: its memory after them, and their outputs in its part.
+fn weigh(work: Work, m: Memory, samples: &[f64], k: usize, dest: &mut [f64]) -> Memory
+    requires { ⌜ Reach k (work .channels) (work .frames) (length (now samples)) ⌝ }
+    requires { ⌜ placeOf work k + work .frames ≤ length (now dest) ⌝ }
+    ensures { λ r. ⌜ r ≡ memoryIn work (now (samples .entry)) k m ⌝ }
+    ensures { λ _. ⌜ now (dest .exit) ≡ sets (now (dest .entry)) (placeOf work k) (outsIn work (now (samples .entry)) k m) ⌝ }
 {
+    let c = work.c;
+    let step = work.channels;
     let mut w = m;
-    let mut left = count;
-    let mut i = first;
-    let mut j = to;
+    let mut left = work.frames;
+    let mut i = k;
+    let mut j = k * work.part + work.place;
     while 1 < left {
-        let x = sample_at(ints, floats, i);
-        let y = sample_at(ints, floats, i + step);
+        let x = samples[i];
+        let y = samples[i + step];
         w = frame(c, w, x, dest, j);
         w = frame(c, w, y, dest, j + 1);
         i += step + step;
@@ -73,13 +60,12 @@ fn weigh(
         left -= 2;
     }
     if 0 < left {
-        let x = sample_at(ints, floats, i);
-        return frame(c, w, x, dest, j);
+        return frame(c, w, samples[i], dest, j);
     }
     w
 }
 
-// The memories of two channels that are weighed side by side: one channel's sums wait on themselves, and two channels' do not wait on each other.
+// The memories of two channels that are weighed side by side.
 struct Pair {
     one: Memory,
     two: Memory,
@@ -89,24 +75,24 @@ struct Pair {
 fn frame_two(
     c: Coefficients,
     p: Pair,
-    ints: &[i16],
-    floats: &[f32],
+    samples: &[f64],
     i: usize,
     dest: &mut [f64],
     j: usize,
     part: usize,
 ) -> Pair
-    requires { ⌜ i + 1 < length (sourceOf (now ints) (now floats)) ⌝ }
+    requires { ⌜ i + 1 < length (now samples) ⌝ }
     requires { ⌜ j + part < length (now dest) ⌝ }
-    ensures { λ r. ⌜ (r .one ≡ next (c .a) (p .one) (getD (sourceOf (now (ints .entry)) (now (floats .entry))) i nan)) × (r .two ≡ next (c .a) (p .two) (getD (sourceOf (now (ints .entry)) (now (floats .entry))) (i + 1) nan)) ⌝ }
-    ensures { λ _. ⌜ now (dest .exit) ≡ set (set (now (dest .entry)) j (out (c .a) (c .b) (p .one) (getD (sourceOf (now (ints .entry)) (now (floats .entry))) i nan))) (j + part) (out (c .a) (c .b) (p .two) (getD (sourceOf (now (ints .entry)) (now (floats .entry))) (i + 1) nan)) ⌝ }
+    ensures { λ r. ⌜ (let x = getD (now (samples .entry)) i nan in let y = getD (now (samples .entry)) (i + 1) nan in
+        ((r .one ≡ next (c .a) (p .one) x) × (r .two ≡ next (c .a) (p .two) y))
+        × (now (dest .exit) ≡ set (set (now (dest .entry)) j (out (c .a) (c .b) (p .one) x)) (j + part) (out (c .a) (c .b) (p .two) y))) ⌝ }
 {
     let a = c.a;
     let b = c.b;
     let m = p.one;
     let n = p.two;
-    let x = sample_at(ints, floats, i);
-    let y = sample_at(ints, floats, i + 1);
+    let x = samples[i];
+    let y = samples[i + 1];
     let s = recurrence::head_of(a, m, x);
     let t = recurrence::head_of(a, n, y);
     let u = recurrence::output_of(b, m, s);
@@ -119,116 +105,77 @@ fn frame_two(
     }
 }
 
-// Two channels' frames, two a turn: their memories after them, and their outputs in dest from place `to` on and from `part` places after it.
-fn weigh_two(
-    c: Coefficients,
-    p: Pair,
-    ints: &[i16],
-    floats: &[f32],
-    first: usize,
-    step: usize,
-    count: usize,
-    dest: &mut [f64],
-    to: usize,
-    part: usize,
-) -> Pair
-    requires { ⌜ Reach (first + 1) step count (length (sourceOf (now ints) (now floats))) ⌝ }
-    requires { ⌜ (count ≤ part) × (to + part + count ≤ length (now dest)) ⌝ }
-    ensures { λ r. ⌜ r .one ≡ after (c .a) (p .one) (column (sourceOf (now (ints .entry)) (now (floats .entry))) first step count) ⌝ }
-    ensures { λ r. ⌜ r .two ≡ after (c .a) (p .two) (column (sourceOf (now (ints .entry)) (now (floats .entry))) (first + 1) step count) ⌝ }
-    ensures { λ _. ⌜ now (dest .exit) ≡ sets (sets (now (dest .entry)) to (outs (c .a) (c .b) (p .one) (column (sourceOf (now (ints .entry)) (now (floats .entry))) first step count))) (to + part) (outs (c .a) (c .b) (p .two) (column (sourceOf (now (ints .entry)) (now (floats .entry))) (first + 1) step count)) ⌝ }
+// The frames of channels k and k + 1, two a turn: their memories after them, and their outputs in their parts.
+fn weigh_two(work: Work, p: Pair, samples: &[f64], k: usize, dest: &mut [f64]) -> Pair
+    requires { ⌜ Reach (k + 1) (work .channels) (work .frames) (length (now samples)) ⌝ }
+    requires { ⌜ (work .frames ≤ work .part) × (placeOf work k + work .part + work .frames ≤ length (now dest)) ⌝ }
+    ensures { λ r. ⌜ (let s = now (samples .entry) in (r .one ≡ memoryIn work s k (p .one)) × (r .two ≡ memoryIn work s (k + 1) (p .two))) ⌝ }
+    ensures { λ _. ⌜ (let s = now (samples .entry) in let first = sets (now (dest .entry)) (placeOf work k) (outsIn work s k (p .one)) in
+        now (dest .exit) ≡ sets first (placeOf work k + work .part) (outsIn work s (k + 1) (p .two))) ⌝ }
 {
+    let c = work.c;
+    let step = work.channels;
+    let part = work.part;
     let mut w = p;
-    let mut left = count;
-    let mut i = first;
-    let mut j = to;
+    let mut left = work.frames;
+    let mut i = k;
+    let mut j = k * part + work.place;
     while 1 < left {
-        w = frame_two(c, w, ints, floats, i, dest, j, part);
-        w = frame_two(c, w, ints, floats, i + step, dest, j + 1, part);
+        w = frame_two(c, w, samples, i, dest, j, part);
+        w = frame_two(c, w, samples, i + step, dest, j + 1, part);
         i += step + step;
         j += 2;
         left -= 2;
     }
     if 0 < left {
-        return frame_two(c, w, ints, floats, i, dest, j, part);
+        return frame_two(c, w, samples, i, dest, j, part);
     }
     w
 }
 
 // Channel k at its map byte. An unused one keeps state and destination.
 fn weigh_channel(
-    c: Coefficients,
+    work: Work,
     state: &mut [f64; 40],
     byte: u8,
-    ints: &[i16],
-    floats: &[f32],
+    samples: &[f64],
     k: usize,
-    channels: usize,
-    count: usize,
     dest: &mut [f64],
-    to: usize,
 )
-    requires { ⌜ k < mostChannels ⌝ }
-    requires { ⌜ Reach k channels count (length (sourceOf (now ints) (now floats))) ⌝ }
-    requires { ⌜ to + count ≤ length (now dest) ⌝ }
-    ensures { λ _. ⌜ now (state .exit) ≡ cond (used byte) (withMemory (now (state .entry)) k (flushed (after (c .a) (memoryOf (now (state .entry)) k) (column (sourceOf (now (ints .entry)) (now (floats .entry))) k channels count)))) (now (state .entry)) ⌝ }
-    ensures { λ _. ⌜ now (dest .exit) ≡ cond (used byte) (sets (now (dest .entry)) to (outs (c .a) (c .b) (memoryOf (now (state .entry)) k) (column (sourceOf (now (ints .entry)) (now (floats .entry))) k channels count))) (now (dest .entry)) ⌝ }
+    requires { ⌜ Reach k (work .channels) (work .frames) (length (now samples)) ⌝ }
+    requires { ⌜ placeOf work k + work .frames ≤ length (now dest) ⌝ }
+    ensures { λ _. ⌜ (let given = keptOf (now (state .entry)) (now (dest .entry)) in
+        keptOf (now (state .exit)) (now (dest .exit)) ≡ cond (used byte) (weighOne work (now (samples .entry)) k given) given) ⌝ }
 {
     if byte == 0 {
         return;
     }
-    let m = weigh(
-        c,
-        states::load(state, k),
-        ints,
-        floats,
-        k,
-        channels,
-        count,
-        dest,
-        to,
-    );
-    states::store(state, k, flushing::flush_all(m));
+    let m = weigh(work, states::load(state, k), samples, k, dest);
+    states::store(state, k, m);
 }
 
 // Channels k and k + 1, both used.
-fn weigh_pair(
-    c: Coefficients,
-    state: &mut [f64; 40],
-    ints: &[i16],
-    floats: &[f32],
-    k: usize,
-    channels: usize,
-    count: usize,
-    dest: &mut [f64],
-    to: usize,
-    part: usize,
-)
+fn weigh_pair(work: Work, state: &mut [f64; 40], samples: &[f64], k: usize, dest: &mut [f64])
     requires { ⌜ k + 1 < mostChannels ⌝ }
-    requires { ⌜ Reach (k + 1) channels count (length (sourceOf (now ints) (now floats))) ⌝ }
-    requires { ⌜ (count ≤ part) × (to + part + count ≤ length (now dest)) ⌝ }
-    ensures { λ _. ⌜ now (state .exit) ≡ withMemory (withMemory (now (state .entry)) k (flushed (after (c .a) (memoryOf (now (state .entry)) k) (column (sourceOf (now (ints .entry)) (now (floats .entry))) k channels count)))) (k + 1) (flushed (after (c .a) (memoryOf (now (state .entry)) (k + 1)) (column (sourceOf (now (ints .entry)) (now (floats .entry))) (k + 1) channels count))) ⌝ }
-    ensures { λ _. ⌜ now (dest .exit) ≡ sets (sets (now (dest .entry)) to (outs (c .a) (c .b) (memoryOf (now (state .entry)) k) (column (sourceOf (now (ints .entry)) (now (floats .entry))) k channels count))) (to + part) (outs (c .a) (c .b) (memoryOf (now (state .entry)) (k + 1)) (column (sourceOf (now (ints .entry)) (now (floats .entry))) (k + 1) channels count)) ⌝ }
+    requires { ⌜ Reach (k + 1) (work .channels) (work .frames) (length (now samples)) ⌝ }
+    requires { ⌜ (work .frames ≤ work .part) × (placeOf work k + work .part + work .frames ≤ length (now dest)) ⌝ }
+    ensures { λ _. ⌜ (let s = now (samples .entry) in
+        keptOf (now (state .exit)) (now (dest .exit)) ≡ weighOne work s (k + 1) (weighOne work s k (keptOf (now (state .entry)) (now (dest .entry))))) ⌝ }
 {
     let p = weigh_two(
-        c,
+        work,
         Pair {
             one: states::load(state, k),
             two: states::load(state, k + 1),
         },
-        ints,
-        floats,
+        samples,
         k,
-        channels,
-        count,
         dest,
-        to,
-        part,
     );
     let m = p.one;
     let n = p.two;
-    states::store(state, k, flushing::flush_all(m));
-    states::store(state, k + 1, flushing::flush_all(n));
+    states::store(state, k, m);
+    states::store(state, k + 1, n);
 }
 
 // Whether channel k and the one after it are both used.
@@ -247,106 +194,81 @@ fn both_used(map: &[u8], k: usize) -> bool
 
 // Channel k, and the one after it where both are used. Answers the channel after them: what is left to weigh gives what it gave before.
 fn weigh_next(
-    c: Coefficients,
+    work: Work,
     state: &mut [f64; 40],
-    channels: usize,
-    count: usize,
-    ints: &[i16],
-    floats: &[f32],
+    samples: &[f64],
     map: &[u8],
     dest: &mut [f64],
-    part: usize,
-    to: usize,
     k: usize,
 ) -> usize
-    requires { ⌜ k < channels ⌝ }
-    requires { ⌜ count * channels ≤ length (sourceOf (now ints) (now floats)) ⌝ }
-    requires { ⌜ Parts channels (length (now map)) part to count (length (now dest)) ⌝ }
-    ensures { λ r. ⌜ (k < r) × (r ≤ channels) ⌝ }
-    ensures { λ r. ⌜ overUsed (λ j m. flushed (after (c .a) m (column (sourceOf (now (ints .entry)) (now (floats .entry))) j channels count))) (drop r (now (map .entry))) r (now (state .exit)) ≡ overUsed (λ j m. flushed (after (c .a) m (column (sourceOf (now (ints .entry)) (now (floats .entry))) j channels count))) (drop k (now (map .entry))) k (now (state .entry)) ⌝ }
-    ensures { λ r. ⌜ ((v : List Float) → ((j : ℕ) → k ≤ j → memoryOf (now (state .entry)) j ≡ memoryOf v j)
-        → overParts (λ j. outs (c .a) (c .b) (memoryOf v j) (column (sourceOf (now (ints .entry)) (now (floats .entry))) j channels count)) part to (drop r (now (map .entry))) r (now (dest .exit))
-        ≡ overParts (λ j. outs (c .a) (c .b) (memoryOf v j) (column (sourceOf (now (ints .entry)) (now (floats .entry))) j channels count)) part to (drop k (now (map .entry))) k (now (dest .entry))) ⌝ }
-    ensures { λ r. ⌜ ((j : ℕ) → r ≤ j → memoryOf (now (state .exit)) j ≡ memoryOf (now (state .entry)) j) ⌝ }
+    requires { ⌜ k < work .channels ⌝ }
+    requires { ⌜ work .frames * work .channels ≤ length (now samples) ⌝ }
+    requires { ⌜ Parts work (length (now map)) (length (now dest)) ⌝ }
+    ensures { λ r. ⌜ (k < r) × (r ≤ work .channels) ⌝ }
+    ensures { λ r. ⌜ (let step = weighOne work (now (samples .entry)) in
+        eachUsed step (drop r (now (map .entry))) r (keptOf (now (state .exit)) (now (dest .exit)))
+        ≡ eachUsed step (drop k (now (map .entry))) k (keptOf (now (state .entry)) (now (dest .entry)))) ⌝ }
 {
     if both_used(map, k) {
-        weigh_pair(
-            c,
-            state,
-            ints,
-            floats,
-            k,
-            channels,
-            count,
-            dest,
-            k * part + to,
-            part,
-        );
+        weigh_pair(work, state, samples, k, dest);
         return k + 2;
     }
-    weigh_channel(
-        c,
-        state,
-        map[k],
-        ints,
-        floats,
-        k,
-        channels,
-        count,
-        dest,
-        k * part + to,
-    );
+    weigh_channel(work, state, map[k], samples, k, dest);
     k + 1
 }
 
-// Every channel's frames, the outputs from place `to` of each part on. Each memory is flushed at the end of the call.
-pub(crate) fn weigh_channels(
-    c: Coefficients,
+// Every channel's frames of a run, up to two steps a turn.
+fn weigh_run(work: Work, state: &mut [f64; 40], samples: &[f64], map: &[u8], dest: &mut [f64])
+    requires { ⌜ work .frames * work .channels ≤ length (now samples) ⌝ }
+    requires { ⌜ Parts work (length (now map)) (length (now dest)) ⌝ }
+    ensures { λ _. ⌜ keptOf (now (state .exit)) (now (dest .exit)) ≡ eachUsed (weighOne work (now (samples .entry))) (now (map .entry)) 0 (keptOf (now (state .entry)) (now (dest .entry))) ⌝ }
+{
+    let channels = work.channels;
+    let mut k = 0;
+    while k < channels {
+        k = weigh_next(work, state, samples, map, dest, k);
+        if k < channels {
+            k = weigh_next(work, state, samples, map, dest, k);
+        }
+    }
+}
+
+// Every channel's frames, run by run. Each memory is flushed at the end of the call.
+pub(crate) fn weigh_all(
+    work: Work,
     state: &mut [f64; 40],
-    channels: usize,
-    count: usize,
     ints: &[i16],
     floats: &[f32],
     map: &[u8],
     dest: &mut [f64],
-    part: usize,
-    to: usize,
 )
-    requires { ⌜ count * channels ≤ length (sourceOf (now ints) (now floats)) ⌝ }
-    requires { ⌜ Parts channels (length (now map)) part to count (length (now dest)) ⌝ }
-    ensures { λ _. ⌜ now (state .exit) ≡ overUsed (λ k m. flushed (after (c .a) m (column (sourceOf (now (ints .entry)) (now (floats .entry))) k channels count))) (now (map .entry)) 0 (now (state .entry)) ⌝ }
-    ensures { λ _. ⌜ now (dest .exit) ≡ overParts (λ k. outs (c .a) (c .b) (memoryOf (now (state .entry)) k) (column (sourceOf (now (ints .entry)) (now (floats .entry))) k channels count)) part to (now (map .entry)) 0 (now (dest .entry)) ⌝ }
+    requires { ⌜ Whole (work .channels) (work .frames) (length (sourceOf (now ints) (now floats))) ⌝ }
+    requires { ⌜ Parts work (length (now map)) (length (now dest)) ⌝ }
+    ensures { λ _. ⌜ (let src = sourceOf (now (ints .entry)) (now (floats .entry)) in
+        now (state .exit) ≡ overUsed (λ k m. flushed (memoryIn work src k m)) (now (map .entry)) 0 (now (state .entry))) ⌝ }
+    ensures { λ _. ⌜ (let src = sourceOf (now (ints .entry)) (now (floats .entry)) in let given = givenIn work src (now (state .entry)) in
+        now (dest .exit) ≡ overParts given (work .part) (work .place) (now (map .entry)) 0 (now (dest .entry))) ⌝ }
 {
-    let mut k = 0;
-    while k < channels {
-        k = weigh_next(
-            c,
-            state,
-            channels,
-            count,
-            ints,
-            floats,
-            map,
-            dest,
-            part,
-            to,
-            k,
-        );
-        // A second call keeps weigh_next a function of its own, whose sums the compiler does two channels at a time.
-        if k < channels {
-            k = weigh_next(
-                c,
-                state,
-                channels,
-                count,
-                ints,
-                floats,
-                map,
-                dest,
-                part,
-                to,
-                k,
-            );
-        }
+    // As a slice the state is known to have its places.
+    let _places = &state[..];
+    let c = work.c;
+    let channels = work.channels;
+    let frames = work.frames;
+    let mut run: [f64; sources::RUN] = [0.0; sources::RUN];
+    let most = sources::RUN / channels;
+    let mut done = 0;
+    while done < frames {
+        let count = sources::shorter(frames - done, most);
+        sources::fill(&mut run, ints, floats, done * channels);
+        let next = Work {
+            c: c,
+            channels: channels,
+            frames: count,
+            part: work.part,
+            place: work.place + done,
+        };
+        weigh_run(next, state, &run, map, dest);
+        done += count;
     }
+    flushing::flush_used(state, map);
 }

@@ -6,6 +6,7 @@ ghost use Rattle.sources.specs.Source.{sourceOf};
 ghost use Rattle.states.specs.Channels.{callOf};
 ghost use Rattle.weighting.specs.Weighting.{weighed, kept};
 use calls::Sizes;
+use channels::Work;
 use recurrence::Coefficients;
 use refusals::Answer;
 
@@ -41,17 +42,13 @@ pub fn process_lent(
     }
     let frames = samples / channels;
     let part = dest.len() / channels;
-    channels::weigh_channels(
-        c,
-        state,
-        channels,
-        frames,
-        ints,
-        floats,
-        map,
-        dest,
-        part,
-        start,
-    );
+    let work = Work {
+        c: c,
+        channels: channels,
+        frames: frames,
+        part: part,
+        place: start,
+    };
+    channels::weigh_all(work, state, ints, floats, map, dest);
     Answer::Done
 }

@@ -45,7 +45,7 @@ shorter-requires c κs = search needs
 -- the frames of the stretch
 sizes : (c : tie.After-shorter Inv-loop μ-loop) → let s = c .before .before .before .before in
     Step blockPlaces (s .args .channels) (s .args .frames) (length (sourceOf (s .args .ints .now) (s .args .floats .now))) (c .before .before .loop .done) (c .shorter .result)
-sizes c = let s = c .before .before .before .before in step (s .pre) (c .before .loop-test .taken) (c .shorter .ensures)
+sizes c = let s = c .before .before .before .before in step (omega arith) (s .pre) (c .before .loop-test .taken) (c .shorter .ensures)
 
 slice-aggregate-fill : tie.Need-slice-aggregate-fill Inv-loop μ-loop
 slice-aggregate-fill c = search needs

@@ -1,7 +1,6 @@
 -- `seeding::seed` meets its contract: the number of the check is the refusal, and past it the state is what the definitions say. Assumes nothing.
 use borrow.Author.Needs.{needs}
 use Prim.Native.Nat.{ℕ}
-use native.Mathlib.Nat.{le-of-eq}
 use native.Mathlib.Omega.{arith}
 use mathlib.Core.Path.{_≡_, sym, ap, _∙_}
 use mathlib.Core.List.{List}
@@ -16,7 +15,7 @@ use Rattle.sources.specs.Source.{sourceOf}
 use Rattle.sources.proofs.Cutting.{all-frames}
 use Rattle.states.specs.declared.State.{State}
 use Rattle.states.specs.Channels.{Call, callOf, stateAfter}
-use Rattle.states.proofs.Whole.{state-is}
+use Rattle.states.proofs.Runs.{state-is}
 use Rattle.seeding.specs.Seeding.{moved}
 use Rattle.seeding.proofs.seed.Statement.{statement}
 use Rattle.seeding.proofs.seed.Tie as tie
@@ -59,19 +58,14 @@ returns c =
 div-frames : tie.Need-div-frames
 div-frames c = ok c .frames .some
 
-advance-channels-requires : tie.Need-advance-channels-requires
-advance-channels-requires c κs =
+advance-all-requires : tie.Need-advance-all-requires
+advance-all-requires c κs =
     let e = c .before .before .before in
     let r = e .before in
     let n = r .before .size-of in
     let s = r .before .before .before .before in
-    let a = s .args in (
-      ok e .frames .few,
-      (
-        ok e .bytes,
-        le-of-eq (all-frames (a .channels) (n .result) (a .ints .now) (a .floats .now) (rw (n .ensures) (ok e .frames)) (n .ensures) (omega (arith, s .good)) (omega (arith, s .good)) .whole),
-      ),
-    )
+    let a = s .args in
+    (all-frames (a .channels) (n .result) (a .ints .now) (a .floats .now) (rw (n .ensures) (ok e .frames)) (n .ensures) (omega (arith, s .good)) (omega (arith, s .good)), ok e .bytes)
 
 returns-2 : tie.Need-returns-2
 unfolding moved
@@ -82,10 +76,10 @@ returns-2 c =
     let s = r .before .before .before .before in
     let z = goes (leaves s) (rows s) (sym (numbered r) ∙ e .if1 .left) in (
       ap saidBy (sym z),
-      ap (λ (v : List Float). record { values = v }) (c .advance-channels .ensures ∙ state-is (call s) (n .result) (ok e .frames .some) (n .ensures))
+      ap (λ (v : List Float). record { values = v }) (c .advance-all .ensures ∙ state-is (call s) (n .result) (ok e .frames .some) (n .ensures))
           ∙ sym (ap (λ (o : Outcome State NoValues). keptBy (s .args .s) o) z),
     )
 
 pub seed-spec : {M : Type 1} → statement M
 seed-spec =
-    tie.close (tie.spec size-of-requires refused-seed-requires returns div-frames advance-channels-requires returns-2)
+    tie.close (tie.spec size-of-requires refused-seed-requires returns div-frames advance-all-requires returns-2)

@@ -1,7 +1,6 @@
 -- `weighting::process_lent` meets its contract: the number of the check is the refusal, and past it state and destination are what the definitions say. Assumes nothing.
 use borrow.Author.Needs.{needs}
 use Prim.Native.Nat.{ℕ}
-use native.Mathlib.Nat.{le-of-eq}
 use native.Mathlib.Omega.{arith}
 use mathlib.Core.Path.{_≡_, sym, ap, _∙_}
 use mathlib.Core.Bool.{true}
@@ -15,7 +14,7 @@ use Rattle.calls.proofs.Checking.{Processes, processes}
 use Rattle.sources.specs.Source.{sourceOf}
 use Rattle.sources.proofs.Cutting.{all-frames}
 use Rattle.states.specs.Channels.{Call, callOf, stateAfter}
-use Rattle.states.proofs.Whole.{state-is}
+use Rattle.states.proofs.Runs.{state-is}
 use Rattle.weighting.specs.Weighting.{Kept, destAfter, weighingRows, weighed}
 use Rattle.weighting.proofs.Destinations.{dest-is}
 use Rattle.weighting.proofs.process_lent.Statement.{statement}
@@ -65,8 +64,8 @@ div-frames c = ok c .seed .frames .some
 div-part : tie.Need-div-part
 div-part c = ok c .seed .frames .some
 
-weigh-channels-requires : tie.Need-weigh-channels-requires
-weigh-channels-requires c κs =
+weigh-all-requires : tie.Need-weigh-all-requires
+weigh-all-requires c κs =
     let e = c .before .before in
     let r = e .before in
     let n = r .before .size-of in
@@ -74,7 +73,7 @@ weigh-channels-requires c κs =
     let a = s .args in
     let k = ok e .seed .frames in
     let d = ok e .room in (
-      le-of-eq (all-frames (a .channels) (n .result) (a .ints .now) (a .floats .now) (rw (n .ensures) k) (n .ensures) (omega (arith, s .good)) (omega (arith, s .good)) .whole),
+      all-frames (a .channels) (n .result) (a .ints .now) (a .floats .now) (rw (n .ensures) k) (n .ensures) (omega (arith, s .good)) (omega (arith, s .good)),
       record { few = k .few; bytes = ok e .seed .bytes; parts = d .parts; fits = rw (n .ensures) (d .fits) },
     )
 
@@ -93,10 +92,10 @@ returns-2 c =
     let some = ok e .seed .frames .some in
     let z = goes (leaves s) (rows s) (sym (numbered r) ∙ e .if1 .left) in (
       ap saidBy (sym z),
-      w .weigh-channels .ensures .0
+      w .weigh-all .ensures .0
           ∙ state-is (call s) (n .result) some (n .ensures)
           ∙ sym (ap (λ (o : Outcome Kept NoValues). keptBy (record { state = call s .state; dest = a .dest .now }) o .state .values) z),
-      w .weigh-channels .ensures .1
+      w .weigh-all .ensures .1
           ∙ dest-is (call s) (n .result) some (n .ensures) (a .dest .now) (a .start)
           ∙ sym (ap (λ (o : Outcome Kept NoValues). keptBy (record { state = call s .state; dest = a .dest .now }) o .dest) z),
     )
@@ -110,6 +109,6 @@ process-lent-spec =
     returns
     div-frames
     div-part
-    weigh-channels-requires
+    weigh-all-requires
     same-length
     returns-2)

@@ -4,8 +4,7 @@ use borrow.Author.Tests.{eq-eqb, ne-eqb}
 use mathlib.Core.Path.{refl, ap, _∙_}
 use Rattle.samples.specs.Frames.{column}
 use Rattle.recurrence.specs.declared.Memory.{Memory}
-use Rattle.sources.specs.Source.{sourceOf}
-use Rattle.recurrence.specs.Recurrence.{after, flushed}
+use Rattle.recurrence.specs.Recurrence.{after}
 use Rattle.states.specs.Channels.{withMemory}
 use Rattle.seeding.proofs.channels.advance_channel.Statement.{statement}
 use Rattle.seeding.proofs.channels.advance_channel.Tie as tie
@@ -19,23 +18,19 @@ load-requires c κs = search needs
 advance-requires : tie.Need-advance-requires
 advance-requires c κs = search needs
 
-flush-all-requires : tie.Need-flush-all-requires
-flush-all-requires c κs = search needs
-
 store-requires : tie.Need-store-requires
 store-requires c κs = search needs
 
 returns-2 : tie.Need-returns-2
 returns-2 c =
-    let v = c .before .before .before in
-    let q = v .before .before .before in
+    let v = c .before .before in
+    let l = v .before in
+    let q = l .before .before in
     let a = q .before .before .args in
     rw (ne-eqb (a .byte) 0 (q .if1 .left))
     (c .store .ensures
     ∙ ap (withMemory (a .state .now) (a .k))
-    (c .before .flush-all .ensures
-    ∙ ap flushed (v .advance .ensures ∙ ap (λ (m : Memory). after (a .a) m (column (sourceOf (a .ints .now) (a .floats .now)) (a .k) (a .channels) (a .count))) (v .before .load .ensures))))
+    (v .advance .ensures ∙ ap (λ (m : Memory). after (a .a) m (column (a .samples .now) (a .k) (a .channels) (a .count))) (l .load .ensures)))
 
 pub advance-channel-spec : {M : Type 1} → statement M
-advance-channel-spec =
-    tie.close (tie.spec returns load-requires advance-requires flush-all-requires store-requires returns-2)
+advance-channel-spec = tie.close (tie.spec returns load-requires advance-requires store-requires returns-2)

@@ -1,66 +1,73 @@
 -- `weighting::weigh` meets its contract: the frames left give what all of them give; two frames a turn, and one more where their number is odd. Assumes nothing.
 use borrow.Author.Needs.{needs}
-use Prim.Native.Nat.{_+_, _-_, _^_, _≤_, _<_}
+use Prim.Native.Nat.{_+_, _-_, _≤_, _<_}
 use native.Mathlib.Omega.{arith}
-use mathlib.Core.Path.{_≡_, refl, ap, _∙_}
-use lib.ListN.{length, set}
-use lib.Ieee.{Float}
+use mathlib.Core.Path.{_≡_, refl, _∙_}
+use lib.ListN.{length}
 use lib.Seq.{sets}
 use Rattle.samples.specs.Frames.{column}
 use Rattle.calls.specs.Calls.{mostChannels}
-use Rattle.sources.specs.Source.{sourceOf}
-use Rattle.sources.proofs.ByKind.{source-below}
-use Rattle.recurrence.specs.Recurrence.{next, out, after, outs}
+use Rattle.recurrence.specs.Recurrence.{after, outs}
 use Rattle.weighting.proofs.Single.{Single, turn, here, following, twice, end}
 use Rattle.weighting.proofs.channels.weigh.Statement.{statement}
 use Rattle.weighting.proofs.channels.weigh.Tie as tie
 
 abbrev Inv-loop : tie.InvT-loop
-Inv-loop c ints floats first step count dest₀ to w₀ left₀ i₀ j₀ dest w left i j =
+Inv-loop samples k dest₀ c step w₀ left₀ i₀ j₀ dest w left i j =
     (length dest ≡ length dest₀)
-    × Single (c .a) (c .b) (sourceOf ints floats) step
-    (after (c .a) w₀ (column (sourceOf ints floats) first step count))
-    (sets dest₀ to (outs (c .a) (c .b) w₀ (column (sourceOf ints floats) first step count)))
+    × Single (c .a) (c .b) samples step
+    (after (c .a) w₀ (column samples k step left₀))
+    (sets dest₀ j₀ (outs (c .a) (c .b) w₀ (column samples k step left₀)))
     w i j left dest
 
 abbrev μ-loop : tie.MeasureT-loop
-μ-loop c ints floats first step count dest₀ to w₀ left₀ i₀ j₀ dest w left i j = left
+μ-loop samples k dest₀ c step w₀ left₀ i₀ j₀ dest w left i j = left
+
+mul-j : tie.Need-mul-j Inv-loop μ-loop
+mul-j c = let s = c .before .before .before .before in omega (arith, s .pre .1, s .good)
+
+add-j : tie.Need-add-j Inv-loop μ-loop
+add-j c = let s = c .before .before .before .before .before in omega (arith, s .pre .1, s .good)
 
 loop-holds : tie.Need-loop-holds Inv-loop μ-loop
 loop-holds c =
-    let p = c .before .before .pre in
+    let p = c .before .before .before .before .before .pre in
     (refl, record { reach = p .0; room = p .1; memory = refl; given = refl })
 
-sample-at-requires : tie.Need-sample-at-requires Inv-loop μ-loop
-sample-at-requires c κs = here (c .before .loop .inv .1) (omega (arith, c .loop-test .taken)) .0
+-- where the first frame of a turn stands, and the second
+first : (c : tie.In-loop Inv-loop μ-loop) → let s = c .before .before .before .before .before .before .before in let l = c .before .loop in
+    (l .i < length (s .args .samples .now)) × (l .j < length (l .dest))
+first c = here (c .before .loop .inv .1) (omega (arith, c .loop-test .taken))
 
--- the second frame of a turn is there too
-second : (c : tie.In-loop Inv-loop μ-loop) → let s = c .before .before .before .before in let l = c .before .loop in
-    (l .i + s .args .step < length (sourceOf (s .args .ints .now) (s .args .floats .now))) × ((l .j + 1 < length (s .args .dest .now)) × (s .args .step ≤ mostChannels))
+second : (c : tie.In-loop Inv-loop μ-loop) → let s = c .before .before .before .before .before .before .before in let l = c .before .loop in
+    (l .i + s .args .work .channels < length (s .args .samples .now)) × ((l .j + 1 < length (s .args .dest .now)) × (s .args .work .channels ≤ mostChannels))
 second c =
     let l = c .before .loop in
     let r = following (l .inv .1) (c .loop-test .taken) in
     (r .0, (omega (arith, r .1 .0, l .inv .0), r .1 .1))
 
--- the samples are few enough
-small : (c : tie.In-loop Inv-loop μ-loop) → let a = c .before .before .before .before .args in length (sourceOf (a .ints .now) (a .floats .now)) < 2 ^ 63
-small c =
-    let s = c .before .before .before .before in
-    source-below (s .args .ints .now) (s .args .floats .now) (2 ^ 63) (omega (arith, s .good)) (omega (arith, s .good))
+mul-x : tie.Need-mul-x Inv-loop μ-loop
+mul-x c = omega (arith, first c .0, c .before .before .before .before .before .before .before .good)
 
-add-sample-at : tie.Need-add-sample-at Inv-loop μ-loop
-add-sample-at c = let q = c .before in omega (arith, second q .0, small q)
+shared-slice-read-x : tie.Need-shared-slice-read-x Inv-loop μ-loop
+shared-slice-read-x c = first (c .before) .0
 
-sample-at-requires-2 : tie.Need-sample-at-requires-2 Inv-loop μ-loop
-sample-at-requires-2 c κs = second (c .before) .0
+add-y : tie.Need-add-y Inv-loop μ-loop
+add-y c = let q = c .before in omega (arith, second q .0, q .before .before .before .before .before .before .before .good)
+
+mul-y : tie.Need-mul-y Inv-loop μ-loop
+mul-y c = let q = c .before in omega (arith, second q .0, q .before .before .before .before .before .before .before .good)
+
+shared-slice-read-y : tie.Need-shared-slice-read-y Inv-loop μ-loop
+shared-slice-read-y c = second (c .before .before) .0
 
 frame-requires : tie.Need-frame-requires Inv-loop μ-loop
-frame-requires c κs = let q = c .before .before .before in here (q .before .loop .inv .1) (omega (arith, q .loop-test .taken)) .1
+frame-requires c κs = first (c .before .before .before) .1
 
 add-frame : tie.Need-add-frame Inv-loop μ-loop
 add-frame c =
     let q = c .before .before .before .before .before .before .before in
-    omega (arith, second q .1 .0, q .before .before .before .before .good)
+    omega (arith, second q .1 .0, q .before .before .before .before .before .before .before .good)
 
 frame-requires-2 : tie.Need-frame-requires-2 Inv-loop μ-loop
 frame-requires-2 c κs =
@@ -69,17 +76,17 @@ frame-requires-2 c κs =
     omega (arith, second q .1 .0, t .frame .kept .1 .1 .1 .0, q .before .loop .inv .0)
 
 add-i : tie.Need-add-i Inv-loop μ-loop
-add-i c = search needs
+add-i c = let q = c .before .before .before .before .before .before .before .before .before .before in omega (arith, second q .1 .1)
 
 add-i-2 : tie.Need-add-i-2 Inv-loop μ-loop
 add-i-2 c =
     let q = c .before .before .before .before .before .before .before .before .before .before in
-    omega (arith, second q .0, second q .1 .1, small q)
+    omega (arith, second q .0, second q .1 .1, q .before .before .before .before .before .before .before .good)
 
-add-j : tie.Need-add-j Inv-loop μ-loop
-add-j c =
+add-j-2 : tie.Need-add-j-2 Inv-loop μ-loop
+add-j-2 c =
     let q = c .before .before .before .before .before .before .before .before .before .before in
-    omega (arith, second q .1 .0, q .before .before .before .before .good)
+    omega (arith, second q .1 .0, q .before .before .before .before .before .before .before .good)
 
 sub-left : tie.Need-sub-left Inv-loop μ-loop
 sub-left c = search needs
@@ -91,23 +98,21 @@ loop-again : tie.Need-loop-again Inv-loop μ-loop
 loop-again c =
     let two = c .before .before in
     let one = two .before .before .before .before in
-    let y = one .before .before in
-    let x = y .before in
-    let q = x .before in
-    let a = q .before .before .before .before .args in
+    let q = one .before .before .before .before in
     let l = q .before .loop in
     let e = one .frame .ensures in
     let f = two .frame2 .ensures in (
       two .frame2 .kept .1 .1 .1 .0 ∙ one .frame .kept .1 .1 .1 .0 ∙ l .inv .0,
-      twice (l .inv .1) (one .frame .result) (two .frame2 .result) _ _ (q .loop-test .taken)
-          (e .0 ∙ ap (next (a .c .a) (l .w)) (x .sample-at .ensures))
-          (e .1 ∙ ap (λ (v : Float). set (l .dest) (l .j) (out (a .c .a) (a .c .b) (l .w) v)) (x .sample-at .ensures))
-          (f .0 ∙ ap (next (a .c .a) (one .frame .result)) (y .sample-at2 .ensures))
-          (f .1 ∙ ap (λ (v : Float). set (one .frame .last .1 .1 .1 .0) (l .j + 1) (out (a .c .a) (a .c .b) (one .frame .result) v)) (y .sample-at2 .ensures)),
+      twice (l .inv .1) (one .frame .result) (two .frame2 .result) _ _ (q .loop-test .taken) (e .0) (e .1) (f .0) (f .1),
     )
 
-sample-at-requires-3 : tie.Need-sample-at-requires-3 Inv-loop μ-loop
-sample-at-requires-3 c κs = here (c .before .before .loop .inv .1) (c .if1 .taken) .0
+mul-frame : tie.Need-mul-frame Inv-loop μ-loop
+mul-frame c =
+    let l = c .before .before .loop in
+    omega (arith, here (l .inv .1) (c .if1 .taken) .0, c .before .before .before .before .before .before .before .before .good)
+
+shared-slice-read-frame : tie.Need-shared-slice-read-frame Inv-loop μ-loop
+shared-slice-read-frame c = let q = c .before in here (q .before .before .loop .inv .1) (q .if1 .taken) .0
 
 frame-requires-3 : tie.Need-frame-requires-3 Inv-loop μ-loop
 frame-requires-3 c κs = let q = c .before .before in here (q .before .before .loop .inv .1) (q .if1 .taken) .1
@@ -118,17 +123,11 @@ same-length c = search needs
 returns : tie.Need-returns Inv-loop μ-loop
 returns c =
     let t = c .before .before in
-    let x = t .before .before in
-    let q = x .before in
-    let a = q .before .before .before .before .before .args in
+    let q = t .before .before .before in
     let l = q .before .before .loop in
     let e = t .frame3 .ensures in
     let z : l .left - 1 ≡ 0 = omega (arith, q .before .loop-test .left, q .if1 .taken) in
-    end
-    (turn (l .inv .1) (t .frame3 .result) _ (q .if1 .taken)
-    (e .0 ∙ ap (next (a .c .a) (l .w)) (x .sample-at3 .ensures))
-    (e .1 ∙ ap (λ (v : Float). set (l .dest) (l .j) (out (a .c .a) (a .c .b) (l .w) v)) (x .sample-at3 .ensures)))
-    z
+    end (turn (l .inv .1) (t .frame3 .result) _ (q .if1 .taken) (e .0) (e .1)) z
 
 same-length-2 : tie.Need-same-length-2 Inv-loop μ-loop
 same-length-2 c = search needs
@@ -145,20 +144,25 @@ weigh-spec =
     (tie.spec
     Inv-loop
     μ-loop
+    mul-j
+    add-j
     loop-holds
-    sample-at-requires
-    add-sample-at
-    sample-at-requires-2
+    mul-x
+    shared-slice-read-x
+    add-y
+    mul-y
+    shared-slice-read-y
     frame-requires
     add-frame
     frame-requires-2
     add-i
     add-i-2
-    add-j
+    add-j-2
     sub-left
     loop-less
     loop-again
-    sample-at-requires-3
+    mul-frame
+    shared-slice-read-frame
     frame-requires-3
     same-length
     returns

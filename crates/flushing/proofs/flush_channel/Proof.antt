@@ -1,0 +1,32 @@
+-- `flushing::flush_channel` meets its contract: a byte of 0 leaves all as it is, and any other puts the channel's memory through `flush_all`. Assumes nothing.
+use borrow.Author.Needs.{needs}
+use borrow.Author.Tests.{eq-eqb, ne-eqb}
+use mathlib.Core.Path.{refl, ap, _∙_}
+use Rattle.recurrence.specs.Recurrence.{flushed}
+use Rattle.states.specs.Channels.{withMemory}
+use Rattle.flushing.proofs.flush_channel.Statement.{statement}
+use Rattle.flushing.proofs.flush_channel.Tie as tie
+
+returns : tie.Need-returns
+returns c = simp (eq-eqb _ _ (c .if1 .taken)) refl
+
+load-requires : tie.Need-load-requires
+load-requires c κs = search needs
+
+flush-all-requires : tie.Need-flush-all-requires
+flush-all-requires c κs = search needs
+
+store-requires : tie.Need-store-requires
+store-requires c κs = search needs
+
+returns-2 : tie.Need-returns-2
+returns-2 c =
+    let f = c .before in
+    let l = f .before .before in
+    let q = l .before .before in
+    let a = q .before .args in
+    rw (ne-eqb (a .byte) 0 (q .if1 .left)) (c .store .ensures ∙ ap (withMemory (a .state .now) (a .k)) (f .flush-all .ensures ∙ ap flushed (l .load .ensures)))
+
+pub flush-channel-spec : {M : Type 1} → statement M
+flush-channel-spec =
+    tie.close (tie.spec returns load-requires flush-all-requires store-requires returns-2)

@@ -1,0 +1,65 @@
+-- `flushing::flush_used` meets its contract: the channels left, from the state as it is, give what all of them give. Assumes nothing.
+use borrow.Author.Needs.{needs}
+use Prim.Native.Nat.{ℕ, _-_, _≤_}
+use native.Mathlib.Omega.{arith}
+use mathlib.Core.Path.{_≡_, sym, _∙_}
+use mathlib.Core.List.{List}
+use lib.ListN.{length, drop}
+use lib.Ieee.{Float}
+use Rattle.recurrence.specs.Recurrence.{flushed}
+use Rattle.states.specs.Channels.{memoryOf, withMemory, eachUsed}
+use Rattle.states.proofs.Each.{each-again, each-end}
+use Rattle.flushing.proofs.flush_used.Statement.{statement}
+use Rattle.flushing.proofs.flush_used.Tie as tie
+
+-- channel k's memory flushed in the state
+abbrev flushes : ℕ → List Float → List Float
+flushes k v = withMemory v k (flushed (memoryOf v k))
+
+abbrev Inv-loop : tie.InvT-loop
+Inv-loop state₀ map k₀ state k = (k ≤ length map) × (eachUsed flushes (drop k map) k state ≡ eachUsed flushes map 0 state₀)
+
+abbrev μ-loop : tie.MeasureT-loop
+μ-loop state₀ map k₀ state k = length map - k
+
+loop-holds : tie.Need-loop-holds Inv-loop μ-loop
+loop-holds c = search needs
+
+shared-slice-read-flush-channel : tie.Need-shared-slice-read-flush-channel Inv-loop μ-loop
+shared-slice-read-flush-channel c = search needs
+
+flush-channel-requires : tie.Need-flush-channel-requires Inv-loop μ-loop
+flush-channel-requires c κs = search needs
+
+add-k : tie.Need-add-k Inv-loop μ-loop
+add-k c = search needs
+
+loop-less : tie.Need-loop-less Inv-loop μ-loop
+loop-less c = search needs
+
+loop-again : tie.Need-loop-again Inv-loop μ-loop
+loop-again c =
+    let q = c .before .before .before in
+    let l = q .before .loop in
+    let a = q .before .before .before .args in
+    (search needs, each-again flushes (a .map .now) (l .k) (l .state) _ (q .loop-test .taken) (c .flush-channel .ensures) ∙ l .inv .1)
+
+returns : tie.Need-returns Inv-loop μ-loop
+returns c =
+    let l = c .before .loop in
+    let a = c .before .before .before .args in
+    sym (each-end flushes (a .map .now) (l .k) (l .state) (omega (arith, c .loop-test .left))) ∙ l .inv .1
+
+pub flush-used-spec : {M : Type 1} → statement M
+flush-used-spec =
+    tie.close
+    (tie.spec
+    Inv-loop
+    μ-loop
+    loop-holds
+    shared-slice-read-flush-channel
+    flush-channel-requires
+    add-k
+    loop-less
+    loop-again
+    returns)

@@ -1,0 +1,98 @@
+-- `weighting::weigh_run` meets its contract: the channels left, from the state and the destination as they are, give what all of them give. Assumes nothing.
+use Prim.Native.Nat.{ℕ, _-_, _≤_, _<_}
+use native.Mathlib.Omega.{arith}
+use mathlib.Core.Path.{_≡_, refl, sym, ap, _∙_}
+use mathlib.Core.List.{List}
+use lib.ListN.{length, drop}
+use lib.Ieee.{Float}
+use Rattle.states.specs.Channels.{eachUsed}
+use Rattle.states.proofs.Each.{each-end}
+use Rattle.weighting.specs.declared.channels.Work.{Work}
+use Rattle.weighting.specs.Weighting.{Kept}
+use Rattle.weighting.specs.Inner.{Parts, keptOf, weighOne}
+use Rattle.weighting.proofs.channels.weigh_run.Statement.{statement}
+use Rattle.weighting.proofs.channels.weigh_run.Tie as tie
+
+abbrev Inv-loop : tie.InvT-loop
+Inv-loop work state₀ samples map dest₀ channels k₀ state dest k =
+    (k ≤ channels)
+    × ((length dest ≡ length dest₀)
+    × (eachUsed (weighOne work samples) (drop k map) k (keptOf state dest) ≡ eachUsed (weighOne work samples) map 0 (keptOf state₀ dest₀)))
+
+abbrev μ-loop : tie.MeasureT-loop
+μ-loop work state₀ samples map dest₀ channels k₀ state dest k = channels - k
+
+-- the same parts in a destination as long
+still : (work : Work) (mapped n n′ : ℕ) → Parts work mapped n → n′ ≡ n → Parts work mapped n′
+still work mapped n n′ p e = record { few = p .few; bytes = p .bytes; parts = p .parts ∙ sym e; fits = p .fits }
+
+loop-holds : tie.Need-loop-holds Inv-loop μ-loop
+loop-holds c = (omega arith, (refl, refl))
+
+weigh-next-requires : tie.Need-weigh-next-requires Inv-loop μ-loop
+weigh-next-requires c κs =
+    let q = c .before .before in
+    let s = q .before .before .before .before .before in
+    (q .loop-test .taken, (s .pre .0, still (s .args .work) _ _ _ (s .pre .1) (q .before .loop .inv .1 .0)))
+
+-- the destination is as long after the first step of a turn
+long : (c : tie.After-weigh-next Inv-loop μ-loop) → let s = c .before .before .before .before .before .before .before .before in
+    length (c .weigh-next .last .1 .1 .1 .1 .0) ≡ length (s .args .dest .now)
+long c = c .weigh-next .kept .1 .1 .1 .1 .0 ∙ c .before .before .before .before .loop .inv .1 .0
+
+weigh-next-requires-2 : tie.Need-weigh-next-requires-2 Inv-loop μ-loop
+weigh-next-requires-2 c κs =
+    let q = c .before .before in
+    let w = q .before .before .before in
+    let s = w .before .before .before .before .before .before .before .before in
+    (q .if1 .taken, (s .pre .0, still (s .args .work) _ _ _ (s .pre .1) (long w)))
+
+loop-less : tie.Need-loop-less Inv-loop μ-loop
+loop-less c =
+    let t = c .before .before in
+    omega (arith, t .weigh-next2 .ensures .0, t .before .before .before .before .before .before .weigh-next .ensures .0)
+
+loop-again : tie.Need-loop-again Inv-loop μ-loop
+loop-again c =
+    let t = c .before .before in
+    let w = t .before .before .before .before .before .before in
+    let l = w .before .before .before .before in
+    let e = t .weigh-next2 .ensures in
+    (e .0 .1, (t .weigh-next2 .kept .1 .1 .1 .1 .0 ∙ long w, e .1 ∙ w .weigh-next .ensures .1 ∙ l .loop .inv .1 .1))
+
+loop-less-2 : tie.Need-loop-less-2 Inv-loop μ-loop
+loop-less-2 c = let w = c .before .before .before in omega (arith, w .weigh-next .ensures .0)
+
+loop-again-2 : tie.Need-loop-again-2 Inv-loop μ-loop
+loop-again-2 c =
+    let w = c .before .before .before in
+    let l = w .before .before .before .before in
+    let f = w .weigh-next .ensures in
+    (f .0 .1, (long w, f .1 ∙ l .loop .inv .1 .1))
+
+same-length : tie.Need-same-length Inv-loop μ-loop
+same-length c = c .before .loop .inv .1 .0
+
+returns : tie.Need-returns Inv-loop μ-loop
+returns c =
+    let l = c .before .loop in
+    let s = c .before .before .before .before .before in
+    let a = s .args in
+    let h : length (a .map .now) ≤ l .k = omega (arith, c .loop-test .left, s .pre .1 .bytes) in
+    sym (each-end (weighOne (a .work) (a .samples .now)) (a .map .now) (l .k) (keptOf (l .state) (l .dest)) h) ∙ l .inv .1 .1
+
+pub weigh-run-spec : {M : Type 1} → statement M
+weigh-run-spec =
+    tie.close
+    (tie.spec
+    Inv-loop
+    μ-loop
+    loop-holds
+    weigh-next-requires
+    weigh-next-requires-2
+    loop-less
+    loop-again
+    loop-less-2
+    loop-again-2
+    same-length
+    returns)
