@@ -7,11 +7,12 @@ use native.Mathlib.Omega.{arith}
 use borrow.Author.Tests.{eq-eqb}
 use lib.ListN.{length, getD, length-drop}
 use lib.Seq.{getD-drop}
-use Rattle.refusals.specs.Outcome.{went, answers, done}
+use Rattle.refusals.specs.Outcome.{went, done}
+use Rattle.refusals.specs.Rows.{numberOf}
 use Rattle.histogram_bins.specs.Bin.{bins}
 use Rattle.layout.specs.declared.Kind.the-variants.{Histogram}
-use Rattle.layout.specs.Layout.{histogramLength, orderOf, bodyIn, numbersIn, allBytes, frameOf, recordOf}
-use Rattle.layout.proofs.Frames.{framed, passes-it, passed-it}
+use Rattle.layout.specs.Layout.{kindWidth, headWidth, histogramLength, orderOf, bodyIn, numbersIn, allBytes, frameRows, recordOf}
+use Rattle.layout.proofs.Frames.{framed, passes}
 use Rattle.layout.proofs.Again.{record-body, record-passes, record-again, whole-read, whole-written}
 use Rattle.histogram_reader.specs.Record.{countWidth, countersIn, readHistogram}
 use Rattle.histogram_reader.proofs.Cases.{framed-length, read-went}
@@ -24,12 +25,12 @@ Counting counters = (bin : ℕ) → getD counters bin 0 < 2 ^ 32
 
 -- ---- what was written is read
 module _ (counters : List ℕ) (h : length counters ≡ bins) where
-  pub written-passes : frameOf Histogram (histogramRecord counters) ≡ answers done
+  pub written-passes : numberOf (frameRows Histogram (histogramRecord counters)) ≡ 0
   unfolding histogramRecord
   written-passes =
       let body = allBytes (orderOf Histogram) countWidth counters in
-      passes-it Histogram (recordOf Histogram body)
-      (record-passes Histogram body (omega (arith, body-length counters h)) (eq-eqb (2 + length body) histogramLength (omega (arith, body-length counters h))))
+      passes Histogram (recordOf Histogram body)
+      (record-passes Histogram body (omega (arith, body-length counters h)) (eq-eqb (kindWidth + length body) histogramLength (omega (arith, body-length counters h))))
 
   pub counters-again : Counting counters → countersIn (histogramRecord counters) ≡ counters
   unfolding histogramRecord countersIn
@@ -40,16 +41,15 @@ module _ (counters : List ℕ) (h : length counters ≡ bins) where
 
   pub read-what-was-written : Counting counters → (store : List ℕ) → length store ≡ bins → readHistogram (histogramRecord counters) store ≡ went counters done
   read-what-was-written fit store s =
-      read-went (histogramRecord counters) store (passed-it Histogram (histogramRecord counters) written-passes) s ∙ ap (λ (l : List ℕ). went l done) (counters-again fit)
+      read-went (histogramRecord counters) store written-passes s ∙ ap (λ (l : List ℕ). went l done) (counters-again fit)
 
 -- ---- what is read was so written
-pub write-what-was-read : (bytes : List ℕ) → ((i : ℕ) → getD bytes i 0 < 256) → frameOf Histogram bytes ≡ answers done → histogramRecord (countersIn bytes) ≡ bytes
+pub write-what-was-read : (bytes : List ℕ) → ((i : ℕ) → getD bytes i 0 < 256) → numberOf (frameRows Histogram bytes) ≡ 0 → histogramRecord (countersIn bytes) ≡ bytes
 unfolding histogramRecord countersIn
 write-what-was-read bytes b e =
-    let p = passed-it Histogram bytes e in
-    let n : length (bodyIn bytes) ≡ 4 * 1000 = omega (arith, framed-length bytes p, length-drop 6 bytes) in
-    ap (recordOf Histogram) (whole-written (orderOf Histogram) countWidth bins (bodyIn bytes) (λ i. rw (getD-drop 6 bytes i 0) (b (6 + i))) n)
-    ∙ record-again Histogram bytes b (framed Histogram bytes p)
+    let n : length (bodyIn bytes) ≡ countWidth * bins = omega (arith, framed-length bytes e, length-drop headWidth bytes) in
+    ap (recordOf Histogram) (whole-written (orderOf Histogram) countWidth bins (bodyIn bytes) (λ i. rw (getD-drop headWidth bytes i 0) (b (headWidth + i))) n)
+    ∙ record-again Histogram bytes b (framed Histogram bytes e)
 
 -- ---- one reading: what the store held plays no part
 pub one-reading : (bytes store other : List ℕ) → length store ≡ bins → length other ≡ bins → readHistogram bytes store ≡ readHistogram bytes other

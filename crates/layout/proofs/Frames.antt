@@ -1,5 +1,5 @@
 -- What bytes that pass the frame have, each fact found by the name of its row, and that such bytes pass. Assumes nothing.
-use mathlib.Core.Path.{_≡_, sym, ap}
+use mathlib.Core.Path.{_≡_}
 use mathlib.Core.Bool.{true}
 use mathlib.Core.List.{List}
 use Prim.Native.Nat.{ℕ, _-_, _≤_}
@@ -7,12 +7,11 @@ use borrow.Author.Tests.{le-ltb, ltb-false, eq-eqb, eqb-true, not-false}
 use lib.Dec.{eqb}
 use lib.ListN.{length}
 use Rattle.refusals.specs.Refusal.{LENGTH, KIND}
-use Rattle.refusals.specs.Outcome.{answers, done, saidBy}
 use Rattle.refusals.specs.Rows.{numberOf}
-use Rattle.refusals.proofs.Rows.{not-held, goes}
+use Rattle.refusals.proofs.Rows.{not-held}
 use Rattle.layout.specs.declared.Kind.{Kind}
-use Rattle.layout.specs.Layout.{kindNumber, canBe, headWidth, lengthWidth, lengthIn, kindIn, frameRows, frameOf}
-use Rattle.layout.proofs.Rows.{not-held-after, passed}
+use Rattle.layout.specs.Layout.{kindNumber, canBe, headWidth, lengthWidth, lengthIn, kindIn, frameRows}
+use Rattle.layout.proofs.Rows.{not-held-after}
 
 -- bytes that pass
 pub record Framed (kind : Kind) (bytes : List ℕ) : Type 0 where
@@ -42,12 +41,3 @@ module _ (kind : Kind) (bytes : List ℕ) where
         eq-eqb (lengthIn bytes) (length bytes - lengthWidth) (f .length-is),
         f .can-be,
       )
-
-  -- as the test says it
-  pub passes-it : Framed kind bytes → frameOf kind bytes ≡ answers done
-  unfolding frameOf
-  passes-it f = goes (answers done) (frameRows kind bytes) (passes f)
-
-  pub passed-it : frameOf kind bytes ≡ answers done → numberOf (frameRows kind bytes) ≡ 0
-  unfolding frameOf
-  passed-it e = passed (frameRows kind bytes) (sym (ap saidBy e))

@@ -1,22 +1,23 @@
--- What a queue's record that passes the frame has, what its reading comes to behind the frame, and what numbers that fit keep. Assumes nothing.
-use mathlib.Core.Path.{_≡_, refl, sym, ap, _∙_}
-use mathlib.Core.Bool.{Bool, true, false, _&&_, true≢false}
+-- What a queue's record that passes has, and what its reading comes to behind the frame. Assumes nothing.
+use mathlib.Core.Path.{_≡_, refl, ap, _∙_}
+use mathlib.Core.Bool.{true, _&&_}
 use mathlib.Core.List.{List, [], _∷_, _++_}
 use Prim.Native.Nat.{ℕ, suc, _+_, _-_, _*_, _≤_}
 use native.Mathlib.Omega.{arith}
-use borrow.Author.Tests.{eq-eqb, leb-true}
-use lib.Dec.{leb}
+use borrow.Author.Tests.{eq-eqb, eqb-true, leb-true, not-false}
+use lib.Dec.{eqb, leb}
 use lib.ListN.{length, drop}
 use lib.Seq.{sets, sets-eq}
 use lib.Ieee.{Float}
+use Rattle.refusals.specs.Refusal.{STORE, LENGTH, CONTENT}
 use Rattle.refusals.specs.Outcome.{went}
 use Rattle.refusals.specs.Rows.{numberOf}
-use Rattle.refusals.proofs.Rows.{goes}
+use Rattle.refusals.proofs.Rows.{goes, not-held}
 use Rattle.fields.specs.declared.Order.{Order}
 use Rattle.queue.specs.Queue.{longest}
 use Rattle.layout.specs.declared.Kind.the-variants.{Queue as QueueKind}
 use Rattle.layout.specs.Layout.{lengthWidth, queueLeast, orderOf, lengthIn, frameRows}
-use Rattle.layout.proofs.Rows.{behind}
+use Rattle.layout.proofs.Rows.{not-held-after, behind}
 use Rattle.layout.proofs.Frames.{framed}
 use Rattle.layout.proofs.Runs.{numbers-length}
 use Rattle.queue_reader.specs.QueueRecord.{
@@ -34,6 +35,7 @@ use Rattle.queue_reader.specs.QueueRecord.{
   readQueue,
 }
 use Rattle.queue_reader.specs.Inner.{bodyRead}
+use Rattle.queue_reader.proofs.Patterns.{both}
 
 -- ---- bytes that pass the frame
 module _ (bytes : List ℕ) (e : numberOf (frameRows QueueKind bytes) ≡ 0) where
@@ -52,25 +54,46 @@ module _ (bytes : List ℕ) (e : numberOf (frameRows QueueKind bytes) ≡ 0) whe
       behind (went (stored (orderOf QueueKind) bytes store) (queueIn (orderOf QueueKind) bytes)) (frameRows QueueKind bytes) (bodyRows (orderOf QueueKind) bytes store) e
 
 -- ---- the body
-module _ (order : Order) (bytes : List ℕ) (store : List Float) where
-  pub body-passes : numbersFit (maximumIn order bytes) (heldIn order bytes) ≡ true → lengthIn bytes ≡ queueLeast + energyWidth * heldIn order bytes
-      → allFit (patternsIn order bytes) ≡ true → length store ≡ maximumIn order bytes → numberOf (bodyRows order bytes store) ≡ 0
-  body-passes h l f s = rw (h, eq-eqb (lengthIn bytes) (queueLeast + energyWidth * heldIn order bytes) l, f, eq-eqb (length store) (maximumIn order bytes) s)
+-- a body that passes, over a store
+pub record Sound (order : Order) (bytes : List ℕ) (store : List Float) : Type 0 where
+  pub numbers : numbersFit (maximumIn order bytes) (heldIn order bytes) ≡ true
+  pub length-is : lengthIn bytes ≡ queueLeast + energyWidth * heldIn order bytes
+  pub fit : allFit (patternsIn order bytes) ≡ true
+  pub store-is : length store ≡ maximumIn order bytes
 
-  pub body-went : numberOf (bodyRows order bytes store) ≡ 0 → bodyRead order bytes store ≡ went (stored order bytes store) (queueIn order bytes)
+module _ (order : Order) (bytes : List ℕ) (store : List Float) where
+  -- each fact is found by the name of its row
+  pub sound : numberOf (bodyRows order bytes store) ≡ 0 → Sound order bytes store
+  sound e =
+      let rows = bodyRows order bytes store in
+      let following = queueLeast + energyWidth * heldIn order bytes in
+      record {
+        numbers = not-false (numbersFit (maximumIn order bytes) (heldIn order bytes)) (not-held CONTENT rows e);
+        length-is = eqb-true (lengthIn bytes) following (not-false (eqb (lengthIn bytes) following) (not-held LENGTH rows e));
+        fit = not-false (allFit (patternsIn order bytes)) (not-held-after 1 CONTENT rows e);
+        store-is = eqb-true (length store) (maximumIn order bytes) (not-false (eqb (length store) (maximumIn order bytes)) (not-held STORE rows e));
+      }
+
+  pub sound-passes : Sound order bytes store → numberOf (bodyRows order bytes store) ≡ 0
+  sound-passes f =
+      rw (
+        f .numbers,
+        eq-eqb (lengthIn bytes) (queueLeast + energyWidth * heldIn order bytes) (f .length-is),
+        f .fit,
+        eq-eqb (length store) (maximumIn order bytes) (f .store-is),
+      )
+
+  pub body-went : Sound order bytes store → bodyRead order bytes store ≡ went (stored order bytes store) (queueIn order bytes)
   unfolding bodyRead
-  body-went e = goes (went (stored order bytes store) (queueIn order bytes)) (bodyRows order bytes store) e
+  body-went f = goes (went (stored order bytes store) (queueIn order bytes)) (bodyRows order bytes store) (sound-passes f)
 
 -- ---- what numbers that fit keep
-pub held-within : (maximum held : ℕ) → numbersFit maximum held ≡ true → (maximum ≤ longest) × (held ≤ maximum)
+pub numbers-within : (maximum held : ℕ) → numbersFit maximum held ≡ true → (1 ≤ maximum) × (maximum ≤ longest) × (held ≤ maximum)
 unfolding numbersFit
-held-within maximum held h = go (leb 1 maximum) (leb maximum longest) (leb held maximum) refl refl h
-  where
-    go : (a b d : Bool) → leb maximum longest ≡ b → leb held maximum ≡ d → a && (b && d) ≡ true → (maximum ≤ longest) × (held ≤ maximum)
-    go false b d p q e = absurd (true≢false (sym e))
-    go true false d p q e = absurd (true≢false (sym e))
-    go true true false p q e = absurd (true≢false (sym e))
-    go true true true p q e = (leb-true maximum longest p, leb-true held maximum q)
+numbers-within maximum held h =
+    let least = both (leb 1 maximum) (leb maximum longest && leb held maximum) h in
+    let others = both (leb maximum longest) (leb held maximum) (least .1) in
+    (leb-true 1 maximum (least .0), leb-true maximum longest (others .0), leb-true held maximum (others .1))
 
 map-length : (l : List ℕ) → length (energiesOf l) ≡ length l
 map-length [] = refl

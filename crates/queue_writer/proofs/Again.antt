@@ -10,7 +10,9 @@ use lib.ListN.{length, getD, take, drop, length-append, length-drop, take-append
 use lib.Seq.{take-at, drop-at, drop-drop, getD-drop, take-add}
 use lib.Ieee.{Float, binary64}
 use lib.Ieee.Bits.{toBits-lt}
-use Rattle.refusals.specs.Outcome.{went, answers, done, saidBy}
+use Rattle.refusals.specs.Outcome.{went, saidBy}
+use Rattle.refusals.specs.Rows.{numberOf}
+use Rattle.refusals.proofs.Rows.{number-parts}
 use Rattle.fields.specs.declared.Order.{Order}
 use Rattle.fields.specs.Field.{numberIn, bytesOf}
 use Rattle.fields.proofs.Orders.{bytes-length, read-again, write-again}
@@ -20,9 +22,9 @@ use Rattle.queue.proofs.Ring.{Suited, suits-it}
 use Rattle.queue.proofs.Held.{held-parts}
 use Rattle.layout.specs.declared.Kind.{Kind}
 use Rattle.layout.specs.declared.Kind.the-variants.{Queue as QueueKind}
-use Rattle.layout.specs.Layout.{kindWidth, headWidth, queueLeast, orderOf, numbersIn, allBytes, lengthIn, frameOf, recordOf}
+use Rattle.layout.specs.Layout.{kindWidth, headWidth, queueLeast, orderOf, numbersIn, allBytes, lengthIn, frameRows, recordOf}
 use Rattle.layout.proofs.Rows.{same-said}
-use Rattle.layout.proofs.Frames.{Framed, framed, passes, passed-it}
+use Rattle.layout.proofs.Frames.{Framed, framed, passes}
 use Rattle.layout.proofs.Runs.{numbers-small}
 use Rattle.layout.proofs.Again.{record-body, record-passes, record-again, whole-read, whole-written}
 use Rattle.queue_reader.specs.QueueRecord.{
@@ -40,10 +42,11 @@ use Rattle.queue_reader.specs.QueueRecord.{
   patternsOf,
   stored,
   queueIn,
+  bodyRows,
   readQueueRows,
   readQueue,
 }
-use Rattle.queue_reader.proofs.Cases.{read-behind, body-passes, body-went, energies-count}
+use Rattle.queue_reader.proofs.Cases.{Sound, sound, read-behind, body-went, numbers-within, energies-count}
 use Rattle.queue_writer.specs.Writing.{bodyOf, queueRecord, writeQueue}
 use Rattle.queue_writer.proofs.Places.{patterns-length}
 use Rattle.queue_writer.proofs.Cases.{body-length, whole-length}
@@ -121,7 +124,7 @@ module _ (maximum : ℕ) (energies : List Float) (few : maximum ≤ longest) (wi
       let long : lengthIn written ≡ queueLeast + energyWidth * heldIn order written = omega (arith, written-passes .length-is, whole-length maximum energies, h) in
       let fit : allFit (patternsIn order written) ≡ true = ap allFit p ∙ patterns-in energies doubles none in
       read-behind written (passes QueueKind written written-passes) store
-      ∙ body-went order written store (body-passes order written store numbers long fit (s ∙ sym m))
+      ∙ body-went order written store (record { numbers = numbers; length-is = long; fit = fit; store-is = s ∙ sym m })
       ∙ ap (λ (l : List ℕ). went (energiesOf l ++ drop (heldIn order written) store) (queueIn order written)) p
       ∙ ap (λ (l : List Float). went (l ++ drop (heldIn order written) store) (queueIn order written)) (energies-again energies doubles)
       ∙ ap (λ (n : ℕ). went (energies ++ drop n store) (record { maximum = maximumIn order written; head = 0; held = n })) h
@@ -153,16 +156,15 @@ module _ (order : Order) (bytes : List ℕ) (b : (i : ℕ) → getD bytes i 0 < 
       ∙ ap (λ (k : List ℕ). k ++ drop 8 body) (sym (take-add 4 4 body))
       ∙ take-append-drop 8 body
 
-module _ (bytes : List ℕ) (b : (i : ℕ) → getD bytes i 0 < 256) (f : frameOf QueueKind bytes ≡ answers done)
-    (fit : allFit (patternsIn (orderOf QueueKind) bytes) ≡ true) (l : lengthIn bytes ≡ queueLeast + energyWidth * heldIn (orderOf QueueKind) bytes) where
-  framed-so : Framed QueueKind bytes
-  framed-so = framed QueueKind bytes (passed-it QueueKind bytes f)
-
-  pub write-what-was-read : queueRecord (maximumIn (orderOf QueueKind) bytes) (energiesOf (patternsIn (orderOf QueueKind) bytes)) ≡ bytes
-  unfolding queueRecord
-  write-what-was-read =
-      ap (recordOf QueueKind) (body-again (orderOf QueueKind) bytes b fit (omega (arith, framed-so .length-is, framed-so .long, l)))
-      ∙ record-again QueueKind bytes b framed-so
+pub write-what-was-read : (bytes : List ℕ) (store : List Float) → ((i : ℕ) → getD bytes i 0 < 256) → numberOf (readQueueRows bytes store) ≡ 0
+    → queueRecord (maximumIn (orderOf QueueKind) bytes) (energiesOf (patternsIn (orderOf QueueKind) bytes)) ≡ bytes
+unfolding queueRecord
+write-what-was-read bytes store b e =
+    let order = orderOf QueueKind in
+    let p = number-parts (frameRows QueueKind bytes) (bodyRows order bytes store) e in
+    let f = framed QueueKind bytes (p .0) in
+    let s = sound order bytes store (p .1) in
+    ap (recordOf QueueKind) (body-again order bytes b (s .fit) (omega (arith, f .length-is, f .long, s .length-is))) ∙ record-again QueueKind bytes b f
 
 -- ---- one reading: what the store held plays no part in the answer
 pub one-reading : (bytes : List ℕ) (store other : List Float) → length store ≡ length other → saidBy (readQueue bytes store) ≡ saidBy (readQueue bytes other)
@@ -172,20 +174,21 @@ one-reading bytes store other e =
     rw e (same-said (readQueueRows bytes other) (stored order bytes store) (stored order bytes other) (queueIn order bytes))
 
 -- ---- a queue that was read holds the record's energies, from place 0
-module _ (order : Order) (bytes : List ℕ) (store : List Float)
-    (numbers : (1 ≤ maximumIn order bytes) × (maximumIn order bytes ≤ longest) × (heldIn order bytes ≤ maximumIn order bytes))
-    (s : length store ≡ maximumIn order bytes) where
+module _ (order : Order) (bytes : List ℕ) (store : List Float) (s : Sound order bytes store) where
+  within : (1 ≤ maximumIn order bytes) × (maximumIn order bytes ≤ longest) × (heldIn order bytes ≤ maximumIn order bytes)
+  within = numbers-within (maximumIn order bytes) (heldIn order bytes) (s .numbers)
+
   pub suited-read : Suited (queueIn order bytes) (length (stored order bytes store))
   unfolding stored
   suited-read =
       let n = length-append (energiesOf (patternsIn order bytes)) (drop (heldIn order bytes) store) in
       let d = length-drop (heldIn order bytes) store in
       record {
-        least = numbers .0;
-        most = numbers .1;
-        whole = omega (arith, n, d, s, energies-count order bytes, numbers .2);
-        within = omega (arith, numbers .0);
-        full = numbers .2;
+        least = within .0;
+        most = within .1;
+        whole = omega (arith, n, d, s .store-is, energies-count order bytes, within .2);
+        within = omega (arith, within .0);
+        full = within .2;
       }
 
   pub held-read : heldOf (over (queueIn order bytes) (stored order bytes store)) ≡ energiesOf (patternsIn order bytes)
@@ -195,7 +198,7 @@ module _ (order : Order) (bytes : List ℕ) (store : List Float)
       let held = heldIn order bytes in
       let energies = energiesOf (patternsIn order bytes) in
       let all = energies ++ drop held store in
-      let n : firstPart queue ≡ held = omega (arith, numbers .2) in
+      let n : firstPart queue ≡ held = omega (arith, within .2) in
       held-parts queue all suited-read
       ∙ ap (λ (k : ℕ). take k all ++ take (held - k) all) n
       ∙ ap (λ (k : ℕ). take held all ++ take k all) {x = held - held} {y = 0} (omega arith)
@@ -203,18 +206,17 @@ module _ (order : Order) (bytes : List ℕ) (store : List Float)
       ∙ take-at energies (drop held store) held (energies-count order bytes)
 
 -- so writing the queue that was read gives back the record's bytes
-pub written-as-read : (bytes : List ℕ) (store : List Float) → ((i : ℕ) → getD bytes i 0 < 256) → frameOf QueueKind bytes ≡ answers done →
-    let order = orderOf QueueKind in
-    (1 ≤ maximumIn order bytes) × (maximumIn order bytes ≤ longest) × (heldIn order bytes ≤ maximumIn order bytes)
-    → lengthIn bytes ≡ queueLeast + energyWidth * heldIn order bytes → allFit (patternsIn order bytes) ≡ true → length store ≡ maximumIn order bytes
-    → (out : List ℕ) → length bytes ≤ length out → writeQueue (over (queueIn order bytes) (stored order bytes store)) out ≡ went (bytes ++ drop (length bytes) out) (length bytes)
+pub written-as-read : (bytes : List ℕ) (store : List Float) → ((i : ℕ) → getD bytes i 0 < 256) → numberOf (readQueueRows bytes store) ≡ 0
+    → (out : List ℕ) → length bytes ≤ length out
+    → writeQueue (over (queueIn (orderOf QueueKind) bytes) (stored (orderOf QueueKind) bytes store)) out ≡ went (bytes ++ drop (length bytes) out) (length bytes)
 unfolding writeQueue
-written-as-read bytes store b f numbers l fit s out room =
+written-as-read bytes store b e out room =
     let order = orderOf QueueKind in
+    let s = sound order bytes store (number-parts (frameRows QueueKind bytes) (bodyRows order bytes store) e .1) in
     rw (
-      suits-it (queueIn order bytes) (length (stored order bytes store)) (suited-read order bytes store numbers s),
-      held-read order bytes store numbers s,
-      energies-in (patternsIn order bytes) fit,
-      write-what-was-read bytes b f fit l,
+      suits-it (queueIn order bytes) (length (stored order bytes store)) (suited-read order bytes store s),
+      held-read order bytes store s,
+      energies-in (patternsIn order bytes) (s .fit),
+      write-what-was-read bytes store b e,
       le-ltb (length out) (length bytes) room,
     )

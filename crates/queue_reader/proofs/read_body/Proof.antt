@@ -15,7 +15,7 @@ use Rattle.queue.specs.Queue.{longest}
 use Rattle.layout.specs.Layout.{queueLeast, numbersIn, lengthIn}
 use Rattle.queue_reader.specs.QueueRecord.{energyWidth, leastLength, maximumIn, heldIn, patternsIn, numbersFit, allFit, energiesOf, queueIn}
 use Rattle.queue_reader.specs.Inner.{bodyRead}
-use Rattle.queue_reader.proofs.Cases.{body-passes, body-went, held-within, stored-is}
+use Rattle.queue_reader.proofs.Cases.{Sound, body-went, numbers-within, stored-is}
 use Rattle.queue_reader.proofs.read_body.Statement.{statement}
 use Rattle.queue_reader.proofs.read_body.Tie as tie
 
@@ -28,8 +28,12 @@ tested c =
     ∙ ap (numbersFit (c .before .before .number-at .result)) (sym (c .before .number-at2 .ensures))
     ∙ sym (c .numbers-fit .ensures)
 
-small : (c : tie.Else1) → (c .before .before .before .number-at .result ≤ longest) × (c .before .before .number-at2 .result ≤ c .before .before .before .number-at .result)
-small c = held-within (c .before .before .before .number-at .result) (c .before .before .number-at2 .result) (sym (c .before .numbers-fit .ensures) ∙ not-false (c .before .numbers-fit .result) (c .if1 .left))
+small : (c : tie.Else1) →
+    let maximum = c .before .before .before .number-at .result in
+    (1 ≤ maximum) × (maximum ≤ longest) × (c .before .before .number-at2 .result ≤ maximum)
+small c =
+    numbers-within (c .before .before .before .number-at .result) (c .before .before .number-at2 .result)
+    (sym (c .before .numbers-fit .ensures) ∙ not-false (c .before .numbers-fit .result) (c .if1 .left))
 
 fitting : (c : tie.Else1) → let a = c .before .before .before .before .before .before .args in
     numbersFit (maximumIn (a .order) (now (a .bytes))) (heldIn (a .order) (now (a .bytes))) ≡ true
@@ -60,10 +64,10 @@ unfolding bodyRead
 returns c = rw (tested (c .before) ∙ not-true (c .before .numbers-fit .result) (c .if1 .taken)) (refl, refl)
 
 mul-if2 : tie.Need-mul-if2
-mul-if2 c = omega (arith, small c .0, small c .1)
+mul-if2 c = omega (arith, small c .1, small c .2)
 
 add-if2 : tie.Need-add-if2
-add-if2 c = omega (arith, small c .0, small c .1)
+add-if2 c = omega (arith, small c .1, small c .2)
 
 returns-2 : tie.Need-returns-2
 unfolding bodyRead
@@ -115,7 +119,7 @@ read-energies-requires c κs =
     let d = c .before in
     let f = d .before .before in
     let e = f .before .before in
-    (omega (arith, f .before .if2 .left), omega (arith, d .if4 .left, small e .1), sym (f .energies-fit .ensures) ∙ not-false (f .energies-fit .result) (d .before .if3 .left))
+    (omega (arith, f .before .if2 .left), omega (arith, d .if4 .left, small e .2), sym (f .energies-fit .ensures) ∙ not-false (f .energies-fit .result) (d .before .if3 .left))
 
 same-length : tie.Need-same-length
 same-length c = search needs
@@ -132,15 +136,16 @@ returns-5 c =
     let m = e .before .before .before .number-at .ensures in
     let h = e .before .before .number-at2 .ensures in
     let s : length store ≡ maximumIn order bytes = d .if4 .left ∙ m in
-    let went : bodyRead order bytes store ≡ _ =
-    body-went order bytes store (body-passes order bytes store (fitting e) (long (f .before)) (looked f ∙ not-false (f .energies-fit .result) (d .before .if3 .left)) s) in
+    let sound : Sound order bytes store =
+    record { numbers = fitting e; length-is = long (f .before); fit = looked f ∙ not-false (f .energies-fit .result) (d .before .if3 .left); store-is = s } in
+    let went : bodyRead order bytes store ≡ _ = body-went order bytes store sound in
     let queue : _≡_ {A = Queue} (record { maximum = e .before .before .before .number-at .result; head = 0; held = e .before .before .number-at2 .result }) (queueIn order bytes) =
     ap (λ (n : ℕ). record { maximum = n; head = 0; held = e .before .before .number-at2 .result }) m
     ∙ ap (λ (n : ℕ). record { maximum = maximumIn order bytes; head = 0; held = n }) h in (
       ap says queue ∙ sym (ap saidBy went),
       c .before .before .read-energies .ensures
           ∙ ap (λ (n : ℕ). sets store 0 (energiesOf (numbersIn order energyWidth n (drop leastLength bytes)))) h
-          ∙ stored-is order bytes store (omega (arith, s, h, m, small e .1)) ∙ sym (ap (keptBy store) went),
+          ∙ stored-is order bytes store (omega (arith, s, h, m, small e .2)) ∙ sym (ap (keptBy store) went),
     )
 
 pub read-body-spec : {M : Type 1} → statement M
