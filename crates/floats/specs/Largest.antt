@@ -1,9 +1,6 @@
 -- The largest absolute value, of f32 and of f64 (01, steps 3 and 6): "take the largest absolute value; NaN never wins."
-use mathlib.Core.Path.{_≡_}
-use mathlib.Core.Logic.{_⊎_}
 use mathlib.Core.Bool.{false, cond}
 use mathlib.Core.List.{List, [], _∷_, map}
-use lib.Dec.{T}
 use lib.Ieee.{Float, nan, inf, fin, lt}
 
 -- the absolute value
@@ -24,7 +21,3 @@ greatest top (v ∷ vs) = greatest (greater top v) vs
 -- the largest absolute value, from a top on
 abbrev pub largest : Float → List Float → Float
 largest top xs = greatest top (map magnitude xs)
-
--- what values make of a top: the top itself, or what is greater
-abbrev pub Raised : Float → Float → Type 0
-Raised top v = (v ≡ top) ⊎ T (lt top v)

@@ -1,2 +1,3 @@
 pub mod Entry
 pub mod Largest
+pub mod Inner

@@ -13,7 +13,8 @@ use lib.Seq.{getD-set-other, getD-set-same}
 use lib.Ieee.{Float, nan, lt}
 use Rattle.floats.proofs.Order.{is-true, lt-lt}
 use Rattle.floats.proofs.Largest.{Over, over-self, over-greater, greater-old, apart}
-use Rattle.floats.specs.Largest.{greater, greatest, Raised}
+use Rattle.floats.specs.Largest.{greater, greatest}
+use Rattle.floats.specs.Inner.{Raised}
 use Rattle.largest_phase.specs.Line.{stretch}
 use Rattle.largest_phase.specs.Inner.{valuesFrom, quarter, greatestOf, Pairs}
 

@@ -9,7 +9,8 @@ use native.Mathlib.Omega.{arith}
 use lib.ListN.{length, getD, set, length-set}
 use lib.Seq.{getD-set-other, getD-set-same}
 use lib.Ieee.{Float, nan}
-use Rattle.floats.specs.Largest.{magnitude, greater, greatest, largest, Raised}
+use Rattle.floats.specs.Largest.{magnitude, greater, greatest, largest}
+use Rattle.floats.specs.Inner.{Raised}
 use Rattle.largest_phase.specs.Line.{stretch, back, phasesOver}
 use Rattle.largest_phase.specs.Inner.{valuesFrom, quarter, greatestOf, Louds}
 use Rattle.floats.proofs.Largest.{Over, over-self, over-greatest, apart, raised-greatest}
