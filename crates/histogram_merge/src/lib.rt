@@ -8,7 +8,7 @@ ghost use Rattle.refusals.specs.Answer.{said};
 ghost use Rattle.histogram.specs.Histogram.{sums};
 ghost use Rattle.histogram_merge.specs.Merge.{room, mergeInto};
 
-// Whether no two counters add up to more than the largest count. No turn branches, so that several bins are looked at in one step.
+// Whether no two counters add up to more than the largest count, by a look at every bin.
 fn has_room(into: &[u32], from: &[u32]) -> bool
     requires { ⌜ length (now into) ≡ length (now from) ⌝ }
     ensures { λ r. ⌜ r ≡ room (now (into .entry)) (now (from .entry)) ⌝ }

@@ -7,7 +7,7 @@ ghost use Rattle.rising_order.specs.Order.{allAbove, ordered};
 ghost use Rattle.rising_order.specs.Arrangement.{Above, Rising};
 ghost use Rattle.ordering.specs.Inner.{Climbs, Sinks, Falling, mirrored, Turned};
 
-// How many steps are looked at before a look may stop. Within them no turn branches, so that several are looked at at once.
+// How many steps are looked at before a look may stop.
 const STRETCH: usize = 64;
 
 // Whether each energy, from a place up to another, is at most the next.
