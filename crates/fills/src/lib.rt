@@ -5,7 +5,8 @@ ghost use mathlib.Core.List.{map};
 ghost use lib.Seq.{sets};
 ghost use Rattle.samples.specs.Sample.{sampleOf16, sampleOfF32};
 
-fn shorter(a: usize, b: usize) -> usize
+// The smaller of two lengths.
+pub fn shorter(a: usize, b: usize) -> usize
     ensures { λ r. ⌜ r ≡ min a b ⌝ }
 {
     if a < b { a } else { b }

@@ -39,7 +39,7 @@ fn largest_all(channels: usize, frames: usize, ints: &[i16], floats: &[f32]) -> 
     let mut tops = Peaks { values: [0.0; 8] };
     let mut done = 0;
     while done < frames {
-        let count = sources::shorter(frames - done, most);
+        let count = fills::shorter(frames - done, most);
         sources::fill(&mut stretch, ints, floats, done * channels);
         tops = stretch::peak_stretch(tops, channels, count, &stretch);
         done += count;

@@ -95,7 +95,7 @@ pub(crate) fn advance_all(
     let most = sources::RUN / channels;
     let mut done = 0;
     while done < frames {
-        let count = sources::shorter(frames - done, most);
+        let count = fills::shorter(frames - done, most);
         sources::fill(&mut run, ints, floats, done * channels);
         advance_run(a, state, channels, count, &run, map);
         done += count;

@@ -1,6 +1,5 @@
 // A call's samples, of whatever kind, taken as floats block by block.
 ghost use mathlib.Core.Path.{_≡_};
-ghost use Prim.Native.Nat.{min};
 ghost use lib.ListN.{length, drop};
 ghost use lib.Seq.{sets};
 ghost use Rattle.sources.specs.Source.{sourceOf};
@@ -34,10 +33,3 @@ pub fn fill(block: &mut [f64], ints: &[i16], floats: &[f32], at: usize)
 
 // The places of a run of samples on their way to the weighting. At eight channels they are 16 frames.
 pub const RUN: usize = 128;
-
-// The smaller: as many frames as a block has places for, or those that are left.
-pub fn shorter(a: usize, b: usize) -> usize
-    ensures { λ r. ⌜ r ≡ min a b ⌝ }
-{
-    if a < b { a } else { b }
-}

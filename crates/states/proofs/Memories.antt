@@ -68,7 +68,7 @@ pub with-again : (v : List Float) (k : ℕ) (m n : Memory) → withMemory (withM
 unfolding withMemory
 with-again v k m n = sets-again (five m) (five n) v (k * 5) refl
 
-pub with-past : (v : List Float) (j k : ℕ) (m n : Memory) → j < k → withMemory (withMemory v k n) j m ≡ withMemory (withMemory v j m) k n
+with-past : (v : List Float) (j k : ℕ) (m n : Memory) → j < k → withMemory (withMemory v k n) j m ≡ withMemory (withMemory v j m) k n
 unfolding withMemory
 with-past v j k m n h = sym (sets-comm (five m) (five n) v (j * 5) (k * 5) (omega arith))
 
@@ -101,7 +101,7 @@ module _ (v : List Float) (k : ℕ) (h : mostChannels ≤ k) (l : length v ≡ s
 
 -- ---- a change of one channel's memory where its byte says so
 
-abbrev pub changed : (ℕ → Memory → Memory) → Bool → ℕ → List Float → List Float
+abbrev changed : (ℕ → Memory → Memory) → Bool → ℕ → List Float → List Float
 changed f b k v = cond b (withMemory v k (f k (memoryOf v k))) v
 
 changed-length : (f : ℕ → Memory → Memory) (b : Bool) (k : ℕ) (v : List Float) → length (changed f b k v) ≡ length v
@@ -112,7 +112,7 @@ changed-below : (f : ℕ → Memory → Memory) (b : Bool) (j k : ℕ) (v : List
 changed-below f true j k v h = memory-below v j k (f k (memoryOf v k)) h
 changed-below f false j k v h = refl
 
-pub changed-above : (f : ℕ → Memory → Memory) (b : Bool) (j k : ℕ) (v : List Float) → j < k → memoryOf (changed f b j v) k ≡ memoryOf v k
+changed-above : (f : ℕ → Memory → Memory) (b : Bool) (j k : ℕ) (v : List Float) → j < k → memoryOf (changed f b j v) k ≡ memoryOf v k
 changed-above f true j k v h = memory-above v j k (f j (memoryOf v j)) h
 changed-above f false j k v h = refl
 

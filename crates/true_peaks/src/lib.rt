@@ -96,7 +96,7 @@ fn measure(rate: u32, t: TruePeak, channels: usize, ints: &[i16], floats: &[f32]
     let mut w = state_of(memory, peaks);
     let mut done = 0;
     while done < frames {
-        let count = sources::shorter(frames - done, most);
+        let count = fills::shorter(frames - done, most);
         w = hear(
             rate,
             w,

@@ -258,7 +258,7 @@ pub(crate) fn weigh_all(
     let most = sources::RUN / channels;
     let mut done = 0;
     while done < frames {
-        let count = sources::shorter(frames - done, most);
+        let count = fills::shorter(frames - done, most);
         sources::fill(&mut run, ints, floats, done * channels);
         let next = Work {
             c: c,
