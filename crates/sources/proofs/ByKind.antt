@@ -3,16 +3,17 @@
 use Prim.Native.Nat.{ℕ, zero, suc, _-_, _≤_, _<_}
 use native.Mathlib.Nat.{le-trans, le-of-eq}
 use native.Mathlib.Omega.{arith}
-use mathlib.Core.Path.{_≡_, refl, ap, sym, _∙_}
+use mathlib.Core.Path.{_≡_, refl, ap, sym, subst, _∙_}
 use mathlib.Core.Bool.{Bool, true, false, cond}
 use mathlib.Core.List.{List, [], _∷_, map}
 use borrow.Author.Tests.{eq-eqb, ne-eqb}
 use lib.Dec.{eqb}
 use lib.IntN.{ℤ}
-use lib.ListN.{length, take, drop, length-drop, length-map, drop-of-length-le}
+use lib.ListN.{length, getD, take, drop, length-drop, length-map, drop-of-length-le}
 use lib.Seq.{sets, take-all}
 use lib.Ieee.{Float}
 use Rattle.samples.specs.Sample.{sampleOf16, sampleOfF32, samplesOf16, samplesOfF32}
+use Rattle.samples.proofs.Columns.{entry-of}
 use Rattle.sources.specs.Source.{sourceOf}
 
 -- ---- the samples of a call
@@ -51,6 +52,15 @@ rest-from {A} f l e block at =
 pub none-from : {A : Type 0} (f : A → Float) (l : List A) {src : List Float} → src ≡ map f l → (block : List Float) (at : ℕ) → length l ≤ at → sets block 0 (drop at src) ≡ block
 none-from f l e block at h =
     ap (λ (t : List Float). sets block 0 (drop at t)) e ∙ ap (sets block 0) (drop-of-length-le (map f l) (le-trans (le-of-eq (length-map l f)) h))
+
+-- ---- one sample: the entry of its own kind, as a float, at the same place
+
+module _ {A : Type 0} (f : A → Float) (l : List A) {src : List Float} (e : src ≡ map f l) (i : ℕ) (here : i < length src) where
+  pub among : i < length l
+  among = subst (λ (n : ℕ). i < n) (ap length e ∙ length-map l f) here
+
+  pub entry-is : (d : A) (x : Float) → getD src i x ≡ f (getD l i d)
+  entry-is d x = ap (λ (s : List Float). getD s i x) e ∙ entry-of f l i d x among
 
 -- ---- samples of one kind alone
 

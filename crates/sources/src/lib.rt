@@ -31,5 +31,5 @@ pub fn fill(block: &mut [f64], ints: &[i16], floats: &[f32], at: usize)
     fills::fill_f64_i16(block, &ints[at..]);
 }
 
-// The places of a run of samples on their way to the weighting. At eight channels they are 16 frames.
+// The places of a run of samples on their way to a seed call's weighting. At eight channels they are 16 frames.
 pub const RUN: usize = 128;

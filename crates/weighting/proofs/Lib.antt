@@ -3,4 +3,4 @@ pub mod Alone
 pub mod Worked
 mod Pairs
 mod Single
-mod Runs
+mod Separate

@@ -1,4 +1,4 @@
--- What the inner functions of the weighting are stated by: a run of frames, and what it makes of state and destination.
+-- What the inner functions of the weighting are stated by: a channel's frames, and what they make of state and destination.
 use Prim.Native.Nat.{ℕ, _+_, _*_, _≤_}
 use mathlib.Core.Path.{_≡_}
 use mathlib.Core.List.{List}
@@ -12,7 +12,7 @@ use Rattle.states.specs.Channels.{memoryOf, withMemory}
 use Rattle.weighting.specs.declared.channels.Work.{Work}
 use Rattle.weighting.specs.Weighting.{Kept}
 
--- ---- channel k, by the run's interleaved samples
+-- ---- channel k, by the interleaved samples
 
 abbrev pub heardIn : Work → List Float → ℕ → List Float
 heardIn work samples k = column samples k (work .channels) (work .frames)
@@ -46,7 +46,7 @@ weighOne work samples k kept =
 
 -- ---- what the inner functions rely on once nothing is refused
 
--- the run's frames, from its place of each part on, lie within each of the parts
+-- the frames, from the place of each part on, lie within each of the parts
 pub record Parts (work : Work) (mapped room : ℕ) : Type 0 where
   pub few : work .channels ≤ mostChannels
   pub bytes : work .channels ≡ mapped

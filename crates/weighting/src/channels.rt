@@ -1,4 +1,4 @@
-// The weighting of a call, run by run and channel by channel. Two used channels are weighed side by side: one channel's sums wait on themselves, and two channels' do not wait on each other.
+// The weighting of a call, channel by channel. Two used channels are weighed side by side: one channel's sums wait on themselves, and two channels' do not wait on each other.
 ghost use mathlib.Core.Path.{_≡_};
 ghost use mathlib.Core.Bool.{true, cond};
 ghost use Prim.Native.Nat.{_+_, _*_, _<_, _≤_};
@@ -7,7 +7,7 @@ ghost use lib.Ieee.{nan};
 ghost use lib.Seq.{sets};
 ghost use Rattle.calls.specs.Calls.{mostChannels, used};
 ghost use Rattle.sources.specs.Source.{sourceOf};
-ghost use Rattle.sources.specs.Blocks.{Reach, Whole};
+ghost use Rattle.sources.specs.Blocks.{Reach};
 ghost use Rattle.recurrence.specs.Recurrence.{next, out, flushed};
 ghost use Rattle.states.specs.Channels.{eachUsed, overUsed};
 ghost use Rattle.weighting.specs.Weighting.{overParts};
@@ -15,13 +15,24 @@ ghost use Rattle.weighting.specs.Inner.{memoryIn, outsIn, givenIn, place
 use recurrence::Coefficients;
 use recurrence::Memory;
 
-// What a run of frames is weighed by, and where its outputs go: from `place` of each channel's part of the destination on.
+// What a call's frames are weighed by, and where their outputs go: from `place` of each channel's part of the destination on.
 pub(crate) struct Work {
     pub(crate) c: Coefficients,
     pub(crate) channels: usize,
     pub(crate) frames: usize,
     pub(crate) part: usize,
     pub(crate) place: usize,
+}
+
+// Sample i of a call, as a float.
+fn sample_at(ints: &[i16], floats: &[f32], i: usize) -> f64
+    requires { ⌜ i < length (sourceOf (now ints) (now floats)) ⌝ }
+    ensures { λ r. ⌜ r ≡ getD (sourceOf (now (ints .entry)) (now (floats .entry))) i nan ⌝ }
+{
+    if ints.len() == 0 {
+        return samples::f32_to_f64(floats[i]);
+    }
+    samples::i16_to_f64(ints[i])
 }
 
 // A frame of one channel, by its sample.
@@ -37,12 +48,12 @@ fn frame(c: Coefficients, m: Memory, x: f64, dest: &mut [f64], j: usize) -> Memo
     recurrence::shifted(m, s0)
 }
 
-// Channel k's frames of a run, two a turn: its memory after them, and their outputs in its part.
-fn weigh(work: Work, m: Memory, samples: &[f64], k: usize, dest: &mut [f64]) -> Memory
-    requires { ⌜ Reach k (work .channels) (work .frames) (length (now samples)) ⌝ }
+// Channel k's frames, two a turn: its memory after them, and their outputs in its part. Both samples of a turn are taken first.
+fn weigh(work: Work, m: Memory, ints: &[i16], floats: &[f32], k: usize, dest: &mut [f64]) -> Memory
+    requires { ⌜ Reach k (work .channels) (work .frames) (length (sourceOf (now ints) (now floats))) ⌝ }
     requires { ⌜ placeOf work k + work .frames ≤ length (now dest) ⌝ }
-    ensures { λ r. ⌜ r ≡ memoryIn work (now (samples .entry)) k m ⌝ }
-    ensures { λ _. ⌜ now (dest .exit) ≡ sets (now (dest .entry)) (placeOf work k) (outsIn work (now (samples .entry)) k m) ⌝ }
+    ensures { λ r. ⌜ r ≡ memoryIn work (sourceOf (now (ints .entry)) (now (floats .entry))) k m ⌝ }
+    ensures { λ _. ⌜ (let src = sourceOf (now (ints .entry)) (now (floats .entry)) in now (dest .exit) ≡ sets (now (dest .entry)) (placeOf work k) (outsIn work src k m)) ⌝ }
 {
     let c = work.c;
     let step = work.channels;
@@ -51,8 +62,8 @@ fn weigh(work: Work, m: Memory, samples: &[f64], k: usize, dest: &mut [f64]) -> 
     let mut i = k;
     let mut j = k * work.part + work.place;
     while 1 < left {
-        let x = samples[i];
-        let y = samples[i + step];
+        let x = sample_at(ints, floats, i);
+        let y = sample_at(ints, floats, i + step);
         w = frame(c, w, x, dest, j);
         w = frame(c, w, y, dest, j + 1);
         i += step + step;
@@ -60,7 +71,8 @@ fn weigh(work: Work, m: Memory, samples: &[f64], k: usize, dest: &mut [f64]) -> 
         left -= 2;
     }
     if 0 < left {
-        return frame(c, w, samples[i], dest, j);
+        let x = sample_at(ints, floats, i);
+        return frame(c, w, x, dest, j);
     }
     w
 }
@@ -75,15 +87,16 @@ struct Pair {
 fn frame_two(
     c: Coefficients,
     p: Pair,
-    samples: &[f64],
+    ints: &[i16],
+    floats: &[f32],
     i: usize,
     dest: &mut [f64],
     j: usize,
     part: usize,
 ) -> Pair
-    requires { ⌜ i + 1 < length (now samples) ⌝ }
+    requires { ⌜ i + 1 < length (sourceOf (now ints) (now floats)) ⌝ }
     requires { ⌜ j + part < length (now dest) ⌝ }
-    ensures { λ r. ⌜ (let x = getD (now (samples .entry)) i nan in let y = getD (now (samples .entry)) (i + 1) nan in
+    ensures { λ r. ⌜ (let src = sourceOf (now (ints .entry)) (now (floats .entry)) in let x = getD src i nan in let y = getD src (i + 1) nan in
         ((r .one ≡ next (c .a) (p .one) x) × (r .two ≡ next (c .a) (p .two) y))
         × (now (dest .exit) ≡ set (set (now (dest .entry)) j (out (c .a) (c .b) (p .one) x)) (j + part) (out (c .a) (c .b) (p .two) y))) ⌝ }
 {
@@ -91,8 +104,8 @@ fn frame_two(
     let b = c.b;
     let m = p.one;
     let n = p.two;
-    let x = samples[i];
-    let y = samples[i + 1];
+    let x = sample_at(ints, floats, i);
+    let y = sample_at(ints, floats, i + 1);
     let s = recurrence::head_of(a, m, x);
     let t = recurrence::head_of(a, n, y);
     let u = recurrence::output_of(b, m, s);
@@ -106,12 +119,13 @@ fn frame_two(
 }
 
 // The frames of channels k and k + 1, two a turn: their memories after them, and their outputs in their parts.
-fn weigh_two(work: Work, p: Pair, samples: &[f64], k: usize, dest: &mut [f64]) -> Pair
-    requires { ⌜ Reach (k + 1) (work .channels) (work .frames) (length (now samples)) ⌝ }
+fn weigh_two(work: Work, p: Pair, ints: &[i16], floats: &[f32], k: usize, dest: &mut [f64]) -> Pair
+    requires { ⌜ Reach (k + 1) (work .channels) (work .frames) (length (sourceOf (now ints) (now floats))) ⌝ }
     requires { ⌜ (work .frames ≤ work .part) × (placeOf work k + work .part + work .frames ≤ length (now dest)) ⌝ }
-    ensures { λ r. ⌜ (let s = now (samples .entry) in (r .one ≡ memoryIn work s k (p .one)) × (r .two ≡ memoryIn work s (k + 1) (p .two))) ⌝ }
-    ensures { λ _. ⌜ (let s = now (samples .entry) in let first = sets (now (dest .entry)) (placeOf work k) (outsIn work s k (p .one)) in
-        now (dest .exit) ≡ sets first (placeOf work k + work .part) (outsIn work s (k + 1) (p .two))) ⌝ }
+    ensures { λ r. ⌜ (let src = sourceOf (now (ints .entry)) (now (floats .entry)) in (r .one ≡ memoryIn work src k (p .one)) × (r .two ≡ memoryIn work src (k + 1) (p .two))) ⌝ }
+    ensures { λ _. ⌜ (let src = sourceOf (now (ints .entry)) (now (floats .entry)) in
+        let first = sets (now (dest .entry)) (placeOf work k) (outsIn work src k (p .one)) in
+        now (dest .exit) ≡ sets first (placeOf work k + work .part) (outsIn work src (k + 1) (p .two))) ⌝ }
 {
     let c = work.c;
     let step = work.channels;
@@ -121,14 +135,14 @@ fn weigh_two(work: Work, p: Pair, samples: &[f64], k: usize, dest: &mut [f64]) -
     let mut i = k;
     let mut j = k * part + work.place;
     while 1 < left {
-        w = frame_two(c, w, samples, i, dest, j, part);
-        w = frame_two(c, w, samples, i + step, dest, j + 1, part);
+        w = frame_two(c, w, ints, floats, i, dest, j, part);
+        w = frame_two(c, w, ints, floats, i + step, dest, j + 1, part);
         i += step + step;
         j += 2;
         left -= 2;
     }
     if 0 < left {
-        return frame_two(c, w, samples, i, dest, j, part);
+        return frame_two(c, w, ints, floats, i, dest, j, part);
     }
     w
 }
@@ -138,28 +152,29 @@ fn weigh_channel(
     work: Work,
     state: &mut [f64; 40],
     byte: u8,
-    samples: &[f64],
+    ints: &[i16],
+    floats: &[f32],
     k: usize,
     dest: &mut [f64],
 )
-    requires { ⌜ Reach k (work .channels) (work .frames) (length (now samples)) ⌝ }
+    requires { ⌜ Reach k (work .channels) (work .frames) (length (sourceOf (now ints) (now floats))) ⌝ }
     requires { ⌜ placeOf work k + work .frames ≤ length (now dest) ⌝ }
     ensures { λ _. ⌜ (let given = keptOf (now (state .entry)) (now (dest .entry)) in
-        keptOf (now (state .exit)) (now (dest .exit)) ≡ cond (used byte) (weighOne work (now (samples .entry)) k given) given) ⌝ }
+        keptOf (now (state .exit)) (now (dest .exit)) ≡ cond (used byte) (weighOne work (sourceOf (now (ints .entry)) (now (floats .entry))) k given) given) ⌝ }
 {
     if byte == 0 {
         return;
     }
-    let m = weigh(work, states::load(state, k), samples, k, dest);
+    let m = weigh(work, states::load(state, k), ints, floats, k, dest);
     states::store(state, k, m);
 }
 
 // Channels k and k + 1, both used.
-fn weigh_pair(work: Work, state: &mut [f64; 40], samples: &[f64], k: usize, dest: &mut [f64])
+fn weigh_pair(work: Work, state: &mut [f64; 40], ints: &[i16], floats: &[f32], k: usize, dest: &mut [f64])
     requires { ⌜ k + 1 < mostChannels ⌝ }
-    requires { ⌜ Reach (k + 1) (work .channels) (work .frames) (length (now samples)) ⌝ }
+    requires { ⌜ Reach (k + 1) (work .channels) (work .frames) (length (sourceOf (now ints) (now floats))) ⌝ }
     requires { ⌜ (work .frames ≤ work .part) × (placeOf work k + work .part + work .frames ≤ length (now dest)) ⌝ }
-    ensures { λ _. ⌜ (let s = now (samples .entry) in
+    ensures { λ _. ⌜ (let s = sourceOf (now (ints .entry)) (now (floats .entry)) in
         keptOf (now (state .exit)) (now (dest .exit)) ≡ weighOne work s (k + 1) (weighOne work s k (keptOf (now (state .entry)) (now (dest .entry))))) ⌝ }
 {
     let p = weigh_two(
@@ -168,7 +183,8 @@ fn weigh_pair(work: Work, state: &mut [f64; 40], samples: &[f64], k: usize, dest
             one: states::load(state, k),
             two: states::load(state, k + 1),
         },
-        samples,
+        ints,
+        floats,
         k,
         dest,
     );
@@ -196,44 +212,29 @@ fn both_used(map: &[u8], k: usize) -> bool
 fn weigh_next(
     work: Work,
     state: &mut [f64; 40],
-    samples: &[f64],
+    ints: &[i16],
+    floats: &[f32],
     map: &[u8],
     dest: &mut [f64],
     k: usize,
 ) -> usize
     requires { ⌜ k < work .channels ⌝ }
-    requires { ⌜ work .frames * work .channels ≤ length (now samples) ⌝ }
+    requires { ⌜ work .frames * work .channels ≤ length (sourceOf (now ints) (now floats)) ⌝ }
     requires { ⌜ Parts work (length (now map)) (length (now dest)) ⌝ }
     ensures { λ r. ⌜ (k < r) × (r ≤ work .channels) ⌝ }
-    ensures { λ r. ⌜ (let step = weighOne work (now (samples .entry)) in
+    ensures { λ r. ⌜ (let step = weighOne work (sourceOf (now (ints .entry)) (now (floats .entry))) in
         eachUsed step (drop r (now (map .entry))) r (keptOf (now (state .exit)) (now (dest .exit)))
         ≡ eachUsed step (drop k (now (map .entry))) k (keptOf (now (state .entry)) (now (dest .entry)))) ⌝ }
 {
     if both_used(map, k) {
-        weigh_pair(work, state, samples, k, dest);
+        weigh_pair(work, state, ints, floats, k, dest);
         return k + 2;
     }
-    weigh_channel(work, state, map[k], samples, k, dest);
+    weigh_channel(work, state, map[k], ints, floats, k, dest);
     k + 1
 }
 
-// Every channel's frames of a run, up to two steps a turn.
-fn weigh_run(work: Work, state: &mut [f64; 40], samples: &[f64], map: &[u8], dest: &mut [f64])
-    requires { ⌜ work .frames * work .channels ≤ length (now samples) ⌝ }
-    requires { ⌜ Parts work (length (now map)) (length (now dest)) ⌝ }
-    ensures { λ _. ⌜ keptOf (now (state .exit)) (now (dest .exit)) ≡ eachUsed (weighOne work (now (samples .entry))) (now (map .entry)) 0 (keptOf (now (state .entry)) (now (dest .entry))) ⌝ }
-{
-    let channels = work.channels;
-    let mut k = 0;
-    while k < channels {
-        k = weigh_next(work, state, samples, map, dest, k);
-        if k < channels {
-            k = weigh_next(work, state, samples, map, dest, k);
-        }
-    }
-}
-
-// Every channel's frames, run by run. Each memory is flushed at the end of the call.
+// Every channel's frames, up to two steps a turn. Each memory is flushed at the end of the call.
 pub(crate) fn weigh_all(
     work: Work,
     state: &mut [f64; 40],
@@ -242,7 +243,7 @@ pub(crate) fn weigh_all(
     map: &[u8],
     dest: &mut [f64],
 )
-    requires { ⌜ Whole (work .channels) (work .frames) (length (sourceOf (now ints) (now floats))) ⌝ }
+    requires { ⌜ work .frames * work .channels ≤ length (sourceOf (now ints) (now floats)) ⌝ }
     requires { ⌜ Parts work (length (now map)) (length (now dest)) ⌝ }
     ensures { λ _. ⌜ (let src = sourceOf (now (ints .entry)) (now (floats .entry)) in
         now (state .exit) ≡ overUsed (λ k m. flushed (memoryIn work src k m)) (now (map .entry)) 0 (now (state .entry))) ⌝ }
@@ -251,24 +252,13 @@ pub(crate) fn weigh_all(
 {
     // As a slice the state is known to have its places.
     let _places = &state[..];
-    let c = work.c;
     let channels = work.channels;
-    let frames = work.frames;
-    let mut run: [f64; sources::RUN] = [0.0; sources::RUN];
-    let most = sources::RUN / channels;
-    let mut done = 0;
-    while done < frames {
-        let count = fills::shorter(frames - done, most);
-        sources::fill(&mut run, ints, floats, done * channels);
-        let next = Work {
-            c: c,
-            channels: channels,
-            frames: count,
-            part: work.part,
-            place: work.place + done,
-        };
-        weigh_run(next, state, &run, map, dest);
-        done += count;
+    let mut k = 0;
+    while k < channels {
+        k = weigh_next(work, state, ints, floats, map, dest, k);
+        if k < channels {
+            k = weigh_next(work, state, ints, floats, map, dest, k);
+        }
     }
     flushing::flush_used(state, map);
 }

@@ -1,6 +1,7 @@
 -- `weighting::process_lent` meets its contract: the number of the check is the refusal, and past it state and destination are what the definitions say. Assumes nothing.
 use borrow.Author.Needs.{needs}
 use Prim.Native.Nat.{ℕ}
+use native.Mathlib.Nat.{le-of-eq}
 use native.Mathlib.Omega.{arith}
 use mathlib.Core.Path.{_≡_, sym, ap, _∙_}
 use mathlib.Core.Bool.{true}
@@ -73,7 +74,7 @@ weigh-all-requires c κs =
     let a = s .args in
     let k = ok e .seed .frames in
     let d = ok e .room in (
-      all-frames (a .channels) (n .result) (a .ints .now) (a .floats .now) (rw (n .ensures) k) (n .ensures) (omega (arith, s .good)) (omega (arith, s .good)),
+      le-of-eq (all-frames (a .channels) (n .result) (a .ints .now) (a .floats .now) (rw (n .ensures) k) (n .ensures) (omega (arith, s .good)) (omega (arith, s .good)) .whole),
       record { few = k .few; bytes = ok e .seed .bytes; parts = d .parts; fits = rw (n .ensures) (d .fits) },
     )
 

@@ -1,27 +1,27 @@
 -- `weighting::frame_two` meets its contract: each channel by the definitions of one frame. Assumes nothing.
 use borrow.Author.Needs.{needs}
-use Prim.Native.Nat.{_+_}
+use Prim.Native.Nat.{_+_, _^_}
+use native.Mathlib.Omega.{arith}
 use mathlib.Core.Path.{_≡_, ap, _∙_}
 use lib.Ieee.{nan}
 use lib.ListN.{set, getD}
+use Rattle.sources.specs.Source.{sourceOf}
+use Rattle.sources.proofs.ByKind.{source-below}
 use Rattle.recurrence.specs.Recurrence.{head, output, shift, next, out}
 use Rattle.weighting.proofs.channels.frame_two.Statement.{statement}
 use Rattle.weighting.proofs.channels.frame_two.Tie as tie
 
-mul-x : tie.Need-mul-x
-mul-x c = search needs
+sample-at-requires : tie.Need-sample-at-requires
+sample-at-requires c κs = omega (arith, c .before .before .before .before .before .before .pre .0)
 
-shared-slice-read-x : tie.Need-shared-slice-read-x
-shared-slice-read-x c = search needs
+add-sample-at : tie.Need-add-sample-at
+add-sample-at c =
+    let s = c .before .before .before .before .before .before .before in
+    let a = s .args in
+    omega (arith, s .pre .0, source-below (a .ints .now) (a .floats .now) (2 ^ 63) (omega (arith, s .good)) (omega (arith, s .good)))
 
-add-y : tie.Need-add-y
-add-y c = search needs
-
-mul-y : tie.Need-mul-y
-mul-y c = search needs
-
-shared-slice-read-y : tie.Need-shared-slice-read-y
-shared-slice-read-y c = search needs
+sample-at-requires-2 : tie.Need-sample-at-requires-2
+sample-at-requires-2 c κs = c .before .before .before .before .before .before .before .pre .0
 
 head-of-requires : tie.Need-head-of-requires
 head-of-requires c κs = search needs
@@ -65,15 +65,15 @@ returns c =
     let o = c .before .before .before in
     let h = o .before in
     let g = h .before in
-    let a = g .before .before .before .before .before .before .before .before .before .args in
+    let y = g .before in
+    let a = y .before .before .before .before .before .before .before .before .args in
     let m = a .p .one in
     let n = a .p .two in
-    let x = getD (a .samples .now) (a .i) nan in
-    let y = getD (a .samples .now) (a .i + 1) nan in
-    let s : g .head-of .result ≡ head (a .c .a) m x = g .head-of .ensures in
-    let t : h .head-of2 .result ≡ head (a .c .a) n y = h .head-of2 .ensures in
-    let u : o .output-of .result ≡ out (a .c .a) (a .c .b) m x = o .output-of .ensures ∙ ap (output (a .c .b) m) s in
-    let v : c .before .before .output-of2 .result ≡ out (a .c .a) (a .c .b) n y = c .before .before .output-of2 .ensures ∙ ap (output (a .c .b) n) t in (
+    let src = sourceOf (a .ints .now) (a .floats .now) in
+    let s : g .head-of .result ≡ head (a .c .a) m (getD src (a .i) nan) = g .head-of .ensures ∙ ap (head (a .c .a) m) (y .before .sample-at .ensures) in
+    let t : h .head-of2 .result ≡ head (a .c .a) n (getD src (a .i + 1) nan) = h .head-of2 .ensures ∙ ap (head (a .c .a) n) (y .sample-at2 .ensures) in
+    let u : o .output-of .result ≡ out (a .c .a) (a .c .b) m (getD src (a .i) nan) = o .output-of .ensures ∙ ap (output (a .c .b) m) s in
+    let v : c .before .before .output-of2 .result ≡ out (a .c .a) (a .c .b) n (getD src (a .i + 1) nan) = c .before .before .output-of2 .ensures ∙ ap (output (a .c .b) n) t in (
       (c .before .shifted .ensures ∙ ap (shift m) s, c .shifted2 .ensures ∙ ap (shift n) t),
       λ i. set (set (a .dest .now) (a .j) (u i)) (a .j + a .part) (v i),
     )
@@ -82,11 +82,9 @@ pub frame-two-spec : {M : Type 1} → statement M
 frame-two-spec =
     tie.close
     (tie.spec
-    mul-x
-    shared-slice-read-x
-    add-y
-    mul-y
-    shared-slice-read-y
+    sample-at-requires
+    add-sample-at
+    sample-at-requires-2
     head-of-requires
     head-of-requires-2
     output-of-requires

@@ -5,6 +5,7 @@ use mathlib.Core.Path.{refl, ap, _∙_}
 use lib.Seq.{sets}
 use Rattle.recurrence.specs.declared.Memory.{Memory}
 use Rattle.states.specs.Channels.{withMemory}
+use Rattle.sources.specs.Source.{sourceOf}
 use Rattle.weighting.specs.Inner.{memoryIn, outsIn, placeOf, keptOf}
 use Rattle.weighting.proofs.channels.weigh_channel.Statement.{statement}
 use Rattle.weighting.proofs.channels.weigh_channel.Tie as tie
@@ -30,8 +31,8 @@ returns-2 c =
     let l = w .before .before in
     let q = l .before .before in
     let a = q .before .before .before .args in
-    let e = c .store .ensures ∙ ap (withMemory (a .state .now) (a .k)) (w .weigh .ensures .0 ∙ ap (memoryIn (a .work) (a .samples .now) (a .k)) (l .load .ensures)) in
-    let f = w .weigh .ensures .1 ∙ ap (λ (m : Memory). sets (a .dest .now) (placeOf (a .work) (a .k)) (outsIn (a .work) (a .samples .now) (a .k) m)) (l .load .ensures) in
+    let e = c .store .ensures ∙ ap (withMemory (a .state .now) (a .k)) (w .weigh .ensures .0 ∙ ap (memoryIn (a .work) (sourceOf (a .ints .now) (a .floats .now)) (a .k)) (l .load .ensures)) in
+    let f = w .weigh .ensures .1 ∙ ap (λ (m : Memory). sets (a .dest .now) (placeOf (a .work) (a .k)) (outsIn (a .work) (sourceOf (a .ints .now) (a .floats .now)) (a .k) m)) (l .load .ensures) in
     rw (ne-eqb (a .byte) 0 (q .if1 .left)) (λ i. keptOf (e i) (f i))
 
 pub weigh-channel-spec : {M : Type 1} → statement M

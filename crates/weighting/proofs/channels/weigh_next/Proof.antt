@@ -9,6 +9,7 @@ use lib.ListN.{length, getD}
 use Rattle.calls.specs.Calls.{used}
 use Rattle.states.proofs.Each.{each-again, each-two}
 use Rattle.sources.proofs.Reaching.{reach-start}
+use Rattle.sources.specs.Source.{sourceOf}
 use Rattle.weighting.specs.Inner.{placeOf, keptOf, weighOne}
 use Rattle.weighting.proofs.Destinations.{part-ends}
 use Rattle.weighting.proofs.channels.weigh_next.Statement.{statement}
@@ -55,7 +56,7 @@ returns c =
     let a = s .args in
     let u = pairs q in (
       (omega arith, omega (arith, u .0, s .pre .1 .1 .bytes)),
-      each-two (weighOne (a .work) (a .samples .now)) (a .map .now) (a .k) (keptOf (a .state .now) (a .dest .now)) _ (u .0) (u .1 .0) (u .1 .1) (w .weigh-pair .ensures),
+      each-two (weighOne (a .work) (sourceOf (a .ints .now) (a .floats .now))) (a .map .now) (a .k) (keptOf (a .state .now) (a .dest .now)) _ (u .0) (u .1 .0) (u .1 .1) (w .weigh-pair .ensures),
     )
 
 shared-slice-read-weigh-channel : tie.Need-shared-slice-read-weigh-channel
@@ -79,7 +80,7 @@ returns-2 c =
     let s = w .before .before .before .before .before .before .before .before .before in
     let a = s .args in (
       (omega arith, omega (arith, s .pre .0)),
-      each-again (weighOne (a .work) (a .samples .now)) (a .map .now) (a .k) (keptOf (a .state .now) (a .dest .now)) _ (omega (arith, s .pre .0, s .pre .1 .1 .bytes)) (w .weigh-channel .ensures),
+      each-again (weighOne (a .work) (sourceOf (a .ints .now) (a .floats .now))) (a .map .now) (a .k) (keptOf (a .state .now) (a .dest .now)) _ (omega (arith, s .pre .0, s .pre .1 .1 .bytes)) (w .weigh-channel .ensures),
     )
 
 pub weigh-next-spec : {M : Type 1} → statement M

@@ -5,6 +5,7 @@ use native.Mathlib.Omega.{arith}
 use mathlib.Core.Path.{_≡_, ap, _∙_}
 use lib.Seq.{sets}
 use Rattle.states.specs.Channels.{memoryOf, withMemory}
+use Rattle.sources.specs.Source.{sourceOf}
 use Rattle.weighting.specs.Inner.{memoryIn, outsIn, placeOf, keptOf}
 use Rattle.weighting.proofs.Pairs.{pair-is}
 use Rattle.weighting.proofs.channels.weigh_pair.Statement.{statement}
@@ -44,7 +45,7 @@ returns c =
     let l = w .before .before in
     let o = l .before .before in
     let g = o .before .before .before .before .args in
-    let x = g .samples .now in
+    let x = sourceOf (g .ints .now) (g .floats .now) in
     let e : o .load .result ≡ memoryOf (g .state .now) (g .k) = o .load .ensures in
     let f : l .load2 .result ≡ memoryOf (g .state .now) (g .k + 1) = l .load2 .ensures in
     let m : w .weigh-two .result .one ≡ memoryIn (g .work) x (g .k) (memoryOf (g .state .now) (g .k)) = w .weigh-two .ensures .0 .0 ∙ ap (memoryIn (g .work) x (g .k)) e in
