@@ -19,7 +19,7 @@ use Rattle.history.specs.Set.{
   Histories,
   historiesOf,
   chosen,
-  blockAt,
+  countersAt,
   queueAt,
   shapeShows,
   allShow,
@@ -56,7 +56,7 @@ module _ (counters : List ℕ) (energies : List Float) where
     where
       one : (s : Shape) → ((a : List ℕ) → length (addedTo a (allShow counters energies l)) ≡ length a)
           → length (addedTo (withHistory added (shapeShows counters energies s)) (allShow counters energies l)) ≡ length added
-      one (Histogram start) rest = rest (sums added (blockAt counters start)) ∙ sums-length added (blockAt counters start)
+      one (Histogram start) rest = rest (sums added (countersAt counters start)) ∙ sums-length added (countersAt counters start)
       one (Queue-at start queue) rest = rest added
 
   added-most : AtMost largestCount counters → (l : List Entry) (most : ℕ) (added : List ℕ) → AtMost most added
@@ -69,7 +69,7 @@ module _ (counters : List ℕ) (energies : List Float) where
           → ((m : ℕ) (x : List ℕ) → AtMost m x → getD (addedTo x (allShow counters energies l)) bin 0 ≤ m + length l * largestCount)
           → getD (addedTo (withHistory added (shapeShows counters energies s)) (allShow counters energies l)) bin 0 ≤ most + suc (length l) * largestCount
       one (Histogram start) rest =
-          omega (arith, rest (most + largestCount) (sums added (blockAt counters start)) (sums-most most added (blockAt counters start) a (part-most counters start bins b)))
+          omega (arith, rest (most + largestCount) (sums added (countersAt counters start)) (sums-most most added (countersAt counters start) a (part-most counters start bins b)))
       one (Queue-at start queue) rest = omega (arith, rest most added a)
 
 pub histogram-ranks : (h : Histories) → numberOf (setRows h) ≡ 0 → AtMost largestCount (h .counters)

@@ -9,7 +9,7 @@ use lib.ListN.{length, take}
 use lib.Ieee.{Float}
 use Rattle.tables.specs.Tables.{energyAt}
 use Rattle.histogram_bins.specs.Bin.{bins}
-use Rattle.history.specs.Set.{blockAt}
+use Rattle.history.specs.Set.{countersAt}
 use Rattle.gate.specs.declared.blocks.Totals.{Totals}
 use Rattle.gate.specs.Totals.{none, binsFrom, fromBin}
 use Rattle.gate.specs.Start.{startBin}
@@ -53,7 +53,7 @@ module _ (counters : List ℕ) (start : ℕ) where
   unfolding spanAt
   span-nowhere h = rw (lt-ltb (length counters) (start + bins) h)
 
-  pub span-there : start + bins ≤ length counters → spanAt counters start ≡ countedSpan (blockAt counters start)
+  pub span-there : start + bins ≤ length counters → spanAt counters start ≡ countedSpan (countersAt counters start)
   unfolding spanAt
   span-there h = rw (le-ltb (length counters) (start + bins) h)
 
@@ -66,7 +66,7 @@ module _ (counters : List ℕ) (start : ℕ) where
       go false h =
           let inside = ltb-false (length counters) (start + bins) h in
           span-there inside
-          ∙ counted-none (blockAt counters start) (ap (λ (totals : Totals). totals .count) (sym (there (none .sum) counters start 0 inside)) ∙ e)
+          ∙ counted-none (countersAt counters start) (ap (λ (totals : Totals). totals .count) (sym (there (none .sum) counters start 0 inside)) ∙ e)
 
   pub blocks-there : (fromBin (none .sum) counters start 0 .count ≡ 0 → ⊥) → start + bins ≤ length counters
   blocks-there z = go (ltb (length counters) (start + bins)) refl

@@ -9,7 +9,7 @@ use lib.ListN.{length, getD, take}
 use lib.Ieee.{Float}
 use Rattle.tables.specs.Tables.{energyAt}
 use Rattle.histogram_bins.specs.Bin.{bins}
-use Rattle.history.specs.Set.{blockAt}
+use Rattle.history.specs.Set.{countersAt}
 use Rattle.gate.specs.declared.blocks.Totals.{Totals}
 use Rattle.gate.specs.Totals.{none, binsFrom}
 unfoldable pub use Rattle.gate.specs.Totals.{blocksIn}
@@ -52,7 +52,7 @@ countedSpan counters = let totals = binsFrom none 0 counters in cond (eqb (total
 
 -- that of the histogram whose counters start at a place. There is none where they do not end within the counters
 unfoldable pub spanAt : List ℕ → ℕ → Span
-spanAt counters start = cond (ltb (length counters) (start + bins)) nothing (countedSpan (blockAt counters start))
+spanAt counters start = cond (ltb (length counters) (start + bins)) nothing (countedSpan (countersAt counters start))
 
 -- ---- a search
 -- a place that a search for a rank may start from: what stands below it is known, and does not reach the rank

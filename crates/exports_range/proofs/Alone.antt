@@ -15,13 +15,13 @@ use Rattle.histogram.specs.Histogram.{empty, sums}
 use Rattle.history.specs.declared.set.Entry.{Entry}
 use Rattle.history.specs.declared.set.Shape.{Shape}
 use Rattle.history.specs.declared.set.Shape.the-variants.{Histogram}
-use Rattle.history.specs.Set.{mostHistories, Histories, histories, historiesOf, chosen, outsideSet, anyOutside, allSound, allShow, blockAt}
+use Rattle.history.specs.Set.{mostHistories, Histories, histories, historiesOf, chosen, outsideSet, anyOutside, allSound, allShow, countersAt}
 use Rattle.history.proofs.Entries.{histogram-outside}
 use Rattle.history.proofs.Rows.{set-refused, all-well}
 use Rattle.block_range.specs.Counted.{spanAt}
 use Rattle.block_range.proofs.Answers.{span-there}
 use Rattle.histogram_range.specs.Counted.{addedTo, countedSpan}
-use Rattle.histogram_range.proofs.Single.{block-alone}
+use Rattle.histogram_range.proofs.Single.{counters-alone}
 use Rattle.range.specs.Range.{Span, queuesIn, rangeOf}
 use Rattle.range.proofs.Answers.{range-refused, range-counted}
 use Rattle.entries.specs.Sets.{numbersAnEntry, entryAt, entriesFrom, setOf}
@@ -47,7 +47,7 @@ module _ (rest : List Entry) (counters : List ℕ) (energies work : List Float) 
   unfolding queuesIn allShow
   no-queue = refl
 
-  added : addedTo empty (historiesOf one) ≡ sums empty (blockAt counters start)
+  added : addedTo empty (historiesOf one) ≡ sums empty (countersAt counters start)
   unfolding addedTo allShow
   added = refl
 
@@ -55,7 +55,7 @@ module _ (rest : List Entry) (counters : List ℕ) (energies work : List Float) 
   answered e =
       let ends = ltb-false (length counters) (start + bins) e in
       range-counted one work no-queue (all-well one (inside e) sound-store)
-      ∙ ap (λ (l : List ℕ). went work (countedSpan l)) (added ∙ sym (block-alone counters start ends))
+      ∙ ap (λ (l : List ℕ). went work (countedSpan l)) (added ∙ sym (counters-alone counters start ends))
       ∙ ap (λ (s : Span). went work s) (sym (span-there counters start ends))
 
   one-histogram : (saidBy (histogramAt counters start) ≡ saidBy (rangeOf one work)) × (work ≡ keptBy work (rangeOf one work))

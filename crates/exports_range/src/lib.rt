@@ -24,7 +24,7 @@ fn of_histogram(counters: &[u32], start: usize) -> Range
     if counters.len() - start < histogram_bins::BINS {
         return Range::Refused(refusals::SET);
     }
-    block_range::of_block(counters, start)
+    block_range::of_counters(counters, start)
 }
 
 // The range of the set of the numbers.

@@ -12,7 +12,7 @@ use Rattle.queue.specs.Queue.{suits, heldOf}
 use Rattle.history.specs.declared.set.Entry.{Entry}
 use Rattle.history.specs.declared.set.Shape.{Shape}
 use Rattle.history.specs.declared.set.Shape.the-variants.{Histogram, Queue as Queue-at}
-use Rattle.history.specs.Set.{blockAt, queueAt, shapeShows, shows, allShow, historiesOf, noneBelow, shapeSound, setRows}
+use Rattle.history.specs.Set.{countersAt, queueAt, shapeShows, shows, allShow, historiesOf, noneBelow, shapeSound, setRows}
 use Rattle.history.proofs.Entries.{sound-at}
 use Rattle.history.proofs.Rows.{kept}
 use Rattle.gate.specs.declared.blocks.Totals.{Totals}
@@ -35,7 +35,7 @@ second true b h = h
 second false b h = absurd (true≢false (sym h))
 
 totals-steady : (counters : List ℕ) (energies : List Float) (shape : Shape) → shapeSound energies shape ≡ true → Steady (totalsOf (shapeShows counters energies shape) .sum)
-totals-steady counters energies (Histogram start) h = bins-steady none 0 (blockAt counters start) nothing-steady
+totals-steady counters energies (Histogram start) h = bins-steady none 0 (countersAt counters start) nothing-steady
 totals-steady counters energies (Queue-at start queue) h =
     let held = heldOf (queueAt energies start queue) in
     energies-steady none held nothing-steady (second (suits queue (queue .maximum)) (noneBelow held) h)

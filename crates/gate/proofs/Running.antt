@@ -12,7 +12,7 @@ use lib.Seq.{drop-cons}
 use lib.Ieee.{Float, binary64, add, mul, ofInt}
 use Rattle.tables.specs.Tables.{energyAt}
 use Rattle.histogram_bins.specs.Bin.{bins}
-use Rattle.history.specs.Set.{blockAt}
+use Rattle.history.specs.Set.{countersAt}
 use Rattle.gate.specs.declared.blocks.Totals.{Totals}
 use Rattle.gate.specs.Totals.{onTopOf, withBlocks, binsFrom, blocksIn, energiesFrom, fromBin}
 use Rattle.gate.specs.Inner.{sumFrom, blocksAbove, sumAbove}
@@ -81,6 +81,6 @@ module _ (sum : Float) (counters : List ℕ) (start bin : ℕ) where
   unfolding fromBin
   not-there h = rw (lt-ltb (length counters) (start + bins) h)
 
-  pub there : start + bins ≤ length counters → fromBin sum counters start bin ≡ binsFrom (onTopOf sum) bin (drop bin (blockAt counters start))
+  pub there : start + bins ≤ length counters → fromBin sum counters start bin ≡ binsFrom (onTopOf sum) bin (drop bin (countersAt counters start))
   unfolding fromBin
   there h = rw (le-ltb (length counters) (start + bins) h)

@@ -9,7 +9,7 @@ use lib.Ieee.{Float, binary64, add, mul, div, ofInt, ofBits}
 use Rattle.tables.specs.Tables.{energyAt}
 use Rattle.histogram_bins.specs.Bin.{bins}
 use Rattle.histogram.specs.Histogram.{largestCount}
-use Rattle.history.specs.Set.{blockAt}
+use Rattle.history.specs.Set.{countersAt}
 use Rattle.gate.specs.declared.blocks.Totals.{Totals}
 
 -- the most blocks of a history: every bin of a histogram full
@@ -51,4 +51,4 @@ meanOf totals = div binary64 (totals .sum) (ofInt binary64 (pos (totals .count))
 -- the blocks, from a bin upward, of the histogram whose counters start at a place. It has none where they do not end within the counters
 unfoldable pub fromBin : Float → List ℕ → ℕ → ℕ → Totals
 fromBin sum counters start bin =
-    cond (ltb (length counters) (start + bins)) (onTopOf sum) (binsFrom (onTopOf sum) bin (drop bin (blockAt counters start)))
+    cond (ltb (length counters) (start + bins)) (onTopOf sum) (binsFrom (onTopOf sum) bin (drop bin (countersAt counters start)))

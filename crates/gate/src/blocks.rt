@@ -19,12 +19,6 @@ pub struct Totals {
 // So many bins are passed over at once where none of them has a block.
 const STRETCH: usize = 20;
 
-fn wide(x: u32) -> u64
-    ensures { λ r. ⌜ r ≡ x ⌝ }
-{
-    x as u64
-}
-
 // How many blocks the bins of a stretch have, from a place of it on.
 fn count_stretch(counters: &[u32], first: usize, place: usize) -> u64
     requires { ⌜ (length (now counters) ≡ bins) × (first + stretch ≤ bins) × (place ≤ stretch) ⌝ }
@@ -33,7 +27,7 @@ fn count_stretch(counters: &[u32], first: usize, place: usize) -> u64
     let mut count: u64 = 0;
     let mut i = place;
     while i < STRETCH {
-        count = count + wide(counters[first + i]);
+        count = count + histogram_bins::wide(counters[first + i]);
         i += 1;
     }
     count

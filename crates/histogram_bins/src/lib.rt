@@ -45,3 +45,10 @@ pub fn energy(i: usize) -> f64
         0.0 / 0.0
     }
 }
+
+// A bin's counter as a number that the blocks of many bins add up in.
+pub fn wide(count: u32) -> u64
+    ensures { λ r. ⌜ r ≡ count ⌝ }
+{
+    count as u64
+}

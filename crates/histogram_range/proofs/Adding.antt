@@ -13,7 +13,7 @@ use Rattle.histogram.specs.Histogram.{largestCount, empty, sums}
 use Rattle.history.specs.declared.set.Entry.{Entry}
 use Rattle.history.specs.declared.set.Shape.{Shape}
 use Rattle.history.specs.declared.set.Shape.the-variants.{Histogram, Queue as Queue-at}
-use Rattle.history.specs.Set.{blockEnd, blocksInside, blockAt, shows, shapeShows, allShow}
+use Rattle.history.specs.Set.{countersEnd, countersInside, countersAt, shows, shapeShows, allShow}
 use Rattle.history.proofs.Entries.{past-the-last, shows-next, shows-end}
 use Rattle.histogram_range.specs.Counted.{withHistory, addedTo}
 use Rattle.histogram_range.specs.Counted.{AtMost}
@@ -60,14 +60,14 @@ pub zeros-most : AtMost 0 (replicate bins 0)
 zeros-most bin = zeros bins bin
 
 -- ---- entry by entry
-blocks-in : (counters : ℕ) (l : List Entry) (i : ℕ) → i < length l → blocksInside counters l → blockEnd (getD l i past-the-last .shape) ≤ counters
+blocks-in : (counters : ℕ) (l : List Entry) (i : ℕ) → i < length l → countersInside counters l → countersEnd (getD l i past-the-last .shape) ≤ counters
 blocks-in counters [] i h b = absurd (not-suc-le-zero h)
 blocks-in counters (entry ∷ l) zero h b = b .0
 blocks-in counters (entry ∷ l) (suc i) h b = blocks-in counters l i (le-of-suc-le-suc h) (b .1)
 
-pub block-at : (counters : ℕ) (l : List Entry) (count i : ℕ) → i < count → count ≤ length l → blocksInside counters (take count l)
-    → blockEnd (getD l i past-the-last .shape) ≤ counters
-block-at counters l count i h g b =
+pub counters-at : (counters : ℕ) (l : List Entry) (count i : ℕ) → i < count → count ≤ length l → countersInside counters (take count l)
+    → countersEnd (getD l i past-the-last .shape) ≤ counters
+counters-at counters l count i h g b =
     let within : i < length (take count l) = omega (arith, length-take count l) in
     rw (getD-take count l i past-the-last h) at (blocks-in counters (take count l) i within b)
 
@@ -93,5 +93,5 @@ added-any counters energies (entry ∷ l) added = one (entry .shape) (λ (a : Li
     one : (s : Shape) → ((a : List ℕ) → addedTo a (allShow counters [] l) ≡ addedTo a (allShow counters energies l))
         → addedTo (withHistory added (shapeShows counters [] s)) (allShow counters [] l)
         ≡ addedTo (withHistory added (shapeShows counters energies s)) (allShow counters energies l)
-    one (Histogram start) rest = rest (sums added (blockAt counters start))
+    one (Histogram start) rest = rest (sums added (countersAt counters start))
     one (Queue-at start queue) rest = rest added

@@ -8,7 +8,7 @@ use lib.Ieee.{Float}
 use Rattle.histogram_bins.specs.Bin.{bins}
 use Rattle.histogram.specs.Histogram.{empty, sums}
 use Rattle.history.specs.declared.set.Entry.{Entry}
-use Rattle.history.specs.Set.{blockAt, shows, allShow}
+use Rattle.history.specs.Set.{countersAt, shows, allShow}
 use Rattle.history.proofs.Entries.{past-the-last}
 use Rattle.gate.specs.Totals.{none}
 use Rattle.spans.specs.Span.{nothing}
@@ -23,10 +23,10 @@ sums-zeros zero (x ∷ l) e = absurd (omega (arith, e))
 sums-zeros (suc n) [] e = absurd (omega (arith, e))
 sums-zeros (suc n) (x ∷ l) e = ap {B = List ℕ} (λ (k : ℕ). k ∷ sums (replicate n 0) l) {x = 0 + x} {y = x} (omega arith) ∙ ap {B = List ℕ} (λ (r : List ℕ). x ∷ r) (sums-zeros n l (omega (arith, e)))
 
-pub block-alone : (counters : List ℕ) (start : ℕ) → start + bins ≤ length counters → blockAt counters start ≡ sums empty (blockAt counters start)
-block-alone counters start h =
-    sym (ap (λ (l : List ℕ). sums l (blockAt counters start)) (sym empty-is)
-    ∙ sums-zeros bins (blockAt counters start) (simp (length-take, length-drop) (omega arith)))
+pub counters-alone : (counters : List ℕ) (start : ℕ) → start + bins ≤ length counters → countersAt counters start ≡ sums empty (countersAt counters start)
+counters-alone counters start h =
+    sym (ap (λ (l : List ℕ). sums l (countersAt counters start)) (sym empty-is)
+    ∙ sums-zeros bins (countersAt counters start) (simp (length-take, length-drop) (omega arith)))
 
 blocks-zeros : (n : ℕ) → blocksIn (replicate n 0) ≡ 0
 unfolding blocksIn

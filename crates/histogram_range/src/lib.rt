@@ -14,7 +14,7 @@ ghost use lib.Ieee.{binary64, ofInt};
 ghost use Rattle.refusals.specs.Outcome.{says, saidBy};
 ghost use Rattle.histogram_bins.specs.Bin.{bins};
 ghost use Rattle.histogram.specs.Histogram.{largestCount, empty, sums};
-ghost use Rattle.history.specs.Set.{mostHistories, histories, blockEnd, blocksInside, shows, allShow};
+ghost use Rattle.history.specs.Set.{mostHistories, histories, countersEnd, countersInside, shows, allShow};
 ghost use Rattle.gate.specs.Totals.{none, binsFrom};
 ghost use Rattle.spans.specs.Span.{said};
 ghost use Rattle.histogram_range.specs.Counted.{
@@ -31,26 +31,21 @@ ghost use Rattle.histogram_range.specs.Counted.{
 };
 ghost use Rattle.block_range.specs.Counted.{Short};
 
-fn wide(x: u32) -> u64
-    ensures { λ r. ⌜ r ≡ x ⌝ }
-{
-    x as u64
-}
-
-fn add_block(added: &mut [u64], block: &[u32])
-    requires { ⌜ (length (now added) ≡ bins) × (length (now block) ≡ bins) × AtMost (15 * largestCount) (now added) ⌝ }
-    ensures { λ _. ⌜ now (added .exit) ≡ sums (now (added .entry)) (now (block .entry)) ⌝ }
+// A histogram's counters are added, bin by bin.
+fn add_counters(added: &mut [u64], counters: &[u32])
+    requires { ⌜ (length (now added) ≡ bins) × (length (now counters) ≡ bins) × AtMost (15 * largestCount) (now added) ⌝ }
+    ensures { λ _. ⌜ now (added .exit) ≡ sums (now (added .entry)) (now (counters .entry)) ⌝ }
 {
     let mut bin = 0;
     while bin < histogram_bins::BINS {
-        added[bin] = added[bin] + wide(block[bin]);
+        added[bin] = added[bin] + histogram_bins::wide(counters[bin]);
         bin += 1;
     }
 }
 
 // The counters of a history are added, where it is a histogram.
 fn add_history(added: &mut [u64], entry: Entry, counters: &[u32])
-    requires { ⌜ (blockEnd (entry .shape) ≤ length (now counters)) × (length (now added) ≡ bins) × AtMost (15 * largestCount) (now added) ⌝ }
+    requires { ⌜ (countersEnd (entry .shape) ≤ length (now counters)) × (length (now added) ≡ bins) × AtMost (15 * largestCount) (now added) ⌝ }
     ensures { λ _. ⌜ (now (added .exit) ≡ withHistory (now (added .entry)) (shows (now (counters .entry)) [] entry))
         × ((most : ℕ) → AtMost most (now (added .entry)) → AtMost (most + largestCount) (now (added .exit))) ⌝ }
 {
@@ -58,14 +53,14 @@ fn add_history(added: &mut [u64], entry: Entry, counters: &[u32])
     match shape {
         Shape::Histogram(start) => {
             let end = start + histogram_bins::BINS;
-            add_block(added, &counters[start..end]);
+            add_counters(added, &counters[start..end]);
         }
         Shape::Queue(_, _) => {}
     }
 }
 
 fn add_histories(added: &mut [u64], entries: [Entry; MOST], count: usize, counters: &[u32])
-    requires { ⌜ (count ≤ mostHistories) × (blocksInside (length (now counters)) (take count entries)) × (length (now added) ≡ bins) × AtMost 0 (now added) ⌝ }
+    requires { ⌜ (count ≤ mostHistories) × (countersInside (length (now counters)) (take count entries)) × (length (now added) ≡ bins) × AtMost 0 (now added) ⌝ }
     ensures { λ _. ⌜ (now (added .exit) ≡ addedTo (now (added .entry)) (allShow (now (counters .entry)) [] (take count entries))) × AtMost mostInBin (now (added .exit)) ⌝ }
 {
     let mut i = 0;
@@ -76,7 +71,7 @@ fn add_histories(added: &mut [u64], entries: [Entry; MOST], count: usize, counte
     }
 }
 
-// The blocks of a bin as a float: by way of a signed number, since x86-64 converts no unsigned one of 64 bits.
+// The blocks of a bin as a float, by way of a signed number.
 fn float(blocks: u64) -> f64
     requires { ⌜ blocks ≤ mostInBin ⌝ }
     ensures { λ r. ⌜ r ≡ ofInt binary64 (pos blocks) ⌝ }
@@ -166,19 +161,19 @@ fn span_of(counters: &[u64]) -> Range
 
 // The range of a single history, to which nothing is added.
 fn alone(entry: Entry, counters: &[u32]) -> Range
-    requires { ⌜ blockEnd (entry .shape) ≤ length (now counters) ⌝ }
+    requires { ⌜ countersEnd (entry .shape) ≤ length (now counters) ⌝ }
     ensures { λ r. ⌜ said r ≡ says (countedSpan (withHistory empty (shows (now (counters .entry)) [] entry))) ⌝ }
 {
     let shape = entry.shape;
     match shape {
-        Shape::Histogram(start) => block_range::of_block(counters, start),
+        Shape::Histogram(start) => block_range::of_counters(counters, start),
         Shape::Queue(_, _) => Range::Nothing,
     }
 }
 
 // The range of the first history of a set.
 fn of_one(entries: [Entry; MOST], counters: &[u32]) -> Range
-    requires { ⌜ blocksInside (length (now counters)) (take 1 entries) ⌝ }
+    requires { ⌜ countersInside (length (now counters)) (take 1 entries) ⌝ }
     ensures { λ r. ⌜ said r ≡ says (countedSpan (addedTo empty (allShow (now (counters .entry)) [] (take 1 entries)))) ⌝ }
 {
     let entry = entries[0];

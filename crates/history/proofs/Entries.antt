@@ -23,9 +23,9 @@ use Rattle.history.specs.Set.{
   queueAt,
   shows,
   allShow,
-  blockEnd,
+  countersEnd,
   storeEnd,
-  blocksInside,
+  countersInside,
   storesInside,
   isOutside,
   anyOutside,
@@ -141,16 +141,16 @@ unfolding anyOutside
 stores-inside counters energies [] h = tt
 stores-inside counters energies (entry ∷ l) h =
     let w = either-not (isOutside counters energies entry) (anyOutside counters energies l) h in
-    let v = either-not (ltb counters (blockEnd (entry .shape))) (ltb energies (storeEnd (entry .shape))) (w .0) in
+    let v = either-not (ltb counters (countersEnd (entry .shape))) (ltb energies (storeEnd (entry .shape))) (w .0) in
     (ltb-false energies (storeEnd (entry .shape)) (v .1), stores-inside counters energies l (w .1))
 
-pub blocks-inside : (counters energies : ℕ) (l : List Entry) → anyOutside counters energies l ≡ false → blocksInside counters l
+pub all-counters-inside : (counters energies : ℕ) (l : List Entry) → anyOutside counters energies l ≡ false → countersInside counters l
 unfolding anyOutside
-blocks-inside counters energies [] h = tt
-blocks-inside counters energies (entry ∷ l) h =
+all-counters-inside counters energies [] h = tt
+all-counters-inside counters energies (entry ∷ l) h =
     let w = either-not (isOutside counters energies entry) (anyOutside counters energies l) h in
-    let v = either-not (ltb counters (blockEnd (entry .shape))) (ltb energies (storeEnd (entry .shape))) (w .0) in
-    (ltb-false counters (blockEnd (entry .shape)) (v .0), blocks-inside counters energies l (w .1))
+    let v = either-not (ltb counters (countersEnd (entry .shape))) (ltb energies (storeEnd (entry .shape))) (w .0) in
+    (ltb-false counters (countersEnd (entry .shape)) (v .0), all-counters-inside counters energies l (w .1))
 
 -- ---- one entry of a set of which none reaches outside and every store is sound
 module _ (counters energies : ℕ) where
@@ -166,13 +166,13 @@ module _ (counters energies : ℕ) where
       let within : i < length (take count l) = omega (arith, length-take count l) in
       ap (isOutside counters energies) (sym (getD-take count l i past-the-last h)) ∙ outside-in (take count l) i within e
 
-  pub block-inside : (entry : Entry) → isOutside counters energies entry ≡ false → blockEnd (entry .shape) ≤ counters
-  block-inside entry e =
-      ltb-false counters (blockEnd (entry .shape)) (either-not (ltb counters (blockEnd (entry .shape))) (ltb energies (storeEnd (entry .shape))) e .0)
+  pub counters-inside : (entry : Entry) → isOutside counters energies entry ≡ false → countersEnd (entry .shape) ≤ counters
+  counters-inside entry e =
+      ltb-false counters (countersEnd (entry .shape)) (either-not (ltb counters (countersEnd (entry .shape))) (ltb energies (storeEnd (entry .shape))) e .0)
 
   pub store-inside : (entry : Entry) → isOutside counters energies entry ≡ false → storeEnd (entry .shape) ≤ energies
   store-inside entry e =
-      ltb-false energies (storeEnd (entry .shape)) (either-not (ltb counters (blockEnd (entry .shape))) (ltb energies (storeEnd (entry .shape))) e .1)
+      ltb-false energies (storeEnd (entry .shape)) (either-not (ltb counters (countersEnd (entry .shape))) (ltb energies (storeEnd (entry .shape))) e .1)
 
 both : (a b : Bool) → a && b ≡ true → (a ≡ true) × (b ≡ true)
 both true b h = (refl, h)

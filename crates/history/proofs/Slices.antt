@@ -14,10 +14,10 @@ pub use Rattle.queue.specs.Queue.{slice}
 use Rattle.queue.specs.Queue.{suits, heldOf, partsOf, inParts}
 pub use Rattle.queue.proofs.Standing.{slice-length, slice-next, slice-end}
 use Rattle.queue.proofs.Standing.{inside, held-in-parts}
-use Rattle.history.specs.Set.{blockAt, queueAt, noneBelow}
+use Rattle.history.specs.Set.{countersAt, queueAt, noneBelow}
 
-pub block-slice : (counters : List ℕ) (start : ℕ) → blockAt counters start ≡ slice start (start + bins) counters
-block-slice counters start = ap (λ (n : ℕ). take n (drop start counters)) {x = bins} {y = start + bins - start} (omega arith)
+pub counters-slice : (counters : List ℕ) (start : ℕ) → countersAt counters start ≡ slice start (start + bins) counters
+counters-slice counters start = ap (λ (n : ℕ). take n (drop start counters)) {x = bins} {y = start + bins - start} (omega arith)
 
 pub held-slices : (energies : List Float) (start : ℕ) (queue : Queue) → start + queue .maximum ≤ length energies → suits queue (queue .maximum) ≡ true
     → heldOf (queueAt energies start queue) ≡ inParts (partsOf queue start (length energies)) energies

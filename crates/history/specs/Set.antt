@@ -40,15 +40,15 @@ pub data History : Type 0 where
   listed : List Float → History
 
 -- 1,000 counters from a place on
-abbrev pub blockAt : List ℕ → ℕ → List ℕ
-blockAt counters start = take bins (drop start counters)
+abbrev pub countersAt : List ℕ → ℕ → List ℕ
+countersAt counters start = take bins (drop start counters)
 
 -- a queue over its store, which starts at a place of the energies
 abbrev pub queueAt : List Float → ℕ → Queue → Stored
 queueAt energies start queue = over queue (take (queue .maximum) (drop start energies))
 
 abbrev pub shapeShows : List ℕ → List Float → Shape → History
-shapeShows counters energies (Histogram start) = counted (blockAt counters start)
+shapeShows counters energies (Histogram start) = counted (countersAt counters start)
 shapeShows counters energies (Queue-at start queue) = listed (heldOf (queueAt energies start queue))
 
 abbrev pub shows : List ℕ → List Float → Entry → History
@@ -64,9 +64,9 @@ historiesOf h = allShow (h .counters) (h .energies) (chosen h)
 
 -- ---- SET: "more than 16 histories, or an entry reaching outside its lent slice"
 -- where the counters of an entry end, and where its energies do
-abbrev pub blockEnd : Shape → ℕ
-blockEnd (Histogram start) = start + bins
-blockEnd (Queue-at start queue) = 0
+abbrev pub countersEnd : Shape → ℕ
+countersEnd (Histogram start) = start + bins
+countersEnd (Queue-at start queue) = 0
 
 abbrev pub storeEnd : Shape → ℕ
 storeEnd (Histogram start) = 0
@@ -74,7 +74,7 @@ storeEnd (Queue-at start queue) = start + queue .maximum
 
 -- whether an entry reaches outside so many counters or so many energies
 abbrev pub isOutside : ℕ → ℕ → Entry → Bool
-isOutside counters energies entry = ltb counters (blockEnd (entry .shape)) || ltb energies (storeEnd (entry .shape))
+isOutside counters energies entry = ltb counters (countersEnd (entry .shape)) || ltb energies (storeEnd (entry .shape))
 
 unfoldable pub anyOutside : ℕ → ℕ → List Entry → Bool
 anyOutside counters energies [] = false
@@ -84,10 +84,10 @@ anyOutside counters energies (entry ∷ rest) = isOutside counters energies entr
 abbrev pub outsideSet : Histories → Bool
 outsideSet h = ltb mostHistories (h .count) || anyOutside (length (h .counters)) (length (h .energies)) (chosen h)
 
--- every block ends within so many counters, every store within so many energies
-abbrev pub blocksInside : ℕ → List Entry → Type 0
-blocksInside counters [] = Unit
-blocksInside counters (entry ∷ rest) = (blockEnd (entry .shape) ≤ counters) × blocksInside counters rest
+-- the counters of every histogram end within so many, and every store within so many energies
+abbrev pub countersInside : ℕ → List Entry → Type 0
+countersInside counters [] = Unit
+countersInside counters (entry ∷ rest) = (countersEnd (entry .shape) ≤ counters) × countersInside counters rest
 
 abbrev pub storesInside : ℕ → List Entry → Type 0
 storesInside energies [] = Unit

@@ -12,7 +12,7 @@ use Rattle.refusals.specs.Rows.{Row, byRows}
 use Rattle.refusals.proofs.Rows.{rows-then}
 use Rattle.histogram_bins.specs.Bin.{bins, binOf}
 use Rattle.histogram.specs.Histogram.{empty, sums}
-use Rattle.history.specs.Set.{blockAt, anyOutside, allSound, allShow}
+use Rattle.history.specs.Set.{countersAt, anyOutside, allSound, allShow}
 use Rattle.spans.specs.Span.{Span, found, nothing, notANumber}
 use Rattle.histogram_range.specs.Counted.{addedTo, blocksIn, countedSpan}
 use Rattle.histogram_range.proofs.Adding.{sums-length}
@@ -28,7 +28,7 @@ use Rattle.summary.proofs.Rising.{Rising, counted-rises}
 -- ---- counters alone
 -- their range: that of the counters added to none
 abbrev pub spanOf : List ℕ → Span
-spanOf counters = countedSpan (sums empty (blockAt counters 0))
+spanOf counters = countedSpan (sums empty (countersAt counters 0))
 
 range-alone : (counters : List ℕ) → length counters ≡ bins → rangeOf (alone counters) [] ≡ went [] (spanOf counters)
 unfolding alone rangeOf anyOutside allSound allShow queuesIn addedTo
@@ -87,7 +87,7 @@ in-order blocks notANumber h = tt
 pub record-in-order : (bytes : List ℕ) → InOrder (figuresFrom bytes)
 record-in-order bytes =
     in-order (blocksIn (countersIn bytes)) (spanOf (countersIn bytes))
-    (counted-rises (sums empty (blockAt (countersIn bytes) 0)) (sums-length empty (blockAt (countersIn bytes) 0) ∙ empty-length))
+    (counted-rises (sums empty (countersAt (countersIn bytes) 0)) (sums-length empty (countersAt (countersIn bytes) 0) ∙ empty-length))
 
 out-of : (rows : List Row) (mine figures : Figures) → InOrder mine → byRows rows (answers mine) ≡ answers figures → InOrder figures
 out-of [] mine figures h e = let same : mine ≡ figures = cc in subst InOrder same h

@@ -23,12 +23,6 @@ pub enum Summary {
     Refused(u8),
 }
 
-fn wide(count: u32) -> u64
-    ensures { λ r. ⌜ r ≡ count ⌝ }
-{
-    count as u64
-}
-
 fn blocks_in(counters: &[u32]) -> u64
     requires { ⌜ length (now counters) ≡ bins ⌝ }
     ensures { λ r. ⌜ r ≡ blocksIn (now (counters .entry)) ⌝ }
@@ -36,7 +30,7 @@ fn blocks_in(counters: &[u32]) -> u64
     let mut blocks: u64 = 0;
     let mut bin = 0;
     while bin < counters.len() {
-        blocks = blocks + wide(counters[bin]);
+        blocks = blocks + histogram_bins::wide(counters[bin]);
         bin += 1;
     }
     blocks

@@ -12,10 +12,10 @@ use Rattle.block_range.proofs.blocks_of.Statement.{statement}
 use Rattle.block_range.proofs.blocks_of.Tie as tie
 
 abbrev Inv-loop : tie.InvT-loop
-Inv-loop block from until blocks₀ bin₀ blocks bin = (bin ≤ until) × (blocksIn (take from block) + blocks ≡ blocksIn (take bin block))
+Inv-loop counters from until blocks₀ bin₀ blocks bin = (bin ≤ until) × (blocksIn (take from counters) + blocks ≡ blocksIn (take bin counters))
 
 abbrev μ-loop : tie.MeasureT-loop
-μ-loop block from until blocks₀ bin₀ blocks bin = until - bin
+μ-loop counters from until blocks₀ bin₀ blocks bin = until - bin
 
 loop-holds : tie.Need-loop-holds Inv-loop μ-loop
 loop-holds c = (omega arith, omega arith)
@@ -32,9 +32,9 @@ wide-requires c κs = search needs
 add-blocks : tie.Need-add-blocks Inv-loop μ-loop
 add-blocks c =
     let l = c .before .before .before in
-    let block = now (l .before .before .args .block) in
+    let counters = now (l .before .before .args .counters) in
     let given = l .before .shared-slice-known .given in
-    omega (arith, l .loop .inv .1, blocks-up-to largestCount block (λ i. omega (arith, given i)) (l .loop .bin), c .wide .ensures, given (l .loop .bin))
+    omega (arith, l .loop .inv .1, blocks-up-to largestCount counters (λ i. omega (arith, given i)) (l .loop .bin), c .wide .ensures, given (l .loop .bin))
 
 add-bin : tie.Need-add-bin Inv-loop μ-loop
 add-bin c = search needs
@@ -45,12 +45,12 @@ loop-less c = search needs
 loop-again : tie.Need-loop-again Inv-loop μ-loop
 loop-again c =
     let l = c .before .before .before in
-    (omega arith, omega (arith, l .loop .inv .1, c .wide .ensures, blocks-more (now (l .before .before .args .block)) (l .loop .bin) (omega arith)))
+    (omega arith, omega (arith, l .loop .inv .1, c .wide .ensures, blocks-more (now (l .before .before .args .counters)) (l .loop .bin) (omega arith)))
 
 returns : tie.Need-returns Inv-loop μ-loop
 returns c =
     let l = c .before in
-    l .loop .inv .1 ∙ ap (λ (n : ℕ). blocksIn (take n (now (l .before .before .args .block)))) {x = l .loop .bin} {y = l .before .before .args .until} (omega arith)
+    l .loop .inv .1 ∙ ap (λ (n : ℕ). blocksIn (take n (now (l .before .before .args .counters)))) {x = l .loop .bin} {y = l .before .before .args .until} (omega arith)
 
 pub blocks-of-spec : {M : Type 1} → statement M
 blocks-of-spec =

@@ -14,10 +14,10 @@ use Rattle.block_range.proofs.first_past.Statement.{statement}
 use Rattle.block_range.proofs.first_past.Tie as tie
 
 abbrev Inv-loop : tie.InvT-loop
-Inv-loop block rank bin₀ before₀ bin before = (bin ≤ bins) × (before ≡ blocksIn (take bin block)) × (before ≤ rank)
+Inv-loop counters rank bin₀ before₀ bin before = (bin ≤ bins) × (before ≡ blocksIn (take bin counters)) × (before ≤ rank)
 
 abbrev μ-loop : tie.MeasureT-loop
-μ-loop block rank bin₀ before₀ bin before = bins - bin
+μ-loop counters rank bin₀ before₀ bin before = bins - bin
 
 pass-by-requires : tie.Need-pass-by-requires Inv-loop μ-loop
 pass-by-requires c κs = search needs
@@ -38,16 +38,16 @@ add-next : tie.Need-add-next Inv-loop μ-loop
 add-next c =
     let l = c .before .before .before in
     let s = l .before .before in
-    let block = now (s .before .args .block) in
+    let counters = now (s .before .args .counters) in
     let given = s .shared-slice-known .given in
-    omega (arith, c .wide .ensures, given (l .loop .bin), blocks-up-to largestCount block (λ i. omega (arith, given i)) (l .loop .bin))
+    omega (arith, c .wide .ensures, given (l .loop .bin), blocks-up-to largestCount counters (λ i. omega (arith, given i)) (l .loop .bin))
 
 returns : tie.Need-returns Inv-loop μ-loop
 returns c =
     let w = c .before in
     let l = w .before .before .before in
     let a = l .before .before .before .args in (
-      found-at (a .rank) (now (a .block)) (l .loop .bin) (omega arith) (omega arith) (λ _. omega (arith, w .wide .ensures)),
+      found-at (a .rank) (now (a .counters)) (l .loop .bin) (omega arith) (omega arith) (λ _. omega (arith, w .wide .ensures)),
       l .loop .inv,
     )
 
@@ -61,13 +61,13 @@ loop-again : tie.Need-loop-again Inv-loop μ-loop
 loop-again c =
     let w = c .before in
     let l = w .before .before .before in
-    (omega arith, omega (arith, w .wide .ensures, blocks-more (now (l .before .before .before .args .block)) (l .loop .bin) (omega arith)), omega arith)
+    (omega arith, omega (arith, w .wide .ensures, blocks-more (now (l .before .before .before .args .counters)) (l .loop .bin) (omega arith)), omega arith)
 
 returns-2 : tie.Need-returns-2 Inv-loop μ-loop
 returns-2 c =
     let l = c .before in
     let a = l .before .before .before .args in
-    (found-at (a .rank) (now (a .block)) (l .loop .bin) (omega arith) (omega arith) (λ k. absurd (omega (arith, k))), l .loop .inv)
+    (found-at (a .rank) (now (a .counters)) (l .loop .bin) (omega arith) (omega arith) (λ k. absurd (omega (arith, k))), l .loop .inv)
 
 pub first-past-spec : {M : Type 1} → statement M
 first-past-spec =

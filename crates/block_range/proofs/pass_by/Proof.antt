@@ -13,10 +13,10 @@ use Rattle.block_range.proofs.pass_by.Statement.{statement}
 use Rattle.block_range.proofs.pass_by.Tie as tie
 
 abbrev Inv-loop : tie.InvT-loop
-Inv-loop block rank bin₀ before₀ bin before = (bin ≤ bins) × (before ≡ blocksIn (take bin block)) × (before ≤ rank)
+Inv-loop counters rank bin₀ before₀ bin before = (bin ≤ bins) × (before ≡ blocksIn (take bin counters)) × (before ≤ rank)
 
 abbrev μ-loop : tie.MeasureT-loop
-μ-loop block rank bin₀ before₀ bin before = bins - bin
+μ-loop counters rank bin₀ before₀ bin before = bins - bin
 
 loop-holds : tie.Need-loop-holds Inv-loop μ-loop
 loop-holds c = (omega arith, omega arith, omega arith)
@@ -33,9 +33,9 @@ blocks-of-requires c κs = search needs
 add-next : tie.Need-add-next Inv-loop μ-loop
 add-next c =
     let l = c .before .before in
-    let block = now (l .before .before .args .block) in
+    let counters = now (l .before .before .args .counters) in
     let given = l .before .shared-slice-known .given in
-    omega (arith, c .blocks-of .ensures, blocks-up-to largestCount block (λ i. omega (arith, given i)) (l .loop .bin + 20))
+    omega (arith, c .blocks-of .ensures, blocks-up-to largestCount counters (λ i. omega (arith, given i)) (l .loop .bin + 20))
 
 returns : tie.Need-returns Inv-loop μ-loop
 returns c = c .before .before .before .loop .inv

@@ -16,21 +16,21 @@ use Rattle.block_range.proofs.ranked.Tie as tie
 -- what stands below the gate
 before-is : (b : tie.After-blocks-of) →
     let a = b .before .before .args in
-    b .blocks-of .result ≡ blocksIn (take (a .start) (now (a .block)))
-before-is b = omega (arith, b .blocks-of .ensures, blocks-none (now (b .before .before .args .block)))
+    b .blocks-of .result ≡ blocksIn (take (a .start) (now (a .counters)))
+before-is b = omega (arith, b .blocks-of .ensures, blocks-none (now (b .before .before .args .counters)))
 
 blocks-of-requires : tie.Need-blocks-of-requires
 blocks-of-requires c κs = search needs
 
 sub-left : tie.Need-sub-left
-sub-left c = let a = c .before .before .args in omega (arith, before-is c, blocks-part (now (a .block)) (a .start))
+sub-left c = let a = c .before .before .args in omega (arith, before-is c, blocks-part (now (a .counters)) (a .start))
 
 returns : tie.Need-returns
 returns c =
     let b = c .before in
     let a = b .before .before .args in
-    ap {B = Said Span} says (sym (left-none (now (a .block)) (b .blocks-of .result) (a .count - b .blocks-of .result) (c .if1 .taken))
-    ∙ ap (λ (n : ℕ). leftIn (now (a .block)) n (a .count - n)) (before-is b))
+    ap {B = Said Span} says (sym (left-none (now (a .counters)) (b .blocks-of .result) (a .count - b .blocks-of .result) (c .if1 .taken))
+    ∙ ap (λ (n : ℕ). leftIn (now (a .counters)) n (a .count - n)) (before-is b))
 
 sub-low-rank : tie.Need-sub-low-rank
 sub-low-rank c = search needs
@@ -72,9 +72,9 @@ returns-2 c =
     let before = b .blocks-of .result in
     c .of-bins .ensures
     ∙ ap {B = Said Span} says (
-    left-read (now (a .block)) before (a .count - before) (low .before .low-rank .result) (high .before .high-rank .result) (low .first-past .result .bin) (high .first-past2 .result .bin)
+    left-read (now (a .counters)) before (a .count - before) (low .before .low-rank .result) (high .before .high-rank .result) (low .first-past .result .bin) (high .first-past2 .result .bin)
     (e .if1 .left) (low .before .low-rank .ensures) (high .before .high-rank .ensures) (low .first-past .ensures .0) (high .first-past2 .ensures .0)
-    ∙ ap (λ (n : ℕ). leftIn (now (a .block)) n (a .count - n)) (before-is b))
+    ∙ ap (λ (n : ℕ). leftIn (now (a .counters)) n (a .count - n)) (before-is b))
 
 pub ranked-spec : {M : Type 1} → statement M
 ranked-spec =

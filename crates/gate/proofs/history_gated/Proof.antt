@@ -5,8 +5,8 @@ use borrow.Author.Needs.{needs}
 use denote.Ref.{now}
 use lib.ListN.{length, drop}
 use Rattle.history.specs.declared.set.Shape.{Shape}
-use Rattle.history.specs.Set.{blockEnd, storeEnd, blockAt, shapeShows}
-use Rattle.history.proofs.Entries.{block-inside, store-inside, sound-queue}
+use Rattle.history.specs.Set.{countersEnd, storeEnd, countersAt, shapeShows}
+use Rattle.history.proofs.Entries.{counters-inside, store-inside, sound-queue}
 use Rattle.gate.specs.declared.blocks.Totals.{Totals}
 use Rattle.gate.specs.Totals.{onTopOf, binsFrom}
 use Rattle.gate.specs.Inner.{Steady}
@@ -37,13 +37,13 @@ returns c =
     let start = c .before .before .shape .given .0 .0 in
     let is = c .before .before .shape .given .1 in
     let gated = c .from-bin in
-    let within = subst (λ (s : Shape). blockEnd s ≤ length counters) is (block-inside (length counters) (length (now (a .energies))) (a .entry) (w .pre .0)) in
+    let within = subst (λ (s : Shape). countersEnd s ≤ length counters) is (counters-inside (length counters) (length (now (a .energies))) (a .entry) (w .pre .0)) in
     let on = gated .ensures .0 ∙ there (a .sum) counters start (a .bin) within in (
       on
-          ∙ ap (λ n. binsFrom (onTopOf (a .sum)) n (drop n (blockAt counters start))) (w .pre .2)
+          ∙ ap (λ n. binsFrom (onTopOf (a .sum)) n (drop n (countersAt counters start))) (w .pre .2)
           ∙ ap (λ (s : Shape). gatedOf (a .threshold) (onTopOf (a .sum)) (shapeShows counters (now (a .energies)) s)) (sym is),
       gated .ensures .1,
-      subst (λ (t : Totals). Steady (t .sum)) (sym on) (bins-steady (onTopOf (a .sum)) (a .bin) (drop (a .bin) (blockAt counters start)) (w .pre .3)),
+      subst (λ (t : Totals). Steady (t .sum)) (sym on) (bins-steady (onTopOf (a .sum)) (a .bin) (drop (a .bin) (countersAt counters start)) (w .pre .3)),
     )
 
 returns-2 : tie.Need-returns-2

@@ -10,7 +10,7 @@ use Rattle.histogram.specs.Histogram.{largestCount}
 use Rattle.history.specs.Set.{allShow}
 use Rattle.histogram_range.specs.Counted.{addedTo}
 use Rattle.histogram_range.specs.Counted.{AtMost}
-use Rattle.histogram_range.proofs.Adding.{block-at, added-turn, added-end}
+use Rattle.histogram_range.proofs.Adding.{counters-at, added-turn, added-end}
 use borrow.Author.Needs.{needs}
 use Rattle.histogram_range.proofs.add_histories.Statement.{statement}
 use Rattle.histogram_range.proofs.add_histories.Tie as tie
@@ -38,7 +38,7 @@ add-history-requires : tie.Need-add-history-requires Inv-loop μ-loop
 add-history-requires c κs =
     let l = c .before .before .before in
     let s = l .before .before .before in (
-      block-at (length (now (s .args .counters))) (s .args .t2) (s .args .count) (l .loop .i) (omega arith) (omega arith) (s .pre .1),
+      counters-at (length (now (s .args .counters))) (s .args .t2) (s .args .count) (l .loop .i) (omega arith) (omega arith) (s .pre .1),
       l .loop .inv .1,
       λ (k : ℕ). omega (arith, l .loop .inv .2 k),
     )

@@ -8,8 +8,8 @@ use lib.ListN.{length}
 use Rattle.histogram_bins.specs.Bin.{bins}
 use Rattle.histogram.specs.Histogram.{largestCount, sums}
 use Rattle.history.specs.declared.set.Shape.{Shape}
-use Rattle.history.specs.Set.{blockEnd, shapeShows}
-use Rattle.history.proofs.Slices.{slice, slice-length, block-slice}
+use Rattle.history.specs.Set.{countersEnd, shapeShows}
+use Rattle.history.proofs.Slices.{slice, slice-length, counters-slice}
 use Rattle.histogram_range.specs.Counted.{withHistory}
 use Rattle.histogram_range.specs.Counted.{AtMost}
 use Rattle.histogram_range.proofs.Adding.{sums-most, part-most}
@@ -21,7 +21,7 @@ use Rattle.histogram_range.proofs.add_history.Tie as tie
 inside : (c : tie.After-shape) → c .shape .given .0 .0 + bins ≤ length (now (c .before .before .before .before .args .counters))
 inside c =
     let w = c .before .before .before .before in
-    subst (λ (s : Shape). blockEnd s ≤ length (now (w .args .counters))) (c .shape .given .1) (w .pre .0)
+    subst (λ (s : Shape). countersEnd s ≤ length (now (w .args .counters))) (c .shape .given .1) (w .pre .0)
 
 enum-known-shape : tie.Need-enum-known-shape
 enum-known-shape c = search needs
@@ -29,20 +29,20 @@ enum-known-shape c = search needs
 add-end : tie.Need-add-end
 add-end c = omega (arith, inside (c .before))
 
-mul-add-block : tie.Need-mul-add-block
-mul-add-block c = omega (arith, inside (c .before .before))
+mul-add-counters : tie.Need-mul-add-counters
+mul-add-counters c = omega (arith, inside (c .before .before))
 
-sub-add-block : tie.Need-sub-add-block
-sub-add-block c = omega (arith, inside (c .before .before))
+sub-add-counters : tie.Need-sub-add-counters
+sub-add-counters c = omega (arith, inside (c .before .before))
 
-part-add-block-start : tie.Need-part-add-block-start
-part-add-block-start c = omega (arith, inside (c .before .before))
+part-add-counters-start : tie.Need-part-add-counters-start
+part-add-counters-start c = omega (arith, inside (c .before .before))
 
-part-add-block-end : tie.Need-part-add-block-end
-part-add-block-end c = omega (arith, inside (c .before .before))
+part-add-counters-end : tie.Need-part-add-counters-end
+part-add-counters-end c = omega (arith, inside (c .before .before))
 
-add-block-requires : tie.Need-add-block-requires
-add-block-requires c κs =
+add-counters-requires : tie.Need-add-counters-requires
+add-counters-requires c κs =
     let h = c .before .before .before in
     let w = h .before .before .before .before in
     let start = h .shape .given .0 .0 in
@@ -60,10 +60,10 @@ returns c =
     let known = h .before .before in
     let a = known .before .before .args in
     let start = h .shape .given .0 .0 in
-    let done = c .before .before .add-block in
+    let done = c .before .before .add-counters in
     let block = slice start (start + bins) (now (a .counters)) in (
       done .ensures
-          ∙ ap (sums (now (a .added))) (sym (block-slice (now (a .counters)) start))
+          ∙ ap (sums (now (a .added))) (sym (counters-slice (now (a .counters)) start))
           ∙ ap (λ (s : Shape). withHistory (now (a .added)) (shapeShows (now (a .counters)) [] s)) (sym (h .shape .given .1)),
       λ (most : ℕ) (b : AtMost most (now (a .added))). subst (λ (l : List ℕ). AtMost (most + largestCount) l) (sym (done .ensures))
           (sums-most most (now (a .added)) block b (part-most (now (a .counters)) start (start + bins - start) (λ (k : ℕ). omega (arith, known .shared-slice-known .given k)))),
@@ -82,11 +82,11 @@ add-history-spec =
     (tie.spec
     enum-known-shape
     add-end
-    mul-add-block
-    sub-add-block
-    part-add-block-start
-    part-add-block-end
-    add-block-requires
+    mul-add-counters
+    sub-add-counters
+    part-add-counters-start
+    part-add-counters-end
+    add-counters-requires
     enum-told
     same-length
     returns

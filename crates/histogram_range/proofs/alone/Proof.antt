@@ -8,19 +8,19 @@ use lib.ListN.{length}
 use Rattle.refusals.specs.Outcome.{Said, says}
 use Rattle.histogram.specs.Histogram.{empty}
 use Rattle.history.specs.declared.set.Shape.{Shape}
-use Rattle.history.specs.Set.{blockEnd, shapeShows}
+use Rattle.history.specs.Set.{countersEnd, shapeShows}
 use Rattle.spans.specs.Span.{Span}
 use Rattle.block_range.proofs.Answers.{span-there}
 use Rattle.histogram_range.specs.Counted.{withHistory, countedSpan}
-use Rattle.histogram_range.proofs.Single.{block-alone, empty-nothing}
+use Rattle.histogram_range.proofs.Single.{counters-alone, empty-nothing}
 use Rattle.histogram_range.proofs.alone.Statement.{statement}
 use Rattle.histogram_range.proofs.alone.Tie as tie
 
 enum-known-shape : tie.Need-enum-known-shape
 enum-known-shape c = search needs
 
-of-block-requires : tie.Need-of-block-requires
-of-block-requires c κs = search needs
+of-counters-requires : tie.Need-of-counters-requires
+of-counters-requires c κs = search needs
 
 enum-told : tie.Need-enum-told
 enum-told c = search needs
@@ -31,10 +31,10 @@ returns c =
     let w = h .before .before .before in
     let a = w .args in
     let start = h .shape .given .0 .0 in
-    let inside = subst (λ (s : Shape). blockEnd s ≤ length (now (a .counters))) (h .shape .given .1) (w .pre) in
-    c .of-block .ensures
+    let inside = subst (λ (s : Shape). countersEnd s ≤ length (now (a .counters))) (h .shape .given .1) (w .pre) in
+    c .of-counters .ensures
     ∙ ap {B = Said Span} says (span-there (now (a .counters)) start inside
-    ∙ ap countedSpan (block-alone (now (a .counters)) start inside)
+    ∙ ap countedSpan (counters-alone (now (a .counters)) start inside)
     ∙ ap (λ (s : Shape). countedSpan (withHistory empty (shapeShows (now (a .counters)) [] s))) (sym (h .shape .given .1)))
 
 returns-2 : tie.Need-returns-2
@@ -47,7 +47,7 @@ alone-spec =
     tie.close
     (tie.spec
     enum-known-shape
-    of-block-requires
+    of-counters-requires
     enum-told
     returns
     returns-2)

@@ -10,8 +10,8 @@ use Rattle.refusals.specs.Outcome.{says, saidBy}
 use Rattle.refusals.specs.Rows.{numberOf}
 use Rattle.histogram_bins.specs.Bin.{bins}
 use Rattle.histogram.specs.Histogram.{empty}
-use Rattle.history.specs.Set.{Histories, histories, chosen, allShow, blocksInside, setRows}
-use Rattle.history.proofs.Entries.{blocks-inside}
+use Rattle.history.specs.Set.{Histories, histories, chosen, allShow, countersInside, setRows}
+use Rattle.history.proofs.Entries.{all-counters-inside}
 use Rattle.history.proofs.Rows.{Kept, kept}
 use Rattle.histogram_range.specs.Counted.{addedTo, countedSpan}
 use Rattle.histogram_range.proofs.Adding.{empty-is, zeros-length, zeros-most, added-any}
@@ -46,8 +46,8 @@ of-one-requires : tie.Need-of-one-requires
 of-one-requires c κs =
     let e = c .before in
     let h = given (e .before) in
-    subst (λ (n : ℕ). blocksInside (length (h .counters)) (take n (h .entries))) (c .if2 .taken)
-    (blocks-inside (length (h .counters)) (length (h .energies)) (chosen h) (well e .inside))
+    subst (λ (n : ℕ). countersInside (length (h .counters)) (take n (h .entries))) (c .if2 .taken)
+    (all-counters-inside (length (h .counters)) (length (h .energies)) (chosen h) (well e .inside))
 
 returns-2 : tie.Need-returns-2
 returns-2 c =
@@ -66,7 +66,7 @@ add-histories-requires : tie.Need-add-histories-requires
 add-histories-requires c κs =
     let e = c .before .before in
     let h = given (e .before) in
-    (well e .few, blocks-inside (length (h .counters)) (length (h .energies)) (chosen h) (well e .inside), zeros-length, zeros-most)
+    (well e .few, all-counters-inside (length (h .counters)) (length (h .energies)) (chosen h) (well e .inside), zeros-length, zeros-most)
 
 slice-aggregate-span-of : tie.Need-slice-aggregate-span-of
 slice-aggregate-span-of c = sym (added-length (c .before .before))

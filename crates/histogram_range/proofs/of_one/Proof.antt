@@ -8,7 +8,7 @@ use lib.ListN.{length}
 use Rattle.refusals.specs.Outcome.{Said, says}
 use Rattle.spans.specs.Span.{Span}
 use Rattle.histogram_range.specs.Counted.{countedSpan}
-use Rattle.histogram_range.proofs.Adding.{block-at}
+use Rattle.histogram_range.proofs.Adding.{counters-at}
 use Rattle.histogram_range.proofs.Single.{one-added}
 use Rattle.histogram_range.proofs.of_one.Statement.{statement}
 use Rattle.histogram_range.proofs.of_one.Tie as tie
@@ -19,7 +19,7 @@ array-copy-out-entry c = search needs
 alone-requires : tie.Need-alone-requires
 alone-requires c κs =
     let s = c .before .before in
-    block-at (length (now (s .args .counters))) (s .args .t1) 1 0 (omega arith) (omega arith) (s .pre)
+    counters-at (length (now (s .args .counters))) (s .args .t1) 1 0 (omega arith) (omega arith) (s .pre)
 
 returns : tie.Need-returns
 returns c =

@@ -6,7 +6,7 @@ use native.Mathlib.Omega.{arith}
 use borrow.Author.Needs.{needs}
 use denote.Ref.{now}
 use lib.ListN.{drop}
-use Rattle.history.proofs.Slices.{block-slice}
+use Rattle.history.proofs.Slices.{counters-slice}
 use Rattle.gate.specs.Totals.{onTopOf, binsFrom}
 use Rattle.gate.proofs.Running.{not-there, there}
 use Rattle.gate.proofs.blocks.from_bin.Statement.{statement}
@@ -40,7 +40,7 @@ returns-3 : tie.Need-returns-3
 returns-3 c =
     let a = c .before .before .before .before .before .args in (
       c .bins-from .ensures .0
-          ∙ ap (λ (l : List ℕ). binsFrom (onTopOf (a .sum)) (a .bin) (drop (a .bin) l)) (sym (block-slice (now (a .counters)) (a .start)))
+          ∙ ap (λ (l : List ℕ). binsFrom (onTopOf (a .sum)) (a .bin) (drop (a .bin) l)) (sym (counters-slice (now (a .counters)) (a .start)))
           ∙ sym (there (a .sum) (now (a .counters)) (a .start) (a .bin) (omega arith)),
       c .bins-from .ensures .1,
     )

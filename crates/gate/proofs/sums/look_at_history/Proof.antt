@@ -5,8 +5,8 @@ use borrow.Author.Needs.{needs}
 use denote.Ref.{now}
 use lib.ListN.{length}
 use Rattle.history.specs.declared.set.Shape.{Shape}
-use Rattle.history.specs.Set.{blockEnd, storeEnd, shapeShows, shapeSound}
-use Rattle.history.proofs.Entries.{block-inside, store-inside}
+use Rattle.history.specs.Set.{countersEnd, storeEnd, shapeShows, shapeSound}
+use Rattle.history.proofs.Entries.{counters-inside, store-inside}
 use Rattle.gate.specs.Totals.{none}
 use Rattle.gate.proofs.Running.{there}
 use Rattle.gate.proofs.Nothing.{nothing-steady}
@@ -40,7 +40,7 @@ returns c =
     let start = c .before .before .shape .given .0 .0 in
     let is = c .before .before .shape .given .1 in
     let within : start + 1000 ≤ length counters =
-    subst (λ (s : Shape). blockEnd s ≤ length counters) is (block-inside (length counters) (length energies) (a .entry) (w .pre .1)) in (
+    subst (λ (s : Shape). countersEnd s ≤ length counters) is (counters-inside (length counters) (length energies) (a .entry) (w .pre .1)) in (
       ap (shapeSound energies) (sym is),
       λ _. (
         c .from-bin .ensures .0 ∙ there (none .sum) counters start 0 within ∙ ap (λ (s : Shape). totalsOf (shapeShows counters energies s)) (sym is),

@@ -1,4 +1,4 @@
--- `block_range::of_block` meets its contract: the totals of the histogram, the gate's bin, and the two ranks from there on. Assumes nothing.
+-- `block_range::of_counters` meets its contract: the totals of the histogram, the gate's bin, and the two ranks from there on. Assumes nothing.
 use mathlib.Core.Path.{_≡_, sym, ap, _∙_}
 use mathlib.Core.List.{List}
 use Prim.Native.Nat.{ℕ, _+_, _-_, _≤_}
@@ -8,8 +8,8 @@ use denote.Ref.{now}
 use lib.ListN.{length, take}
 use Rattle.refusals.specs.Outcome.{says}
 use Rattle.histogram_bins.specs.Bin.{bins}
-use Rattle.history.specs.Set.{blockAt}
-use Rattle.history.proofs.Slices.{block-slice, slice-length}
+use Rattle.history.specs.Set.{countersAt}
+use Rattle.history.proofs.Slices.{counters-slice, slice-length}
 use Rattle.gate.specs.declared.blocks.Totals.{Totals}
 use lib.Ieee.{Float, binary64, mul}
 use Rattle.gate.specs.Totals.{none, meanOf, binsFrom}
@@ -20,18 +20,18 @@ use Rattle.spans.specs.Span.{gateEnergy}
 use Rattle.block_range.specs.Counted.{blocksIn, leftIn}
 use Rattle.block_range.proofs.Counting.{count-is}
 use Rattle.block_range.proofs.Answers.{counted-some, span-there, span-none, blocks-there}
-use Rattle.block_range.proofs.of_block.Statement.{statement}
-use Rattle.block_range.proofs.of_block.Tie as tie
+use Rattle.block_range.proofs.of_counters.Statement.{statement}
+use Rattle.block_range.proofs.of_counters.Tie as tie
 
--- the counters, and the block
+-- the counters, and those of the histogram
 abbrev counters : tie.After-started → List ℕ
 counters t = now (t .before .before .before .args .counters)
 
 abbrev start : tie.After-started → ℕ
 start t = t .before .before .before .args .start
 
-abbrev block : tie.After-started → List ℕ
-block t = blockAt (counters t) (start t)
+abbrev own : tie.After-started → List ℕ
+own t = countersAt (counters t) (start t)
 
 -- there are 1,000 counters, and the totals are theirs
 inside : (e : tie.Else1) → start (e .before .before) + bins ≤ length (counters (e .before .before))
@@ -39,7 +39,7 @@ inside e =
     let t = e .before .before in
     blocks-there (counters t) (start t) (λ z. e .if1 .left (ap (λ (totals : Totals). totals .count) (t .started .ensures .0) ∙ z))
 
-totals-are : (e : tie.Else1) → e .before .before .started .result .totals ≡ binsFrom none 0 (block (e .before .before))
+totals-are : (e : tie.Else1) → e .before .before .started .result .totals ≡ binsFrom none 0 (own (e .before .before))
 totals-are e = let t = e .before .before in t .started .ensures .0 ∙ there (none .sum) (counters t) (start t) 0 (inside e)
 
 -- the gate's bin
@@ -76,10 +76,10 @@ ranked-requires : tie.Need-ranked-requires
 ranked-requires c κs =
     let e = c .before in
     let t = e .before .before in
-    let part = block-slice (counters t) (start t) in (
+    let part = counters-slice (counters t) (start t) in (
       slice-length (start t) (start t + bins) (counters t) (inside e) ∙ omega arith,
       omega (arith, gate-is t, start-most (gateEnergy (t .started .result .totals))),
-      ap (λ (totals : Totals). totals .count) (totals-are e) ∙ count-is none 0 (block t) ∙ omega (arith, ap blocksIn part),
+      ap (λ (totals : Totals). totals .count) (totals-are e) ∙ count-is none 0 (own t) ∙ omega (arith, ap blocksIn part),
       t .started .ensures .1,
     )
 
@@ -91,12 +91,12 @@ returns-2 c =
     let gate = t .started .result .bin in
     c .ranked .ensures
     ∙ ap says (
-    ap (λ (l : List ℕ). leftIn l (blocksIn (take gate l)) (count - blocksIn (take gate l))) (sym (block-slice (counters t) (start t)))
-    ∙ sym (counted-some (block t) (t .started .result .totals) (blocksIn (take gate (block t))) (totals-are e) (e .if1 .left) (ap (λ (n : ℕ). blocksIn (take n (block t))) (gate-is t)))
+    ap (λ (l : List ℕ). leftIn l (blocksIn (take gate l)) (count - blocksIn (take gate l))) (sym (counters-slice (counters t) (start t)))
+    ∙ sym (counted-some (own t) (t .started .result .totals) (blocksIn (take gate (own t))) (totals-are e) (e .if1 .left) (ap (λ (n : ℕ). blocksIn (take n (own t))) (gate-is t)))
     ∙ sym (span-there (counters t) (start t) (inside e)))
 
-pub of-block-spec : {M : Type 1} → statement M
-of-block-spec =
+pub of-counters-spec : {M : Type 1} → statement M
+of-counters-spec =
     tie.close
     (tie.spec
     gate-share-requires

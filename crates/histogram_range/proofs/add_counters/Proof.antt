@@ -1,4 +1,4 @@
--- `histogram_range::add_block` meets its contract. The invariant: the counters before `bin` are sums, and the others are as they were. Assumes nothing.
+-- `histogram_range::add_counters` meets its contract. The invariant: the counters before `bin` are sums, and the others are as they were. Assumes nothing.
 use mathlib.Core.Path.{_≡_, ap, _∙_}
 use Prim.Native.Nat.{ℕ, _+_, _-_, _≤_}
 use native.Mathlib.Omega.{arith}
@@ -7,14 +7,14 @@ use lib.ListN.{length, length-set, getD, set}
 use Rattle.histogram_bins.specs.Bin.{bins}
 use Rattle.histogram.proofs.Sums.{sumsFirst, sums-all, sums-read, sums-turn}
 use borrow.Author.Needs.{needs}
-use Rattle.histogram_range.proofs.add_block.Statement.{statement}
-use Rattle.histogram_range.proofs.add_block.Tie as tie
+use Rattle.histogram_range.proofs.add_counters.Statement.{statement}
+use Rattle.histogram_range.proofs.add_counters.Tie as tie
 
 abbrev Inv-loop : tie.InvT-loop
-Inv-loop added₀ block bin₀ added bin = (bin ≤ bins) × (length added ≡ bins) × (added ≡ sumsFirst bin added₀ block)
+Inv-loop added₀ counters bin₀ added bin = (bin ≤ bins) × (length added ≡ bins) × (added ≡ sumsFirst bin added₀ counters)
 
 abbrev μ-loop : tie.MeasureT-loop
-μ-loop added₀ block bin₀ added bin = bins - bin
+μ-loop added₀ counters bin₀ added bin = bins - bin
 
 loop-holds : tie.Need-loop-holds Inv-loop μ-loop
 loop-holds c = search needs
@@ -40,7 +40,7 @@ add-added c =
     let s = l .before .before .before in
     omega (
       arith,
-      sums-read (l .loop .bin) (now (s .args .added)) (now (s .args .block)) (l .loop .added) (l .loop .inv .2) (omega (arith, s .pre .0, s .pre .1)),
+      sums-read (l .loop .bin) (now (s .args .added)) (now (s .args .counters)) (l .loop .added) (l .loop .inv .2) (omega (arith, s .pre .0, s .pre .1)),
       s .pre .2 (l .loop .bin),
       c .wide .ensures,
       c .before .shared-slice-known2 .given (l .loop .bin),
@@ -65,7 +65,7 @@ loop-again c =
       omega arith,
       simp length-set (l .loop .inv .1),
       ap (λ (n : ℕ). set (l .loop .added) (l .loop .bin) (getD (l .loop .added) (l .loop .bin) 0 + n)) (c .wide .ensures)
-          ∙ sums-turn (l .loop .bin) (now (s .args .added)) (now (s .args .block)) (l .loop .added) (l .loop .inv .2) (omega (arith, s .pre .0, s .pre .1)) (omega (arith, s .pre .0)),
+          ∙ sums-turn (l .loop .bin) (now (s .args .added)) (now (s .args .counters)) (l .loop .added) (l .loop .inv .2) (omega (arith, s .pre .0, s .pre .1)) (omega (arith, s .pre .0)),
     )
 
 same-length : tie.Need-same-length Inv-loop μ-loop
@@ -75,10 +75,10 @@ returns : tie.Need-returns Inv-loop μ-loop
 returns c =
     let l = c .before in
     let s = l .before .before .before in
-    l .loop .inv .2 ∙ sums-all (l .loop .bin) (now (s .args .added)) (now (s .args .block)) (omega (arith, s .pre .0))
+    l .loop .inv .2 ∙ sums-all (l .loop .bin) (now (s .args .added)) (now (s .args .counters)) (omega (arith, s .pre .0))
 
-pub add-block-spec : {M : Type 1} → statement M
-add-block-spec =
+pub add-counters-spec : {M : Type 1} → statement M
+add-counters-spec =
     tie.close
     (tie.spec
     Inv-loop
