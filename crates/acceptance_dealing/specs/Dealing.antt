@@ -18,7 +18,7 @@ use Rattle.histogram.specs.Histogram.{empty, addTo}
 use Rattle.histogram_merge.specs.Merge.{mergeInto}
 use Rattle.history.specs.declared.set.Entry.{Entry}
 use Rattle.history.specs.declared.set.Shape.the-variants.{Histogram}
-use Rattle.history.specs.Set.{Histories, chosen, blockAt}
+use Rattle.history.specs.Set.{Histories, chosen, countersAt}
 use Rattle.rising_order.specs.Arrangement.{Reordered}
 use Rattle.spans.specs.Span.{Span}
 use Rattle.histogram_range.specs.Counted.{countedSpan, blocksIn}
@@ -107,7 +107,7 @@ pub record StandsIn (lent : List ℕ) (entry : Entry) (store : List ℕ) : Type 
   pub start : ℕ
   pub shape : entry .shape ≡ Histogram start
   pub inside : start + 1000 ≤ length lent
-  pub holds : blockAt lent start ≡ store
+  pub holds : countersAt lent start ≡ store
 
 abbrev pub AllStand : List ℕ → List Entry → List (List ℕ) → Type 0
 AllStand lent [] [] = Unit

@@ -18,9 +18,9 @@ use Rattle.histogram_bins.specs.Bin.{bins}
 use Rattle.history.specs.declared.set.Entry.{Entry}
 use Rattle.history.specs.declared.set.Shape.{Shape}
 use Rattle.history.specs.declared.set.Shape.the-variants.{Histogram, Queue as Queue-at}
-use Rattle.history.specs.Set.{History, counted, listed, Histories, chosen, shapeShows, allShow, historiesOf, isOutside, anyOutside, blockAt, setRows}
+use Rattle.history.specs.Set.{History, counted, listed, Histories, chosen, shapeShows, allShow, historiesOf, isOutside, anyOutside, countersAt, setRows}
 use Rattle.history.proofs.Rows.{kept}
-use Rattle.history.proofs.Entries.{block-inside}
+use Rattle.history.proofs.Entries.{counters-inside}
 use Rattle.gate.specs.declared.blocks.Totals.{Totals}
 use Rattle.gate.specs.Totals.{none, withBlocks, binsFrom, energiesFrom}
 use Rattle.gate.specs.Start.{startBin}
@@ -130,7 +130,7 @@ module _ (counters : List ℕ) (energies : List Float) where
       one : (shape : Shape) → entry .shape ≡ shape → Whole (allShow counters energies l) → isOutside (length counters) (length energies) entry ≡ false
           → Whole (shapeShows counters energies shape ∷ allShow counters energies l)
       one (Histogram start) e rest o =
-          let inside = block-inside (length counters) (length energies) entry o in
+          let inside = counters-inside (length counters) (length energies) entry o in
           let within : start + bins ≤ length counters = rw e at inside in
           (length-take bins (drop start counters) ∙ omega (arith, length-drop start counters), rest)
       one (Queue-at start queue) e rest o = rest

@@ -170,7 +170,14 @@ fn weigh_channel(
 }
 
 // Channels k and k + 1, both used.
-fn weigh_pair(work: Work, state: &mut [f64; 40], ints: &[i16], floats: &[f32], k: usize, dest: &mut [f64])
+fn weigh_pair(
+    work: Work,
+    state: &mut [f64; 40],
+    ints: &[i16],
+    floats: &[f32],
+    k: usize,
+    dest: &mut [f64],
+)
     requires { ⌜ k + 1 < mostChannels ⌝ }
     requires { ⌜ Reach (k + 1) (work .channels) (work .frames) (length (sourceOf (now ints) (now floats))) ⌝ }
     requires { ⌜ (work .frames ≤ work .part) × (placeOf work k + work .part + work .frames ≤ length (now dest)) ⌝ }
