@@ -42,7 +42,7 @@ fn blocks_from(count: u64, energies: &[f64], from: usize, until: usize, threshol
     count
 }
 
-// And their sum on top of another. No turn branches on what they are.
+// And their sum on top of another.
 fn energies_from(sum: f64, energies: &[f64], from: usize, until: usize, threshold: f64) -> f64
     requires { ⌜ (from ≤ until) × (until ≤ length (now energies)) ⌝ }
     ensures { λ r. ⌜ r ≡ summedFrom threshold sum (slice from until (now (energies .entry))) ⌝ }

@@ -28,7 +28,7 @@ struct Looked {
     sum: f64,
 }
 
-// The energies from a place up to another are looked at and added in one pass. No turn branches on what they are.
+// The energies from a place up to another are looked at and added in one pass.
 fn look(before: Looked, energies: &[f64], from: usize, until: usize) -> Looked
     requires { ⌜ (from ≤ until) × (until ≤ length (now energies)) ⌝ }
     ensures { λ r. ⌜ (r .sound ≡ (before .sound && noneBelow (slice from until (now (energies .entry)))))

@@ -21,7 +21,7 @@ ghost use Rattle.history.specs.Set.{
   setRows,
 };
 
-// Whether none of these energies is below boundary 0, by a look at each.
+// Whether none of these energies is below boundary 0. All of them are looked at.
 pub fn none_below(part: &[f64]) -> bool
     ensures { λ r. ⌜ r ≡ noneBelow (now (part .entry)) ⌝ }
 {
