@@ -59,7 +59,7 @@ impl Queue {
     }
 
     // How many of the held energies stand between the head and the end of the store. The others stand at its start.
-    pub fn first_part(self) -> usize
+    fn first_part(self) -> usize
         ensures { λ r. ⌜ r ≡ firstPart self ⌝ }
     {
         if self.maximum < self.head {
@@ -68,6 +68,7 @@ impl Queue {
         let room = self.maximum - self.head;
         if self.held <= room { self.held } else { room }
     }
+
     // Whether the queue's store, which starts at a place, suits it and ends within so many places.
     fn stands(self, start: usize, places: usize) -> bool
         ensures { λ r. ⌜ r ≡ stands self start places ⌝ }

@@ -9,9 +9,8 @@ use lib.ListN.{length, getD, take, drop, length-take, length-drop}
 use lib.Seq.{sets, sets-eq, drop-drop}
 use lib.Ieee.{Float, nan, toBits, binary64}
 use Rattle.queue.specs.declared.Queue.{Queue}
-use Rattle.queue.specs.Queue.{over, heldOf, firstPart}
-use Rattle.queue.proofs.Ring.{Suited}
-use Rattle.queue.proofs.Held.{held-parts, held-count}
+use Rattle.queue.specs.Queue.{over, heldOf}
+use Rattle.queue.proofs.Held.{held-count}
 use Rattle.fields.specs.declared.Order.{Order}
 use Rattle.fields.specs.Field.{bytesOf}
 use Rattle.fields.proofs.Orders.{bytes-length}
@@ -19,8 +18,6 @@ use Rattle.layout.specs.Layout.{allBytes}
 use Rattle.layout.proofs.Runs.{all-length, all-append}
 use Rattle.layout.proofs.Turns.{sets-append}
 use Rattle.queue_reader.specs.QueueRecord.{patternsOf}
-use Rattle.queue_writer.specs.declared.Parts.{Parts}
-use Rattle.queue_writer.specs.Inner.{partsOf}
 
 -- a number's bytes put into a part of the output as wide as they are
 pub field-put : (order : Order) (out part : List ℕ) (at width until number : ℕ) → until ≡ at + width → at + width ≤ length out
@@ -60,27 +57,6 @@ parts-put order out a b at next e =
     sym (sets-append out first second at next (omega (arith, all-length order 8 (patternsOf a), patterns-length a)))
     ∙ ap (λ (l : List ℕ). sets out at l) (sym (ap (allBytes order 8) (patterns-append a b) ∙ all-append order 8 (patternsOf a) (patternsOf b)))
 
--- ---- the energies held, as the two parts of the store that the code lends
-pub held-in : (queue : Queue) (store : List Float) → Suited queue (length store) → (parts : Parts) → parts ≡ partsOf queue
-    → heldOf (over queue store) ≡ take (parts .until - queue .head) (drop (queue .head) store) ++ take (parts .rest) store
-held-in queue store fit parts e =
-    held-parts queue store fit
-    ∙ ap (λ (n : ℕ). take n (drop (queue .head) store) ++ take (queue .held - firstPart queue) store) {x = firstPart queue} {y = partsOf queue .until - queue .head} (omega arith)
-    ∙ ap (λ (p : Parts). take (p .until - queue .head) (drop (queue .head) store) ++ take (p .rest) store) (sym e)
-
--- what is known of the two parts
-pub record InStore (queue : Queue) (places : ℕ) (parts : Parts) : Type 0 where
-  pub up : queue .head + parts .first ≡ parts .until
-  pub within : parts .until ≤ places
-  pub whole : parts .first + parts .rest ≡ queue .held
-  pub start : parts .rest ≤ places
-
-pub in-store : (queue : Queue) (places : ℕ) → Suited queue places → (parts : Parts) → parts ≡ partsOf queue → InStore queue places parts
-in-store queue places fit parts e =
-    let f : parts .first ≡ firstPart queue = ap (λ (p : Parts). p .first) e in
-    let u : parts .until ≡ queue .head + firstPart queue = ap (λ (p : Parts). p .until) e in
-    let r : parts .rest ≡ queue .held - firstPart queue = ap (λ (p : Parts). p .rest) e in
-    record { up = omega arith; within = omega arith; whole = omega arith; start = omega arith }
-
+-- ---- the energies held
 pub held-number : (queue : Queue) (store : List Float) → length (heldOf (over queue store)) ≡ queue .held
 held-number queue store = held-count store (queue .maximum) (queue .head) (queue .held)

@@ -5,14 +5,13 @@ use history::set::Shape;
 use queue::Queue;
 ghost use mathlib.Core.Path.{_≡_};
 ghost use mathlib.Core.Bool.{_&&_};
-ghost use Prim.Native.Nat.{_+_, _≤_};
+ghost use Prim.Native.Nat.{_≤_};
 ghost use lib.ListN.{length, take};
 ghost use Rattle.refusals.specs.Rows.{numberOf};
-ghost use Rattle.queue.specs.Queue.{suits, heldOf};
+ghost use Rattle.queue.specs.Queue.{over, suits, heldOf};
 ghost use Rattle.history.specs.Set.{
   mostHistories,
   histories,
-  queueAt,
   storeEnd,
   storesInside,
   noneBelow,
@@ -22,7 +21,7 @@ ghost use Rattle.history.specs.Set.{
 };
 
 // Whether none of these energies is below boundary 0. All of them are looked at.
-pub fn none_below(part: &[f64]) -> bool
+fn none_below(part: &[f64]) -> bool
     ensures { λ r. ⌜ r ≡ noneBelow (now (part .entry)) ⌝ }
 {
     let least = histogram_bins::lowest_boundary();
@@ -35,18 +34,17 @@ pub fn none_below(part: &[f64]) -> bool
     fine
 }
 
-// Whether a queue whose store starts there suits it and holds no energy below boundary 0.
-fn sound_queue(energies: &[f64], start: usize, queue: Queue) -> bool
-    requires { ⌜ start + queue .maximum ≤ length (now energies) ⌝ }
-    ensures { λ r. ⌜ r ≡ (suits queue (queue .maximum) && noneBelow (heldOf (queueAt (now (energies .entry)) start queue))) ⌝ }
+// Whether a store is this queue's and holds no energy below boundary 0.
+pub fn sound_queue(queue: Queue, store: &[f64]) -> bool
+    ensures { λ r. ⌜ r ≡ (suits queue (length (now (store .entry))) && noneBelow (heldOf (over queue (now (store .entry))))) ⌝ }
 {
-    if queue.suits(queue.maximum) {
-        let parts = queue.parts(start, energies.len());
+    if queue.suits(store.len()) {
+        let parts = queue.parts(0, store.len());
         let from = parts.from;
         let until = parts.until;
         let start = parts.start;
         let end = parts.end;
-        none_below(&energies[from..until]) & none_below(&energies[start..end])
+        none_below(&store[from..until]) & none_below(&store[start..end])
     } else {
         false
     }
@@ -60,7 +58,10 @@ fn sound(entry: Entry, energies: &[f64]) -> bool
     let shape = entry.shape;
     match shape {
         Shape::Histogram(_) => true,
-        Shape::Queue(start, queue) => sound_queue(energies, start, queue),
+        Shape::Queue(start, queue) => {
+            let end = start + queue.maximum;
+            sound_queue(queue, &energies[start..end])
+        }
     }
 }
 

@@ -28,7 +28,7 @@ use Rattle.queue_writer.proofs.write_queue.Tie as tie
 
 sound-here : (c : tie.Then1) → let a = c .before .before .before .before .args in
     suits (a .queue) (length (now (a .store))) && noneBelow (heldOf (over (a .queue) (now (a .store)))) ≡ true
-sound-here c = sym (c .before .sound .ensures) ∙ c .if1 .taken
+sound-here c = sym (c .before .sound-queue .ensures) ∙ c .if1 .taken
 
 suits-here : (c : tie.Then1) → let a = c .before .before .before .before .args in suits (a .queue) (length (now (a .store))) ≡ true
 suits-here c =
@@ -46,8 +46,8 @@ long c =
     whole-length (a .queue .maximum) (heldOf (over (a .queue) (now (a .store))))
     ∙ ap (λ (n : ℕ). leastLength + energyWidth * n) (held-number (a .queue) (now (a .store)))
 
-sound-requires : tie.Need-sound-requires
-sound-requires c κs = search needs
+sound-queue-requires : tie.Need-sound-queue-requires
+sound-queue-requires c κs = search needs
 
 mul-length : tie.Need-mul-length
 mul-length c = let f = suited-here c in omega arith
@@ -119,13 +119,13 @@ returns-2 c =
 
 returns-3 : tie.Need-returns-3
 unfolding writeQueue
-returns-3 c = rw (sym (c .before .sound .ensures) ∙ c .if1 .left) (refl, refl)
+returns-3 c = rw (sym (c .before .sound-queue .ensures) ∙ c .if1 .left) (refl, refl)
 
 pub write-queue-spec : {M : Type 1} → statement M
 write-queue-spec =
     tie.close
     (tie.spec
-    sound-requires
+    sound-queue-requires
     mul-length
     add-length
     returns

@@ -3,27 +3,21 @@
 use native.Mathlib.Omega.{arith}
 use mathlib.Core.Path.{_≡_, sym, ap, _∙_}
 use mathlib.Core.Bool.{true, false}
-use mathlib.Core.List.{List}
 use borrow.Author.Needs.{needs}
 use denote.Ref.{now}
-use lib.Ieee.{Float}
 use lib.ListN.{length}
 use Rattle.queue.specs.declared.Parts.{Parts}
 use Rattle.queue.specs.Queue.{suits, slice, inParts}
-use Rattle.queue.proofs.Standing.{Within, parts-within}
-use Rattle.history.proofs.Slices.{held-slices}
+use Rattle.queue.proofs.Standing.{Within, parts-within, held-in-store}
 use Rattle.history.proofs.Entries.{none-below-append}
 use Rattle.sound_stores.proofs.sound_queue.Statement.{statement}
 use Rattle.sound_stores.proofs.sound_queue.Tie as tie
 
--- the energies, and that the parts are within them
-abbrev energies : tie.After-parts → List Float
-energies c = now (c .before .before .before .before .args .energies)
-
-within : (c : tie.After-parts) → Within (c .parts .result) (length (energies c))
+-- the parts are within the store
+within : (c : tie.After-parts) → Within (c .parts .result) (length (now (c .before .before .before .before .args .store)))
 within c =
     let a = c .before .before .before .before .args in
-    parts-within (a .queue) (a .start) (length (energies c)) (c .parts .result) (c .parts .ensures)
+    parts-within (a .queue) 0 (length (now (a .store))) (c .parts .result) (c .parts .ensures)
 
 suits-requires : tie.Need-suits-requires
 suits-requires c κs = search needs
@@ -64,14 +58,14 @@ none-below-requires-2 c κs = search needs
 returns : tie.Need-returns
 returns c =
     let p = c .before .before .before .before in
-    let s = p .before .before .before .before in
-    let queue = s .args .queue in
+    let a = p .before .before .before .before .args in
+    let store = now (a .store) in
     let parts = p .parts .result in
-    let h : suits queue (queue .maximum) ≡ true = sym (p .before .before .suits .ensures) ∙ p .before .if1 .taken in
+    let h : suits (a .queue) (length store) ≡ true = sym (p .before .before .suits .ensures) ∙ p .before .if1 .taken in
     rw (
       h,
-      held-slices (energies p) (s .args .start) queue (s .pre) h ∙ ap (λ (at : Parts). inParts at (energies p)) (sym (p .parts .ensures)),
-      none-below-append (slice (parts .from) (parts .until) (energies p)) (slice (parts .start) (parts .end) (energies p)),
+      held-in-store (a .queue) store h ∙ ap (λ (at : Parts). inParts at store) (sym (p .parts .ensures)),
+      none-below-append (slice (parts .from) (parts .until) store) (slice (parts .start) (parts .end) store),
       ← c .before .before .none-below .ensures,
       ← c .none-below2 .ensures,
     )
@@ -79,7 +73,7 @@ returns c =
 returns-2 : tie.Need-returns-2
 returns-2 c =
     let a = c .before .before .before .args in
-    let h : suits (a .queue) (a .queue .maximum) ≡ false = sym (c .before .suits .ensures) ∙ c .if1 .left in
+    let h : suits (a .queue) (length (now (a .store))) ≡ false = sym (c .before .suits .ensures) ∙ c .if1 .left in
     rw h
 
 pub sound-queue-spec : {M : Type 1} → statement M
