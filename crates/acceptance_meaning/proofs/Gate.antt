@@ -1,12 +1,10 @@
 -- Demand 2, the gate, proved: "BS.1770 [decides] the meaning of gating". Meaning.antt and Equals.antt carry the proof for queues, Sets.antt for any set. Assumes nothing.
 use mathlib.Core.Path.{_≡_, refl, sym, ap, _∙_}
-use mathlib.Core.Bool.{Bool, true, false, cond}
 use mathlib.Core.List.{List, [], _∷_}
 use Prim.Native.Nat.{ℕ}
 use lib.Ieee.{Float}
-use Rattle.refusals.specs.Outcome.{Question, answers, refused}
-use Rattle.refusals.specs.Rows.{Row, byRows}
-use Rattle.refusals.proofs.Behind.{goes-on}
+use Rattle.refusals.specs.Outcome.{answers}
+use Rattle.refusals.proofs.Behind.{goes-on, made-of}
 use Rattle.history.specs.declared.set.Entry.{Entry}
 use Rattle.history.specs.Set.{History, Histories, historiesOf, shows, allShow, setRows}
 use Rattle.gate.specs.declared.blocks.Totals.{Totals}
@@ -29,18 +27,9 @@ over-fed feeds question f =
     ∙ gate-is-bs1770 feeds
 
 -- gated energy is the mean of what the gate question answers
-mean-behind : (rows : List Row) (blocks : Totals) → meanOfThese (byRows rows (answers blocks)) ≡ byRows rows (answers (meanOf blocks))
-mean-behind [] blocks = refl
-mean-behind (row ∷ rest) blocks = go (row .holds) (mean-behind rest blocks)
-  where
-    go : (b : Bool) → meanOfThese (byRows rest (answers blocks)) ≡ byRows rest (answers (meanOf blocks))
-        → meanOfThese (cond b (refused (row .refuses)) (byRows rest (answers blocks))) ≡ cond b (refused (row .refuses)) (byRows rest (answers (meanOf blocks)))
-    go true later = refl
-    go false later = later
-
 means : (question : Histories) → gatedEnergyOf question ≡ meanOfThese (gateOf question)
 unfolding gateOf gatedEnergyOf
-means question = sym (mean-behind (gateRows question) (leftOf (historiesOf question)))
+means question = sym (made-of meanOfThese (λ r. refl) (gateRows question) (answers (leftOf (historiesOf question))))
 
 over-one : (feed : Feed) (entry : Entry) (counters : List ℕ) (energies : List Float) → Fed (feed ∷ []) (alone entry counters energies)
     → relativeOf entry counters energies ≡ measuredGate equalsKept (feed .blocks)

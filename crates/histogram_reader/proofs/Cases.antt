@@ -10,7 +10,7 @@ use Rattle.refusals.specs.Rows.{numberOf, byRows}
 use Rattle.histogram_bins.specs.Bin.{bins}
 use Rattle.layout.specs.declared.Kind.the-variants.{Histogram}
 use Rattle.layout.specs.Layout.{histogramLength, lengthIn, frameRows}
-use Rattle.layout.proofs.Rows.{behind}
+use Rattle.refusals.proofs.Behind.{goes-on}
 use Rattle.layout.proofs.Frames.{framed}
 use Rattle.histogram_reader.specs.Record.{recordLength, countersIn, storeRows, readHistogram}
 
@@ -23,7 +23,7 @@ framed-length bytes e =
 module _ (bytes counters : List ℕ) (e : numberOf (frameRows Histogram bytes) ≡ 0) where
   pub read-behind : readHistogram bytes counters ≡ byRows (storeRows counters) (went (countersIn bytes) done)
   unfolding readHistogram
-  read-behind = behind (went (countersIn bytes) done) (frameRows Histogram bytes) (storeRows counters) e
+  read-behind = goes-on (went (countersIn bytes) done) (frameRows Histogram bytes) (storeRows counters) e
 
   pub read-went : length counters ≡ bins → readHistogram bytes counters ≡ went (countersIn bytes) done
   read-went h = read-behind ∙ rw (eq-eqb (length counters) bins h)

@@ -11,7 +11,7 @@ use Rattle.refusals.specs.Rows.{numberOf}
 use Rattle.refusals.proofs.Rows.{not-held}
 use Rattle.layout.specs.declared.Kind.{Kind}
 use Rattle.layout.specs.Layout.{kindNumber, canBe, headWidth, lengthWidth, lengthIn, kindIn, frameRows}
-use Rattle.layout.proofs.Rows.{not-held-after}
+use Rattle.refusals.proofs.Rows.{not-held-after}
 
 -- bytes that pass
 pub record Framed (kind : Kind) (bytes : List ℕ) : Type 0 where

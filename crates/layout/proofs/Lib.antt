@@ -1,4 +1,3 @@
-pub mod Rows
 pub mod Frames
 pub mod Heads
 pub mod Runs

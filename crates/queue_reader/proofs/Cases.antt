@@ -17,7 +17,8 @@ use Rattle.fields.specs.declared.Order.{Order}
 use Rattle.queue.specs.Queue.{longest}
 use Rattle.layout.specs.declared.Kind.the-variants.{Queue as QueueKind}
 use Rattle.layout.specs.Layout.{lengthWidth, queueLeast, orderOf, lengthIn, frameRows}
-use Rattle.layout.proofs.Rows.{not-held-after, behind}
+use Rattle.refusals.proofs.Rows.{not-held-after}
+use Rattle.refusals.proofs.Behind.{goes-on}
 use Rattle.layout.proofs.Frames.{framed}
 use Rattle.layout.proofs.Runs.{numbers-length}
 use Rattle.queue_reader.specs.QueueRecord.{
@@ -51,7 +52,7 @@ module _ (bytes : List ℕ) (e : numberOf (frameRows QueueKind bytes) ≡ 0) whe
   pub read-behind : (store : List Float) → readQueue bytes store ≡ bodyRead (orderOf QueueKind) bytes store
   unfolding readQueue bodyRead
   read-behind store =
-      behind (went (stored (orderOf QueueKind) bytes store) (queueIn (orderOf QueueKind) bytes)) (frameRows QueueKind bytes) (bodyRows (orderOf QueueKind) bytes store) e
+      goes-on (went (stored (orderOf QueueKind) bytes store) (queueIn (orderOf QueueKind) bytes)) (frameRows QueueKind bytes) (bodyRows (orderOf QueueKind) bytes store) e
 
 -- ---- the body
 -- a body that passes, over a store

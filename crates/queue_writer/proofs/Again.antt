@@ -23,7 +23,7 @@ use Rattle.queue.proofs.Held.{held-parts}
 use Rattle.layout.specs.declared.Kind.{Kind}
 use Rattle.layout.specs.declared.Kind.the-variants.{Queue as QueueKind}
 use Rattle.layout.specs.Layout.{kindWidth, headWidth, queueLeast, orderOf, numbersIn, allBytes, lengthIn, frameRows, recordOf}
-use Rattle.layout.proofs.Rows.{same-said}
+use Rattle.refusals.proofs.Behind.{through}
 use Rattle.layout.proofs.Frames.{Framed, framed, passes}
 use Rattle.layout.proofs.Runs.{numbers-small}
 use Rattle.layout.proofs.Again.{record-body, record-passes, record-again, whole-read, whole-written}
@@ -171,7 +171,7 @@ pub one-reading : (bytes : List ℕ) (store other : List Float) → length store
 unfolding readQueue
 one-reading bytes store other e =
     let order = orderOf QueueKind in
-    rw e (same-said (readQueueRows bytes other) (stored order bytes store) (stored order bytes other) (queueIn order bytes))
+    rw e (through (λ (s : Said Queue). s) (λ n. refl) (readQueueRows bytes other) (went (stored order bytes store) (queueIn order bytes)) (went (stored order bytes other) (queueIn order bytes)) refl)
 
 -- ---- a queue that was read holds the record's energies, from place 0
 module _ (order : Order) (bytes : List ℕ) (store : List Float) (s : Sound order bytes store) where

@@ -1,12 +1,12 @@
 -- What stands behind the rows of an operation: it is all that counts where no row holds, and what passes refusals on as they are says of the operation what it says of
 -- the outcome behind its rows. Assumes nothing.
-use mathlib.Core.Path.{_≡_, refl, ap, _∙_}
+use mathlib.Core.Path.{_≡_, refl, sym, ap, _∙_}
 use mathlib.Core.Bool.{Bool, true, false, cond}
 use mathlib.Core.List.{List, [], _∷_, _++_}
 use Prim.Native.Nat.{ℕ}
 use native.Mathlib.Omega.{arith}
-use Rattle.refusals.specs.Refusal.{number}
-use Rattle.refusals.specs.Outcome.{Outcome, went, refused, Said, says, refusal, saidBy, keptBy}
+use Rattle.refusals.specs.Refusal.{Refusal, number}
+use Rattle.refusals.specs.Outcome.{Outcome, went, refused, Said, says, refusal, NoValues, done, answers, saidBy, keptBy}
 use Rattle.refusals.specs.Rows.{Row, byRows, numberOf}
 use Rattle.refusals.proofs.Numbers.{no-number}
 use Rattle.refusals.proofs.Rows.{Refuses, stopped, goes, rows-then, number-first}
@@ -65,3 +65,32 @@ module _ {Values Others : Type 0} (on : Said Values → Said Others) (passes : (
           let z : _≡_ {A = ℕ} 0 1 = cc in
           absurd (omega arith)
       go false e later = later e
+
+-- what is made of an outcome, where a refusal stays one
+pub made-of : {Kept Values Kept' Values' : Type 0} (f : Outcome Kept Values → Outcome Kept' Values') → ((r : Refusal) → f (refused r) ≡ refused r)
+    → (rows : List Row) (outcome : Outcome Kept Values) → f (byRows rows outcome) ≡ byRows rows (f outcome)
+made-of f h [] outcome = refl
+made-of f h (row ∷ rest) outcome = go (row .holds) (made-of f h rest outcome)
+  where
+    go : (b : Bool) → f (byRows rest outcome) ≡ byRows rest (f outcome)
+        → f (cond b (refused (row .refuses)) (byRows rest outcome)) ≡ cond b (refused (row .refuses)) (byRows rest (f outcome))
+    go true e = h (row .refuses)
+    go false e = e
+
+-- ---- rows that are asked first, by themselves: what was said of them
+pub told : (rows : List Row) (n : ℕ) → refusal n ≡ saidBy (byRows rows (answers done)) → (n ≡ numberOf rows) × (n ≡ 0 → ⊥)
+told [] n e = let z : _≡_ {A = ℕ} 0 1 = cc in absurd (omega arith)
+told (row ∷ rest) n e = go (row .holds) e (told rest n)
+  where
+    go : (b : Bool) → refusal n ≡ saidBy (cond b (refused (row .refuses)) (byRows rest (answers done)))
+        → (refusal n ≡ saidBy (byRows rest (answers done)) → (n ≡ numberOf rest) × (n ≡ 0 → ⊥))
+        → (n ≡ cond b (number (row .refuses)) (numberOf rest)) × (n ≡ 0 → ⊥)
+    go true e later = let m : n ≡ number (row .refuses) = cc in (m, λ z. no-number (row .refuses) (sym m ∙ z))
+    go false e later = later e
+
+pub passed : (rows : List Row) → says done ≡ saidBy (byRows rows (answers done)) → numberOf rows ≡ 0
+passed rows e = none-held (λ (s : Said NoValues). s) (λ n. refl) rows (answers done) done e
+
+pub stopped-said : {Kept Values : Type 0} (outcome : Outcome Kept Values) (rows more : List Row) (before : Kept) (n : ℕ)
+    → refusal n ≡ saidBy (byRows rows (answers done)) → Refuses (byRows (rows ++ more) outcome) before n
+stopped-said outcome rows more before n e = let t = told rows n e in stopped-first outcome rows more before n (t .0) (t .1)

@@ -4,11 +4,11 @@ use mathlib.Core.Path.{_≡_, refl, sym, ap, _∙_}
 use mathlib.Core.Logic.{_⊎_, inl, inr}
 use mathlib.Core.Bool.{Bool, true, false, cond, true≢false}
 use mathlib.Core.List.{List, [], _∷_, _++_}
-use Prim.Native.Nat.{ℕ}
+use Prim.Native.Nat.{ℕ, zero, suc}
 use lib.Dec.{eqb}
 use Rattle.refusals.specs.Refusal.{Refusal, number}
 use Rattle.refusals.specs.Outcome.{Outcome, went, refused, Said, says, refusal, saidBy, keptBy}
-use Rattle.refusals.specs.Rows.{Row, byRows, numberOf, holdsOf, FirstIs, RefusedBy}
+use Rattle.refusals.specs.Rows.{Row, byRows, numberOf, holdsAfter, holdsOf, FirstIs, RefusedBy}
 use Rattle.refusals.proofs.Numbers.{no-number}
 
 -- ---- "given exactly when, in table order, and nothing has changed"
@@ -91,15 +91,27 @@ module _ {Kept Values : Type 0} (outcome : Outcome Kept Values) where
   rows-then (row ∷ rest) more = ap (cond (row .holds) (refused (row .refuses))) (rows-then rest more)
 
 -- where no row holds, a refusal's row does not: it is found by its name, wherever it stands
-pub not-held : (r : Refusal) (rows : List Row) → numberOf rows ≡ 0 → holdsOf r rows ≡ false
-not-held r [] e = refl
-not-held r (row ∷ rest) e = go (row .holds) e (eqb (number r) (number (row .refuses))) (not-held r rest)
+pub not-held-after : (n : ℕ) (r : Refusal) (rows : List Row) → numberOf rows ≡ 0 → holdsAfter n r rows ≡ false
+not-held-after zero r [] e = refl
+not-held-after (suc n) r [] e = refl
+not-held-after zero r (row ∷ rest) e = go (row .holds) e (eqb (number r) (number (row .refuses))) (not-held-after zero r rest)
   where
-    go : (b : Bool) → cond b (number (row .refuses)) (numberOf rest) ≡ 0 → (same : Bool) → (numberOf rest ≡ 0 → holdsOf r rest ≡ false)
-        → cond same b (holdsOf r rest) ≡ false
+    go : (b : Bool) → cond b (number (row .refuses)) (numberOf rest) ≡ 0 → (same : Bool) → (numberOf rest ≡ 0 → holdsAfter zero r rest ≡ false)
+        → cond same b (holdsAfter zero r rest) ≡ false
     go true e same later = absurd (no-number (row .refuses) e)
     go false e true later = refl
     go false e false later = later e
+not-held-after (suc n) r (row ∷ rest) e =
+    go (row .holds) e (eqb (number r) (number (row .refuses))) (not-held-after n r rest) (not-held-after (suc n) r rest)
+  where
+    go : (b : Bool) → cond b (number (row .refuses)) (numberOf rest) ≡ 0 → (same : Bool) → (numberOf rest ≡ 0 → holdsAfter n r rest ≡ false)
+        → (numberOf rest ≡ 0 → holdsAfter (suc n) r rest ≡ false) → cond same (holdsAfter n r rest) (holdsAfter (suc n) r rest) ≡ false
+    go true e same one later = absurd (no-number (row .refuses) e)
+    go false e true one later = one e
+    go false e false one later = later e
+
+pub not-held : (r : Refusal) (rows : List Row) → numberOf rows ≡ 0 → holdsOf r rows ≡ false
+not-held = not-held-after 0
 
 -- the number of rows and then more of them: the first rows' where it is one, and else the others'
 pub number-first : (rows more : List Row) (n : ℕ) → n ≡ numberOf rows → (n ≡ 0 → ⊥) → n ≡ numberOf (rows ++ more)

@@ -1,6 +1,6 @@
 -- The rows of 01's table that apply to a call, 'Numbers of the refusals': a refusal, and whether it is "given". "Checks run in table order", so the rows stand in a
 -- list, and the first that holds refuses the call. A definition of an operation names its rows and what the call comes to where none of them holds.
-use Prim.Native.Nat.{ℕ}
+use Prim.Native.Nat.{ℕ, zero, suc}
 use mathlib.Core.Path.{_≡_}
 use mathlib.Core.Logic.{_⊎_}
 use mathlib.Core.Bool.{Bool, true, false, cond}
@@ -26,10 +26,15 @@ abbrev pub numberOf : List Row → ℕ
 numberOf [] = 0
 numberOf (row ∷ rest) = cond (row .holds) (number (row .refuses)) (numberOf rest)
 
--- whether a refusal's first row holds
+-- whether a refusal's row holds, the one after so many others of the same name
+abbrev pub holdsAfter : ℕ → Refusal → List Row → Bool
+holdsAfter zero r [] = false
+holdsAfter (suc n) r [] = false
+holdsAfter zero r (row ∷ rest) = cond (eqb (number r) (number (row .refuses))) (row .holds) (holdsAfter zero r rest)
+holdsAfter (suc n) r (row ∷ rest) = cond (eqb (number r) (number (row .refuses))) (holdsAfter n r rest) (holdsAfter (suc n) r rest)
+
 abbrev pub holdsOf : Refusal → List Row → Bool
-holdsOf r [] = false
-holdsOf r (row ∷ rest) = cond (eqb (number r) (number (row .refuses))) (row .holds) (holdsOf r rest)
+holdsOf r rows = holdsAfter 0 r rows
 
 -- ---- "Given exactly when"
 -- of these rows, one with number n holds and no earlier one does

@@ -19,7 +19,7 @@ use Rattle.histogram_range.proofs.Adding.{sums-length}
 use Rattle.range.specs.Range.{queuesIn, rangeOf}
 use Rattle.layout.specs.declared.Kind.the-variants.{Histogram}
 use Rattle.layout.specs.Layout.{orderOf, bodyIn, frameRows}
-use Rattle.layout.proofs.Rows.{made-of}
+use Rattle.refusals.proofs.Behind.{made-of}
 use Rattle.layout.proofs.Runs.{numbers-length}
 use Rattle.histogram_reader.specs.Record.{countWidth, countersIn, storeRows, readHistogram}
 use Rattle.summary.specs.Summary.{Figures, ranged, rangeless, figuresBy, alone, figuresOf, figuresRead, summaryOf}

@@ -11,7 +11,7 @@ use Rattle.fields.specs.declared.Order.{Order}
 use Rattle.histogram_bins.specs.Bin.{bins}
 use Rattle.layout.specs.declared.Kind.the-variants.{Histogram}
 use Rattle.layout.specs.Layout.{frameRows, frameOf, bodyIn, numbersIn}
-use Rattle.layout.proofs.Rows.{passed, stopped-first}
+use Rattle.refusals.proofs.Behind.{passed, stopped-said}
 use Rattle.histogram_reader.specs.Record.{countersIn, storeRows, readHistogram}
 use Rattle.histogram_reader.proofs.Cases.{framed-length, read-behind, read-went}
 use Rattle.histogram_reader.proofs.read_histogram.Statement.{statement}
@@ -66,7 +66,7 @@ returns-3 c =
     let bytes = now (a .bytes) in
     let counters = now (a .counters) in
     let n = c .before .number .given .0 .0 in
-    let r = stopped-first (went (countersIn bytes) done) (frameRows Histogram bytes) (storeRows counters) counters n
+    let r = stopped-said (went (countersIn bytes) done) (frameRows Histogram bytes) (storeRows counters) counters n
     (sym (ap said (c .before .number .given .1)) ∙ c .before .before .before .frame .ensures) in
     (r .says, r .keeps)
 

@@ -8,7 +8,7 @@ use Rattle.refusals.specs.Rows.{numberOf}
 use Rattle.fields.specs.declared.Order.{Order}
 use Rattle.layout.specs.declared.Kind.the-variants.{Queue as QueueKind}
 use Rattle.layout.specs.Layout.{orderOf, frameRows, frameOf}
-use Rattle.layout.proofs.Rows.{passed, stopped-first}
+use Rattle.refusals.proofs.Behind.{passed, stopped-said}
 use Rattle.queue_reader.specs.QueueRecord.{stored, queueIn, bodyRows, readQueue}
 use Rattle.queue_reader.specs.Inner.{bodyRead}
 use Rattle.queue_reader.proofs.Cases.{read-behind, framed-long, framed-length}
@@ -61,7 +61,7 @@ returns-2 c =
     let bytes = now (a .bytes) in
     let store = now (a .store) in
     let order = orderOf QueueKind in
-    let r = stopped-first (went (stored order bytes store) (queueIn order bytes)) (frameRows QueueKind bytes) (bodyRows order bytes store) store (c .before .number .given .0 .0)
+    let r = stopped-said (went (stored order bytes store) (queueIn order bytes)) (frameRows QueueKind bytes) (bodyRows order bytes store) store (c .before .number .given .0 .0)
     (sym (ap said (c .before .number .given .1)) ∙ c .before .before .before .frame .ensures) in
     (r .says, r .keeps)
 
