@@ -1,6 +1,6 @@
 -- Reading what was written gives back the maximum, how many are held and every energy, from place 0; writing what was read gives back the same bytes. So a
 -- record has one reading, whatever the store held, and its bytes are determined by the queue in order. Assumes nothing.
-use mathlib.Core.Path.{_≡_, sym, ap, _∙_}
+use mathlib.Core.Path.{_≡_, refl, sym, ap, _∙_}
 use mathlib.Core.Bool.{true}
 use mathlib.Core.List.{List, [], _∷_, _++_, append-assoc, append-nil}
 use Prim.Native.Nat.{ℕ, zero, suc, _+_, _-_, _*_, _^_, _≤_, _<_}
@@ -10,12 +10,13 @@ use lib.ListN.{length, getD, take, drop, length-append, length-drop, take-append
 use lib.Seq.{take-at, drop-at, drop-drop, getD-drop, take-add}
 use lib.Ieee.{Float, binary64}
 use lib.Ieee.Bits.{toBits-lt}
-use Rattle.refusals.specs.Outcome.{went, saidBy}
+use Rattle.refusals.specs.Outcome.{went, Said, saidBy}
 use Rattle.refusals.specs.Rows.{numberOf}
 use Rattle.refusals.proofs.Rows.{number-parts}
 use Rattle.fields.specs.declared.Order.{Order}
 use Rattle.fields.specs.Field.{numberIn, bytesOf}
 use Rattle.fields.proofs.Orders.{bytes-length, read-again, write-again}
+use Rattle.queue.specs.declared.Queue.{Queue}
 use Rattle.queue.specs.Queue.{longest, over, heldOf, firstPart}
 use Rattle.history.specs.Set.{noneBelow}
 use Rattle.queue.proofs.Ring.{Suited, suits-it}
