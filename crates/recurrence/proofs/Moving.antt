@@ -59,8 +59,3 @@ pub after-append : (a : List Float) (m : Memory) (xs ys : List Float) → after 
 unfolding after
 after-append a m [] ys = refl
 after-append a m (x ∷ xs) ys = after-append a (next a m x) xs ys
-
-pub outs-append : (a b : List Float) (m : Memory) (xs ys : List Float) → outs a b m (xs ++ ys) ≡ outs a b m xs ++ outs a b (after a m xs) ys
-unfolding outs after
-outs-append a b m [] ys = refl
-outs-append a b m (x ∷ xs) ys = ap (λ (t : List Float). out a b m x ∷ t) (outs-append a b (next a m x) xs ys)

@@ -64,7 +64,7 @@ memory-same v k m h l =
     (at-within (five m) v (k * 5) 4 nan (omega arith) (omega arith))
 
 -- a memory put over another, and memories of two channels in either order
-pub with-again : (v : List Float) (k : ℕ) (m n : Memory) → withMemory (withMemory v k m) k n ≡ withMemory v k n
+with-again : (v : List Float) (k : ℕ) (m n : Memory) → withMemory (withMemory v k m) k n ≡ withMemory v k n
 unfolding withMemory
 with-again v k m n = sets-again (five m) (five n) v (k * 5) refl
 
@@ -117,7 +117,7 @@ changed-above f true j k v h = memory-above v j k (f j (memoryOf v j)) h
 changed-above f false j k v h = refl
 
 -- changes of two channels, in either order
-pub changes-part : (f g : ℕ → Memory → Memory) (i j : ℕ) (v : List Float) → i < j
+changes-part : (f g : ℕ → Memory → Memory) (i j : ℕ) (v : List Float) → i < j
     → withMemory (withMemory v j (f j (memoryOf v j))) i (g i (memoryOf (withMemory v j (f j (memoryOf v j))) i))
     ≡ withMemory (withMemory v i (g i (memoryOf v i))) j (f j (memoryOf (withMemory v i (g i (memoryOf v i))) j))
 changes-part f g i j v h =
