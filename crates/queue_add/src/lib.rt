@@ -26,7 +26,7 @@ fn on_ring(place: usize, maximum: usize) -> usize
     }
 }
 
-// The place after the head, on the ring. Within the store there is no division, and nothing to wait for from one call to the next.
+// The place after the head, on the ring: after the last place comes the first.
 fn after(head: usize, maximum: usize) -> usize
     requires { ⌜ head < maximum ⌝ }
     ensures { λ r. ⌜ r ≡ (head + 1) % maximum ⌝ }
@@ -35,7 +35,7 @@ fn after(head: usize, maximum: usize) -> usize
     if next < maximum {
         return next;
     }
-    next % maximum
+    0
 }
 
 // The energy is the newest in the queue, and takes the place of a full queue's oldest. Below boundary 0 the energy is dropped.

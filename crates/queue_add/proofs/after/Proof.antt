@@ -1,6 +1,8 @@
--- `queue_add::after` meets its contract: below the maximum, a number is its own remainder. Assumes nothing.
-use mathlib.Core.Path.{refl, sym}
-use native.Mathlib.Nat.{mod-eq-of-lt}
+-- `queue_add::after` meets its contract: below the maximum a number is its own remainder, and that of the maximum is 0. Assumes nothing.
+use Prim.Native.Nat.{_+_, _%_}
+use mathlib.Core.Path.{_≡_, sym, ap, _∙_}
+use native.Mathlib.Nat.{mod-eq-of-lt, mod-self}
+use native.Mathlib.Omega.{arith}
 use borrow.Author.Needs.{needs}
 use Rattle.queue_add.proofs.after.Statement.{statement}
 use Rattle.queue_add.proofs.after.Tie as tie
@@ -11,11 +13,11 @@ add-next c = search needs
 returns : tie.Need-returns
 returns c = sym (mod-eq-of-lt (c .if1 .taken))
 
-rem-result : tie.Need-rem-result
-rem-result c = search needs
-
 returns-2 : tie.Need-returns-2
-returns-2 c = refl
+returns-2 c =
+    let a = c .before .args in
+    let last : a .head + 1 ≡ a .maximum = omega (arith, c .if1 .left) in
+    sym (ap (λ n. n % a .maximum) last ∙ mod-self (a .maximum))
 
 pub after-spec : {M : Type 1} → statement M
-after-spec = tie.close (tie.spec add-next returns rem-result returns-2)
+after-spec = tie.close (tie.spec add-next returns returns-2)
