@@ -1,4 +1,5 @@
 // The loudness range of one histogram: the bins of the two ranks among the blocks that the gate leaves.
+use histogram_bins::Count;
 use spans::Range;
 ghost use mathlib.Core.Path.{_≡_};
 ghost use Prim.Native.Nat.{_+_, _-_, _≤_};
@@ -19,7 +20,7 @@ pub struct Place {
 }
 
 // How many blocks the bins from one up to another have.
-fn blocks_of(counters: &[u32], from: usize, until: usize) -> u64
+fn blocks_of(counters: &[Count], from: usize, until: usize) -> u64
     requires { ⌜ (from ≤ until) × (until ≤ bins) × (length (now counters) ≡ bins) ⌝ }
     ensures { λ r. ⌜ blocksIn (take from (now (counters .entry))) + r ≡ blocksIn (take until (now (counters .entry))) ⌝ }
 {
@@ -33,7 +34,7 @@ fn blocks_of(counters: &[u32], from: usize, until: usize) -> u64
 }
 
 // Groups of bins are passed by as long as the rank lies beyond them.
-fn pass_by(counters: &[u32], from: Place, rank: u64) -> Place
+fn pass_by(counters: &[Count], from: Place, rank: u64) -> Place
     requires { ⌜ (length (now counters) ≡ bins) × Short (now counters) rank from ⌝ }
     ensures { λ r. ⌜ Short (now (counters .entry)) rank r ⌝ }
 {
@@ -51,7 +52,7 @@ fn pass_by(counters: &[u32], from: Place, rank: u64) -> Place
 }
 
 // The first bin whose running count passes the rank.
-fn first_past(counters: &[u32], from: Place, rank: u64) -> Place
+fn first_past(counters: &[Count], from: Place, rank: u64) -> Place
     requires { ⌜ (length (now counters) ≡ bins) × Short (now counters) rank from ⌝ }
     ensures { λ r. ⌜ (r .bin ≡ firstPast rank 0 (runningFrom 0 (now (counters .entry)))) × Short (now (counters .entry)) rank r ⌝ }
 {
@@ -70,7 +71,7 @@ fn first_past(counters: &[u32], from: Place, rank: u64) -> Place
 }
 
 // The energies at the two ranks among the blocks from a bin on. The low rank is not above the high one, whose search goes on from there.
-fn ranked(counters: &[u32], count: u64, start: usize) -> Range
+fn ranked(counters: &[Count], count: u64, start: usize) -> Range
     requires { ⌜ (length (now counters) ≡ bins) × (start ≤ bins) × (count ≡ blocksIn (now counters)) × (count ≤ mostBlocks) ⌝ }
     ensures { λ r. ⌜ said r ≡ says (leftIn (now (counters .entry)) (blocksIn (take start (now (counters .entry)))) (count - blocksIn (take start (now (counters .entry))))) ⌝ }
 {
@@ -86,7 +87,7 @@ fn ranked(counters: &[u32], count: u64, start: usize) -> Range
 }
 
 // The range of the histogram whose counters start at a place. There is none where 1,000 counters do not stand there.
-pub fn of_counters(counters: &[u32], start: usize) -> Range
+pub fn of_counters(counters: &[Count], start: usize) -> Range
     ensures { λ r. ⌜ said r ≡ says (spanAt (now (counters .entry)) start) ⌝ }
 {
     let started = gate::blocks::started(counters, start, spans::gate_share());

@@ -8,9 +8,10 @@ ghost use Rattle.entries.specs.Sets.{setOf, asked};
 ghost use Rattle.exports_gate.specs.Measures.{totalsOver};
 use gate::Gated;
 use gated_energy::Energy;
+use histogram_bins::Count;
 
 // The gate question over the set of these numbers. A single history is asked by itself, so that no set of sixteen is made.
-fn gate_of(entries: &[usize], counters: &[u32], energies: &[f64]) -> Gated
+fn gate_of(entries: &[usize], counters: &[Count], energies: &[f64]) -> Gated
     ensures { λ r. ⌜ said r ≡ saidBy (gateOf (setOf (now (entries .entry)) (now (counters .entry)) (now (energies .entry)))) ⌝ }
 {
     if entries.len() == entries::NUMBERS {
@@ -21,7 +22,7 @@ fn gate_of(entries: &[usize], counters: &[u32], energies: &[f64]) -> Gated
 }
 
 // Gated energy, in the same way.
-fn gated_energy_of(entries: &[usize], counters: &[u32], energies: &[f64]) -> Energy
+fn gated_energy_of(entries: &[usize], counters: &[Count], energies: &[f64]) -> Energy
     ensures { λ r. ⌜ saidEnergy r ≡ saidBy (gatedEnergyOf (setOf (now (entries .entry)) (now (counters .entry)) (now (energies .entry)))) ⌝ }
 {
     if entries.len() == entries::NUMBERS {
@@ -38,7 +39,7 @@ fn gated_energy_of(entries: &[usize], counters: &[u32], energies: &[f64]) -> Ene
 #[no_mangle]
 pub extern "C" fn xel_gate(
     entries: &[usize],
-    counters: &[u32],
+    counters: &[Count],
     energies: &[f64],
     blocks: &mut u64,
     sum: &mut f64,
@@ -63,7 +64,7 @@ pub extern "C" fn xel_gate(
 #[no_mangle]
 pub extern "C" fn xel_gated_energy(
     entries: &[usize],
-    counters: &[u32],
+    counters: &[Count],
     energies: &[f64],
     energy: &mut f64,
 ) -> u8

@@ -7,11 +7,12 @@ ghost use Rattle.histogram_merge.specs.Merge.{mergeInto};
 ghost use Rattle.queue_add.specs.Adding.{enqueued};
 ghost use Rattle.exports_histories.specs.Queues.{queueOver, afterAdd};
 use codes::number_of;
+use histogram_bins::Count;
 use queue::Queue;
 use refusals::Answer;
 
 #[no_mangle]
-pub extern "C" fn xel_histogram_add(counters: &mut [u32], energy: f64) -> u8
+pub extern "C" fn xel_histogram_add(counters: &mut [Count], energy: f64) -> u8
     ensures { λ r. ⌜ (r ≡ code (addTo (now (counters .entry)) energy))
         × (now (counters .exit) ≡ keptBy (now (counters .entry)) (addTo (now (counters .entry)) energy)) ⌝ }
 {
@@ -19,7 +20,7 @@ pub extern "C" fn xel_histogram_add(counters: &mut [u32], energy: f64) -> u8
 }
 
 #[no_mangle]
-pub extern "C" fn xel_histogram_merge(into: &mut [u32], from: &[u32]) -> u8
+pub extern "C" fn xel_histogram_merge(into: &mut [Count], from: &[Count]) -> u8
     ensures { λ r. ⌜ (r ≡ code (mergeInto (now (into .entry)) (now (from .entry))))
         × (now (into .exit) ≡ keptBy (now (into .entry)) (mergeInto (now (into .entry)) (now (from .entry)))) ⌝ }
 {
@@ -27,7 +28,7 @@ pub extern "C" fn xel_histogram_merge(into: &mut [u32], from: &[u32]) -> u8
 }
 
 #[no_mangle]
-pub extern "C" fn xel_histogram_reset(counters: &mut [u32]) -> u8
+pub extern "C" fn xel_histogram_reset(counters: &mut [Count]) -> u8
     ensures { λ r. ⌜ (r ≡ code (cleared (now (counters .entry))))
         × (now (counters .exit) ≡ keptBy (now (counters .entry)) (cleared (now (counters .entry)))) ⌝ }
 {

@@ -6,6 +6,7 @@ ghost use Rattle.spans.specs.Span.{said};
 ghost use Rattle.range.specs.Range.{rangeOf};
 ghost use Rattle.entries.specs.Sets.{numbersAnEntry, setOf};
 ghost use Rattle.exports_range.specs.Spans.{rangeAsked, histogramAt, spanCode, lowOr, highOr};
+use histogram_bins::Count;
 use history::set::Shape;
 use spans::Range;
 
@@ -15,7 +16,7 @@ const NOTHING: u8 = 128;
 const NOT_A_NUMBER: u8 = 129;
 
 // The range of the histogram whose counters start at a place: nothing is added to them, and no set is made.
-fn of_histogram(counters: &[u32], start: usize) -> Range
+fn of_histogram(counters: &[Count], start: usize) -> Range
     ensures { λ r. ⌜ said r ≡ saidBy (histogramAt (now (counters .entry)) start) ⌝ }
 {
     if counters.len() < start {
@@ -28,7 +29,7 @@ fn of_histogram(counters: &[u32], start: usize) -> Range
 }
 
 // The range of the set of the numbers.
-fn of_set(entries: &[usize], counters: &[u32], energies: &[f64], work: &mut [f64]) -> Range
+fn of_set(entries: &[usize], counters: &[Count], energies: &[f64], work: &mut [f64]) -> Range
     ensures { λ r. ⌜ (said r ≡ saidBy (rangeOf (setOf (now (entries .entry)) (now (counters .entry)) (now (energies .entry))) (now (work .entry))))
         × (now (work .exit) ≡ keptBy (now (work .entry)) (rangeOf (setOf (now (entries .entry)) (now (counters .entry)) (now (energies .entry))) (now (work .entry)))) ⌝ }
 {
@@ -42,7 +43,7 @@ fn of_set(entries: &[usize], counters: &[u32], energies: &[f64], work: &mut [f64
 }
 
 // That of one entry. A histogram needs no set of sixteen.
-fn of_one(entries: &[usize], counters: &[u32], energies: &[f64], work: &mut [f64]) -> Range
+fn of_one(entries: &[usize], counters: &[Count], energies: &[f64], work: &mut [f64]) -> Range
     requires { ⌜ length (now entries) ≡ numbersAnEntry ⌝ }
     ensures { λ r. ⌜ (said r ≡ saidBy (rangeOf (setOf (now (entries .entry)) (now (counters .entry)) (now (energies .entry))) (now (work .entry))))
         × (now (work .exit) ≡ keptBy (now (work .entry)) (rangeOf (setOf (now (entries .entry)) (now (counters .entry)) (now (energies .entry))) (now (work .entry)))) ⌝ }
@@ -56,7 +57,7 @@ fn of_one(entries: &[usize], counters: &[u32], energies: &[f64], work: &mut [f64
 }
 
 // The range of the numbers, and SET where they are not whole entries.
-fn asked(entries: &[usize], counters: &[u32], energies: &[f64], work: &mut [f64]) -> Range
+fn asked(entries: &[usize], counters: &[Count], energies: &[f64], work: &mut [f64]) -> Range
     ensures { λ r. ⌜ (said r ≡ saidBy (rangeAsked (now (entries .entry)) (now (counters .entry)) (now (energies .entry)) (now (work .entry))))
         × (now (work .exit) ≡ keptBy (now (work .entry)) (rangeAsked (now (entries .entry)) (now (counters .entry)) (now (energies .entry)) (now (work .entry)))) ⌝ }
 {
@@ -72,7 +73,7 @@ fn asked(entries: &[usize], counters: &[u32], energies: &[f64], work: &mut [f64]
 #[no_mangle]
 pub extern "C" fn xel_loudness_range(
     entries: &[usize],
-    counters: &[u32],
+    counters: &[Count],
     energies: &[f64],
     work: &mut [f64],
     low: &mut f64,

@@ -5,11 +5,12 @@ ghost use Rattle.codes.specs.Codes.{code};
 ghost use Rattle.entries.specs.Sets.{askedAlone};
 ghost use Rattle.exports_threshold.specs.Levels.{floatOr};
 use gate::threshold::Threshold;
+use histogram_bins::Count;
 
 #[no_mangle]
 pub extern "C" fn xel_relative_threshold(
     entry: &[usize],
-    counters: &[u32],
+    counters: &[Count],
     energies: &[f64],
     value: &mut f64,
 ) -> u8

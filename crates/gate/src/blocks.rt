@@ -1,4 +1,5 @@
 // The blocks of a histogram from a bin upward, how many they are and the sum of their energies, and the bin where a gate starts.
+use histogram_bins::Count;
 ghost use mathlib.Core.Path.{_≡_};
 ghost use Prim.Native.Nat.{_+_, _*_, _%_, _≤_};
 ghost use lib.ListN.{length};
@@ -20,7 +21,7 @@ pub struct Totals {
 const STRETCH: usize = 20;
 
 // How many blocks the bins of a stretch have, from a place of it on.
-fn count_stretch(counters: &[u32], first: usize, place: usize) -> u64
+fn count_stretch(counters: &[Count], first: usize, place: usize) -> u64
     requires { ⌜ (length (now counters) ≡ bins) × (first + stretch ≤ bins) × (place ≤ stretch) ⌝ }
     ensures { λ r. ⌜ (r + blocksAbove (first + stretch) (now (counters .entry)) ≡ blocksAbove (first + place) (now (counters .entry))) × (r ≤ stretch * largestCount) ⌝ }
 {
@@ -34,7 +35,7 @@ fn count_stretch(counters: &[u32], first: usize, place: usize) -> u64
 }
 
 // Their energies on top of a sum.
-fn add_stretch(table: &[f64; 1000], sum: f64, counters: &[u32], first: usize, place: usize) -> f64
+fn add_stretch(table: &[f64; 1000], sum: f64, counters: &[Count], first: usize, place: usize) -> f64
     requires { ⌜ (now table ≡ energies) × (length (now counters) ≡ bins) × (first + stretch ≤ bins) × (place ≤ stretch) × Steady sum ⌝ }
     ensures { λ r. ⌜ (sumAbove r (first + stretch) (now (counters .entry)) ≡ sumAbove sum (first + place) (now (counters .entry))) × Steady r ⌝ }
 {
@@ -51,7 +52,7 @@ fn add_stretch(table: &[f64; 1000], sum: f64, counters: &[u32], first: usize, pl
 fn with_stretch(
     table: &[f64; 1000],
     totals: Totals,
-    counters: &[u32],
+    counters: &[Count],
     first: usize,
     place: usize,
 ) -> Totals
@@ -71,7 +72,7 @@ fn with_stretch(
 }
 
 // The blocks of whole stretches, from one upward, on top of running totals.
-fn stretches_from(table: &[f64; 1000], totals: Totals, counters: &[u32], first: usize) -> Totals
+fn stretches_from(table: &[f64; 1000], totals: Totals, counters: &[Count], first: usize) -> Totals
     requires { ⌜ (now table ≡ energies) × (length (now counters) ≡ bins) × (first ≤ bins) × (first % stretch ≡ 0)
         × (totals .count ≤ first * largestCount) × Steady (totals .sum) ⌝ }
     ensures { λ r. ⌜ (r ≡ onwards totals first (now (counters .entry))) × (r .count ≤ mostBlocks) ⌝ }
@@ -86,7 +87,7 @@ fn stretches_from(table: &[f64; 1000], totals: Totals, counters: &[u32], first: 
 }
 
 // The blocks of a histogram from a bin upward: the rest of its stretch, and the stretches above.
-fn bins_from(table: &[f64; 1000], sum: f64, counters: &[u32], start: usize) -> Totals
+fn bins_from(table: &[f64; 1000], sum: f64, counters: &[Count], start: usize) -> Totals
     requires { ⌜ (now table ≡ energies) × (length (now counters) ≡ bins) × Steady sum ⌝ }
     ensures { λ r. ⌜ (r ≡ onwards (onTopOf sum) start (now (counters .entry))) × (r .count ≤ mostBlocks) ⌝ }
 {
@@ -105,7 +106,7 @@ fn bins_from(table: &[f64; 1000], sum: f64, counters: &[u32], start: usize) -> T
 pub(crate) fn from_bin(
     table: &[f64; 1000],
     sum: f64,
-    counters: &[u32],
+    counters: &[Count],
     start: usize,
     bin: usize,
 ) -> Totals
@@ -156,7 +157,7 @@ pub struct Start {
 }
 
 // All blocks of the histogram whose counters start at a place, and the bin where a gate starts that is this share of their mean energy.
-pub fn started(counters: &[u32], start: usize, share: f64) -> Start
+pub fn started(counters: &[Count], start: usize, share: f64) -> Start
     ensures { λ r. ⌜ (r .totals ≡ fromBin (none .sum) (now (counters .entry)) start 0) × (r .totals .count ≤ mostBlocks)
         × (r .bin ≡ startBin (mul binary64 share (meanOf (r .totals)))) ⌝ }
 {

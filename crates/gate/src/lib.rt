@@ -1,6 +1,7 @@
 // The relative gate over a set of histories: the blocks at or above it and the sum of their energies.
 // A question takes the table of the bins' energies once, and lends it to all that it asks.
 use blocks::Totals;
+use histogram_bins::Count;
 use history::set::Entry;
 use history::set::MOST;
 use history::set::Shape;
@@ -35,7 +36,7 @@ fn history_gated(
     table: &[f64; 1000],
     sum: f64,
     entry: Entry,
-    counters: &[u32],
+    counters: &[Count],
     energies: &[f64],
     threshold: f64,
     bin: usize,
@@ -57,7 +58,7 @@ fn all_gated(
     table: &[f64; 1000],
     entries: [Entry; MOST],
     count: usize,
-    counters: &[u32],
+    counters: &[Count],
     energies: &[f64],
     threshold: f64,
 ) -> Totals
@@ -89,7 +90,7 @@ fn some_left(left: Totals) -> Gated
 }
 
 // The gate question.
-pub fn gate(entries: [Entry; MOST], count: usize, counters: &[u32], energies: &[f64]) -> Gated
+pub fn gate(entries: [Entry; MOST], count: usize, counters: &[Count], energies: &[f64]) -> Gated
     ensures { λ r. ⌜ said r ≡ saidBy (gateOf (histories entries count (now (counters .entry)) (now (energies .entry)))) ⌝ }
 {
     let table = tables::all_energies();
@@ -104,7 +105,7 @@ pub fn gate(entries: [Entry; MOST], count: usize, counters: &[u32], energies: &[
 }
 
 // The gate question over a single history, without a set of sixteen places.
-pub fn gate_of_history(entry: Entry, counters: &[u32], energies: &[f64]) -> Gated
+pub fn gate_of_history(entry: Entry, counters: &[Count], energies: &[f64]) -> Gated
     ensures { λ r. ⌜ said r ≡ saidBy (gateOf (alone entry (now (counters .entry)) (now (energies .entry)))) ⌝ }
 {
     let table = tables::all_energies();

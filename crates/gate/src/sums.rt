@@ -1,5 +1,6 @@
 // How many blocks histories have and the sum of their energies, which a gate's threshold is taken from, and what refuses the histories.
 use crate::blocks::Totals;
+use histogram_bins::Count;
 use history::set::Entry;
 use history::set::MOST;
 use history::set::Shape;
@@ -77,7 +78,7 @@ struct Seen {
 }
 
 // One history, which is inside its slice.
-fn look_at_history(table: &[f64; 1000], entry: Entry, counters: &[u32], energies: &[f64]) -> Seen
+fn look_at_history(table: &[f64; 1000], entry: Entry, counters: &[Count], energies: &[f64]) -> Seen
     requires { ⌜ (now table ≡ binEnergies) × (isOutside (length (now counters)) (length (now energies)) entry ≡ false) ⌝ }
     ensures { λ r. ⌜ (r .sound ≡ isSound (now (energies .entry)) entry)
         × (r .sound ≡ true → (record { count = r .count; sum = r .sum } ≡ totalsOf (shows (now (counters .entry)) (now (energies .entry)) entry)) × (r .count ≤ mostBlocks)) ⌝ }
@@ -108,7 +109,7 @@ fn look_at_set(
     table: &[f64; 1000],
     entries: [Entry; MOST],
     count: usize,
-    counters: &[u32],
+    counters: &[Count],
     energies: &[f64],
 ) -> Seen
     requires { ⌜ (now table ≡ binEnergies) × (outsideSet (histories entries count (now counters) (now energies)) ≡ false) ⌝ }
@@ -154,7 +155,7 @@ fn answer(seen: Seen) -> Sums
 }
 
 // Whether SET refuses a single history.
-fn outside(entry: Entry, counters: &[u32], energies: &[f64]) -> bool
+fn outside(entry: Entry, counters: &[Count], energies: &[f64]) -> bool
     ensures { λ r. ⌜ r ≡ outsideSet (alone entry (now (counters .entry)) (now (energies .entry))) ⌝ }
 {
     history::set::outside_set([entry; MOST], 1, counters, energies)
@@ -164,7 +165,7 @@ fn outside(entry: Entry, counters: &[u32], energies: &[f64]) -> bool
 pub(crate) fn of_history(
     table: &[f64; 1000],
     entry: Entry,
-    counters: &[u32],
+    counters: &[Count],
     energies: &[f64],
 ) -> Sums
     requires { ⌜ now table ≡ binEnergies ⌝ }
@@ -181,7 +182,7 @@ pub(crate) fn of_set(
     table: &[f64; 1000],
     entries: [Entry; MOST],
     count: usize,
-    counters: &[u32],
+    counters: &[Count],
     energies: &[f64],
 ) -> Sums
     requires { ⌜ now table ≡ binEnergies ⌝ }

@@ -1,6 +1,7 @@
 // The relative threshold of the blocks of histories, and that of a single history.
 use crate::blocks::Totals;
 use crate::sums::Sums;
+use histogram_bins::Count;
 use history::set::Entry;
 ghost use mathlib.Core.Path.{_≡_};
 ghost use Rattle.refusals.specs.Outcome.{saidBy};
@@ -48,7 +49,7 @@ pub(crate) fn of_sums(sums: Sums) -> Threshold
 }
 
 // The relative threshold of a single history.
-pub fn relative_threshold(entry: Entry, counters: &[u32], energies: &[f64]) -> Threshold
+pub fn relative_threshold(entry: Entry, counters: &[Count], energies: &[f64]) -> Threshold
     ensures { λ r. ⌜ said r ≡ saidBy (relativeOf entry (now (counters .entry)) (now (energies .entry))) ⌝ }
 {
     let table = tables::all_energies();

@@ -1,5 +1,6 @@
 // Gated energy: the mean energy of the blocks at or above the relative gate.
 use gate::Gated;
+use histogram_bins::Count;
 use history::set::Entry;
 use history::set::MOST;
 ghost use mathlib.Core.Path.{_≡_};
@@ -30,7 +31,7 @@ fn mean_of(gated: Gated) -> Energy
 pub fn gated_energy(
     entries: [Entry; MOST],
     count: usize,
-    counters: &[u32],
+    counters: &[Count],
     energies: &[f64],
 ) -> Energy
     ensures { λ r. ⌜ said r ≡ saidBy (gatedEnergyOf (histories entries count (now (counters .entry)) (now (energies .entry)))) ⌝ }
@@ -39,7 +40,7 @@ pub fn gated_energy(
 }
 
 // That of a single history.
-pub fn gated_energy_of_history(entry: Entry, counters: &[u32], energies: &[f64]) -> Energy
+pub fn gated_energy_of_history(entry: Entry, counters: &[Count], energies: &[f64]) -> Energy
     ensures { λ r. ⌜ said r ≡ saidBy (gatedEnergyOf (alone entry (now (counters .entry)) (now (energies .entry)))) ⌝ }
 {
     mean_of(gate::gate_of_history(entry, counters, energies))

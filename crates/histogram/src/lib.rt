@@ -1,4 +1,5 @@
 // The histogram: 1,000 counters in a lent slice, one for each bin.
+use histogram_bins::Count;
 use refusals::Answer;
 ghost use mathlib.Core.Path.{_≡_};
 ghost use lib.ListN.{length};
@@ -8,10 +9,10 @@ ghost use Rattle.histogram_bins.specs.Bin.{bins};
 ghost use Rattle.histogram.specs.Histogram.{empty, addTo, cleared};
 
 // The largest count of a bin: what a counter of 32 bits holds.
-pub const LARGEST_COUNT: u32 = 4294967295;
+pub const LARGEST_COUNT: Count = 4294967295;
 
 // A block of this energy is counted in its bin. Below boundary 0 it is dropped.
-pub fn add(counters: &mut [u32], energy: f64) -> Answer
+pub fn add(counters: &mut [Count], energy: f64) -> Answer
     ensures { λ r. ⌜ (said r ≡ saidBy (addTo (now (counters .entry)) energy))
         × (now (counters .exit) ≡ keptBy (now (counters .entry)) (addTo (now (counters .entry)) energy)) ⌝ }
 {
@@ -30,7 +31,7 @@ pub fn add(counters: &mut [u32], energy: f64) -> Answer
     Answer::Done
 }
 
-fn clear(counters: &mut [u32])
+fn clear(counters: &mut [Count])
     requires { ⌜ length (now counters) ≡ bins ⌝ }
     ensures { λ _. ⌜ now (counters .exit) ≡ empty ⌝ }
 {
@@ -42,7 +43,7 @@ fn clear(counters: &mut [u32])
 }
 
 // Every counter becomes 0.
-pub fn reset(counters: &mut [u32]) -> Answer
+pub fn reset(counters: &mut [Count]) -> Answer
     ensures { λ r. ⌜ (said r ≡ saidBy (cleared (now (counters .entry))))
         × (now (counters .exit) ≡ keptBy (now (counters .entry)) (cleared (now (counters .entry)))) ⌝ }
 {

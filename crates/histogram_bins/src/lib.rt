@@ -2,6 +2,9 @@
 ghost use mathlib.Core.Path.{_≡_};
 ghost use Rattle.tables.specs.Tables.{boundaryAt, energyAt};
 
+// The count of a bin.
+pub type Count = u32;
+
 // How many bins a histogram has.
 pub const BINS: usize = 1000;
 
@@ -47,7 +50,7 @@ pub fn energy(i: usize) -> f64
 }
 
 // A bin's counter as a number that the blocks of many bins add up in.
-pub fn wide(count: u32) -> u64
+pub fn wide(count: Count) -> u64
     ensures { λ r. ⌜ r ≡ count ⌝ }
 {
     count as u64

@@ -1,4 +1,5 @@
 // One histogram added to another, bin by bin, where every bin has room.
+use histogram_bins::Count;
 use refusals::Answer;
 ghost use mathlib.Core.Path.{_≡_};
 ghost use mathlib.Core.Bool.{true};
@@ -9,7 +10,7 @@ ghost use Rattle.histogram.specs.Histogram.{sums};
 ghost use Rattle.histogram_merge.specs.Merge.{room, mergeInto};
 
 // Whether no two counters add up to more than the largest count, by a look at every bin.
-fn has_room(into: &[u32], from: &[u32]) -> bool
+fn has_room(into: &[Count], from: &[Count]) -> bool
     requires { ⌜ length (now into) ≡ length (now from) ⌝ }
     ensures { λ r. ⌜ r ≡ room (now (into .entry)) (now (from .entry)) ⌝ }
 {
@@ -22,7 +23,7 @@ fn has_room(into: &[u32], from: &[u32]) -> bool
     fits
 }
 
-fn add_all(into: &mut [u32], from: &[u32])
+fn add_all(into: &mut [Count], from: &[Count])
     requires { ⌜ (length (now into) ≡ length (now from)) × (room (now into) (now from) ≡ true) ⌝ }
     ensures { λ _. ⌜ now (into .exit) ≡ sums (now (into .entry)) (now (from .entry)) ⌝ }
 {
@@ -34,7 +35,7 @@ fn add_all(into: &mut [u32], from: &[u32])
 }
 
 // The counters of `from` are added to those of `into`, or none is.
-pub fn merge(into: &mut [u32], from: &[u32]) -> Answer
+pub fn merge(into: &mut [Count], from: &[Count]) -> Answer
     ensures { λ r. ⌜ (said r ≡ saidBy (mergeInto (now (into .entry)) (now (from .entry))))
         × (now (into .exit) ≡ keptBy (now (into .entry)) (mergeInto (now (into .entry)) (now (from .entry)))) ⌝ }
 {

@@ -1,6 +1,7 @@
 // The loudness range over the histograms of a set: their counters added bin by bin, and the bins of the two ranks among the blocks that the gate leaves.
 use block_range::Place;
 use gate::blocks::Totals;
+use histogram_bins::Count;
 use history::set::Entry;
 use history::set::MOST;
 use history::set::Shape;
@@ -32,7 +33,7 @@ ghost use Rattle.histogram_range.specs.Counted.{
 ghost use Rattle.block_range.specs.Counted.{Short};
 
 // A histogram's counters are added, bin by bin.
-fn add_counters(added: &mut [u64], counters: &[u32])
+fn add_counters(added: &mut [u64], counters: &[Count])
     requires { ⌜ (length (now added) ≡ bins) × (length (now counters) ≡ bins) × AtMost (15 * largestCount) (now added) ⌝ }
     ensures { λ _. ⌜ now (added .exit) ≡ sums (now (added .entry)) (now (counters .entry)) ⌝ }
 {
@@ -44,7 +45,7 @@ fn add_counters(added: &mut [u64], counters: &[u32])
 }
 
 // The counters of a history are added, where it is a histogram.
-fn add_history(added: &mut [u64], entry: Entry, counters: &[u32])
+fn add_history(added: &mut [u64], entry: Entry, counters: &[Count])
     requires { ⌜ (countersEnd (entry .shape) ≤ length (now counters)) × (length (now added) ≡ bins) × AtMost (15 * largestCount) (now added) ⌝ }
     ensures { λ _. ⌜ (now (added .exit) ≡ withHistory (now (added .entry)) (shows (now (counters .entry)) [] entry))
         × ((most : ℕ) → AtMost most (now (added .entry)) → AtMost (most + largestCount) (now (added .exit))) ⌝ }
@@ -59,7 +60,7 @@ fn add_history(added: &mut [u64], entry: Entry, counters: &[u32])
     }
 }
 
-fn add_histories(added: &mut [u64], entries: [Entry; MOST], count: usize, counters: &[u32])
+fn add_histories(added: &mut [u64], entries: [Entry; MOST], count: usize, counters: &[Count])
     requires { ⌜ (count ≤ mostHistories) × (countersInside (length (now counters)) (take count entries)) × (length (now added) ≡ bins) × AtMost 0 (now added) ⌝ }
     ensures { λ _. ⌜ (now (added .exit) ≡ addedTo (now (added .entry)) (allShow (now (counters .entry)) [] (take count entries))) × AtMost mostInBin (now (added .exit)) ⌝ }
 {
@@ -160,7 +161,7 @@ fn span_of(counters: &[u64]) -> Range
 }
 
 // The range of a single history, to which nothing is added.
-fn alone(entry: Entry, counters: &[u32]) -> Range
+fn alone(entry: Entry, counters: &[Count]) -> Range
     requires { ⌜ countersEnd (entry .shape) ≤ length (now counters) ⌝ }
     ensures { λ r. ⌜ said r ≡ says (countedSpan (withHistory empty (shows (now (counters .entry)) [] entry))) ⌝ }
 {
@@ -172,7 +173,7 @@ fn alone(entry: Entry, counters: &[u32]) -> Range
 }
 
 // The range of the first history of a set.
-fn of_one(entries: [Entry; MOST], counters: &[u32]) -> Range
+fn of_one(entries: [Entry; MOST], counters: &[Count]) -> Range
     requires { ⌜ countersInside (length (now counters)) (take 1 entries) ⌝ }
     ensures { λ r. ⌜ said r ≡ says (countedSpan (addedTo empty (allShow (now (counters .entry)) [] (take 1 entries)))) ⌝ }
 {
@@ -184,7 +185,7 @@ fn of_one(entries: [Entry; MOST], counters: &[u32]) -> Range
 pub fn of_histograms(
     entries: [Entry; MOST],
     count: usize,
-    counters: &[u32],
+    counters: &[Count],
     energies: &[f64],
 ) -> Range
     ensures { λ r. ⌜ said r ≡ saidBy (histogramRange (histories entries count (now (counters .entry)) (now (energies .entry)))) ⌝ }

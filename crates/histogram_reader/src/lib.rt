@@ -1,5 +1,6 @@
 // Records of kind 1: the 1,000 counters of a histogram, read.
 use fields::Order;
+use histogram_bins::Count;
 use layout::Kind;
 use refusals::Answer;
 ghost use mathlib.Core.Path.{_≡_};
@@ -35,7 +36,7 @@ fn read_words(order: Order, bytes: &[u8], at: usize, words: &mut [u32])
     }
 }
 
-fn copy(from: &[u32], to: &mut [u32])
+fn copy(from: &[Count], to: &mut [Count])
     requires { ⌜ length (now to) ≡ length (now from) ⌝ }
     ensures { λ _. ⌜ now (to .exit) ≡ now (from .entry) ⌝ }
 {
@@ -47,7 +48,7 @@ fn copy(from: &[u32], to: &mut [u32])
 }
 
 // The counters in the bytes of a whole record, by way of places of its own, which no lent slice overlaps.
-fn read_counters(order: Order, bytes: &[u8], counters: &mut [u32])
+fn read_counters(order: Order, bytes: &[u8], counters: &mut [Count])
     requires { ⌜ (length (now bytes) ≡ recordLength) × (length (now counters) ≡ bins) ⌝ }
     ensures { λ _. ⌜ now (counters .exit) ≡ numbersIn order countWidth bins (bodyIn (now (bytes .entry))) ⌝ }
 {
@@ -57,7 +58,7 @@ fn read_counters(order: Order, bytes: &[u8], counters: &mut [u32])
 }
 
 // The counters of a record, or the refusal that comes first. Every check is made before a counter is written.
-pub fn read_histogram(bytes: &[u8], counters: &mut [u32]) -> Answer
+pub fn read_histogram(bytes: &[u8], counters: &mut [Count]) -> Answer
     ensures { λ r. ⌜ (said r ≡ saidBy (readHistogram (now (bytes .entry)) (now (counters .entry))))
         × (now (counters .exit) ≡ keptBy (now (counters .entry)) (readHistogram (now (bytes .entry)) (now (counters .entry)))) ⌝ }
 {

@@ -1,5 +1,6 @@
 // Records of kind 1: the 1,000 counters of a histogram, written.
 use fields::Order;
+use histogram_bins::Count;
 use histogram_reader::COUNT;
 use layout::Kind;
 use layout::Written;
@@ -53,7 +54,7 @@ fn write_words(order: Order, words: &[u32], out: &mut [u8], at: usize)
 }
 
 // By way of places of its own, as in reading.
-fn write_counters(order: Order, counters: &[u32], out: &mut [u8])
+fn write_counters(order: Order, counters: &[Count], out: &mut [u8])
     requires { ⌜ (length (now counters) ≡ bins) × (recordLength ≤ length (now out)) ⌝ }
     ensures { λ _. ⌜ now (out .exit) ≡ sets (now (out .entry)) headWidth (allBytes order countWidth (now (counters .entry))) ⌝ }
 {
@@ -67,7 +68,7 @@ fn write_counters(order: Order, counters: &[u32], out: &mut [u8])
 }
 
 // The record of a histogram, at the output's first places.
-pub fn write_histogram(counters: &[u32], out: &mut [u8]) -> Written
+pub fn write_histogram(counters: &[Count], out: &mut [u8]) -> Written
     ensures { λ r. ⌜ (said r ≡ saidBy (writeHistogram (now (counters .entry)) (now (out .entry))))
         × (now (out .exit) ≡ keptBy (now (out .entry)) (writeHistogram (now (counters .entry)) (now (out .entry)))) ⌝ }
 {

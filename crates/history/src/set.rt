@@ -1,4 +1,5 @@
 // A set of histories, as a question takes it: up to 16 entries by value, over one lent slice of counters and one of energies. Entries may overlap or repeat.
+use histogram_bins::Count;
 use queue::Queue;
 ghost use mathlib.Core.Path.{_≡_};
 ghost use Prim.Native.Nat.{_≤_};
@@ -58,7 +59,12 @@ fn any_outside(entries: [Entry; MOST], count: usize, counters: usize, energies: 
 }
 
 // Whether SET refuses a set: too many entries, or one that reaches outside.
-pub fn outside_set(entries: [Entry; MOST], count: usize, counters: &[u32], energies: &[f64]) -> bool
+pub fn outside_set(
+    entries: [Entry; MOST],
+    count: usize,
+    counters: &[Count],
+    energies: &[f64],
+) -> bool
     ensures { λ r. ⌜ r ≡ outsideSet (histories entries count (now (counters .entry)) (now (energies .entry))) ⌝ }
 {
     if count > MOST {

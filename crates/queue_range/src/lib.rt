@@ -1,4 +1,5 @@
 // The loudness range over the queues of a set: their energies are put in rising order in a lent work slice.
+use histogram_bins::Count;
 use history::set::Entry;
 use history::set::MOST;
 use history::set::Shape;
@@ -181,7 +182,7 @@ fn in_order(
 pub fn of_queues(
     entries: [Entry; MOST],
     count: usize,
-    counters: &[u32],
+    counters: &[Count],
     energies: &[f64],
     work: &mut [f64],
 ) -> Range

@@ -1,4 +1,5 @@
 // The loudness range over a set of histories: over its histograms or over its queues, which may not be mixed.
+use histogram_bins::Count;
 use history::set::Entry;
 use history::set::MOST;
 use history::set::Shape;
@@ -43,7 +44,7 @@ fn queues_in(entries: [Entry; MOST], count: usize) -> usize
 pub fn loudness_range(
     entries: [Entry; MOST],
     count: usize,
-    counters: &[u32],
+    counters: &[Count],
     energies: &[f64],
     work: &mut [f64],
 ) -> Range

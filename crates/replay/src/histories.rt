@@ -1,4 +1,5 @@
 // The cases of histories: adds to a histogram, merges of two, adds to a queue.
+use histogram_bins::Count;
 use queue::Queue;
 use refusals::Answer;
 
@@ -6,11 +7,11 @@ use refusals::Answer;
 // 64 times u64 pattern of an energy, u16 its bin, u16 the count there afterwards; then u16 how many bins have a count.
 // An energy that is dropped has a bin past the last, with count 0.
 pub(crate) fn adds_same(case: &[u8]) -> bool {
-    let mut counters = [0u32; 1000];
+    let mut counters: [Count; 1000] = [0; 1000];
     all_added(case, &mut counters) && bins_hit(&counters) == fields::number_at(case, 768, 2)
 }
 
-fn all_added(case: &[u8], counters: &mut [u32]) -> bool {
+fn all_added(case: &[u8], counters: &mut [Count]) -> bool {
     let mut at = 0;
     while at < 768 {
         let energy = floats::float_of(fields::number_at(case, at, 8));
@@ -25,32 +26,32 @@ fn all_added(case: &[u8], counters: &mut [u32]) -> bool {
 }
 
 // Whether the energy is counted, and its bin has this count.
-fn added(counters: &mut [u32], energy: f64, bin: usize, count: u64) -> bool {
+fn added(counters: &mut [Count], energy: f64, bin: usize, count: u64) -> bool {
     let answer = histogram::add(counters, energy);
     codes::number_of(answer) == 0 && count_at(counters, bin) == count
 }
 
-fn widened(count: u32) -> u64 {
+fn widened(count: Count) -> u64 {
     count as u64
 }
 
 // A number that is no count stands for none.
-pub(crate) fn narrowed(number: u64) -> u32 {
+pub(crate) fn narrowed(number: u64) -> Count {
     if 4294967295 < number {
         return 0;
     }
-    number as u32
+    number as Count
 }
 
 // A bin past the last has no count.
-fn count_at(counters: &[u32], bin: usize) -> u64 {
+fn count_at(counters: &[Count], bin: usize) -> u64 {
     if bin < counters.len() {
         return widened(counters[bin]);
     }
     0
 }
 
-fn bins_hit(counters: &[u32]) -> u64 {
+fn bins_hit(counters: &[Count]) -> u64 {
     let mut hit = 0;
     let mut bin = 0;
     while bin < counters.len() {
@@ -67,14 +68,14 @@ fn bins_hit(counters: &[u32]) -> u64 {
 // ---- merges
 // u16 refusal (0: merged), u16 how many counters are added; then 16 times u16 bin, u32 its count in one histogram, in the other, and in the first afterwards.
 pub(crate) fn merge_same(case: &[u8]) -> bool {
-    let mut into = [0u32; 1000];
-    let mut from = [0u32; 1000];
+    let mut into: [Count; 1000] = [0; 1000];
+    let mut from: [Count; 1000] = [0; 1000];
     fill(case, false, &mut into);
     fill(case, true, &mut from);
     merged(case, &mut into, &from) && all_counted(case, &into)
 }
 
-fn merged(case: &[u8], into: &mut [u32], from: &[u32]) -> bool {
+fn merged(case: &[u8], into: &mut [Count], from: &[Count]) -> bool {
     let length = fields::number_at(case, 2, 2) as usize;
     if from.len() < length {
         return false;
@@ -84,7 +85,7 @@ fn merged(case: &[u8], into: &mut [u32], from: &[u32]) -> bool {
 }
 
 // Every bin of the case gets its count in the one histogram, or in the other.
-fn fill(case: &[u8], other: bool, counters: &mut [u32]) {
+fn fill(case: &[u8], other: bool, counters: &mut [Count]) {
     let mut at = 0;
     while at < 224 {
         let bin = fields::number_at(case, at + 4, 2) as usize;
@@ -98,13 +99,13 @@ fn fill(case: &[u8], other: bool, counters: &mut [u32]) {
     }
 }
 
-pub(crate) fn put(counters: &mut [u32], bin: usize, count: u32) {
+pub(crate) fn put(counters: &mut [Count], bin: usize, count: Count) {
     if bin < counters.len() {
         counters[bin] = count;
     }
 }
 
-fn all_counted(case: &[u8], counters: &[u32]) -> bool {
+fn all_counted(case: &[u8], counters: &[Count]) -> bool {
     let mut at = 0;
     while at < 224 {
         let bin = fields::number_at(case, at + 4, 2) as usize;

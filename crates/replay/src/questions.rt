@@ -6,13 +6,14 @@
 use gate::Gated;
 use gate::threshold::Threshold;
 use gated_energy::Energy;
+use histogram_bins::Count;
 use history::set::Entry;
 use history::set::Shape;
 use queue::Queue;
 use spans::Range;
 
 pub(crate) fn answers_same(case: &[u8]) -> bool {
-    let mut counters = [0u32; 1000];
+    let mut counters: [Count; 1000] = [0; 1000];
     let mut energies = [0.0; 24];
     fill_counters(case, &mut counters);
     fill_energies(case, &mut energies);
@@ -77,7 +78,7 @@ fn entries_of(case: &[u8]) -> [Entry; 16] {
     ]
 }
 
-fn fill_counters(case: &[u8], counters: &mut [u32]) {
+fn fill_counters(case: &[u8], counters: &mut [Count]) {
     let mut at = 42;
     while at < 90 {
         let count = crate::histories::narrowed(fields::number_at(case, at + 2, 4));
@@ -101,7 +102,7 @@ fn put(energies: &mut [f64], place: usize, energy: f64) {
     }
 }
 
-fn gate_same(case: &[u8], counters: &[u32], energies: &[f64]) -> bool {
+fn gate_same(case: &[u8], counters: &[Count], energies: &[f64]) -> bool {
     gated_same(
         case,
         gate::gate(entries_of(case), number_at(case, 0), counters, energies),
@@ -120,7 +121,7 @@ fn gated_same(case: &[u8], gated: Gated) -> bool {
     }
 }
 
-fn range_same(case: &[u8], counters: &[u32], energies: &[f64]) -> bool {
+fn range_same(case: &[u8], counters: &[Count], energies: &[f64]) -> bool {
     let mut work = [0.0; 24];
     let range = range::loudness_range(
         entries_of(case),
@@ -146,7 +147,7 @@ fn ranged_same(case: &[u8], range: Range) -> bool {
     }
 }
 
-fn energy_same(case: &[u8], counters: &[u32], energies: &[f64]) -> bool {
+fn energy_same(case: &[u8], counters: &[Count], energies: &[f64]) -> bool {
     let refusal = fields::number_at(case, 510, 2);
     let pattern = fields::number_at(case, 512, 8);
     let set = entries_of(case);
@@ -156,7 +157,7 @@ fn energy_same(case: &[u8], counters: &[u32], energies: &[f64]) -> bool {
     }
 }
 
-fn threshold_same(case: &[u8], counters: &[u32], energies: &[f64]) -> bool {
+fn threshold_same(case: &[u8], counters: &[Count], energies: &[f64]) -> bool {
     let code = fields::number_at(case, 520, 2);
     let pattern = fields::number_at(case, 522, 8);
     match gate::threshold::relative_threshold(entry_at(case, 2), counters, energies) {

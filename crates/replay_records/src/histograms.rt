@@ -1,20 +1,21 @@
 // The cases of kind 1: records read into counters, and counters written.
 // A histogram or a record is told by what is not 0 in it: 16 times u16 bin and u32 count, or 64 times u16 place and u8 byte.
 use crate::count_at;
+use histogram_bins::Count;
 
 // What stands in every counter and in every byte of an output before a call.
-const COUNTER: u32 = 0xA5A5_A5A5;
+const COUNTER: Count = 0xA5A5_A5A5;
 
 const BYTE: u8 = 0x5A;
 
 // ---- what a case tells
-fn put_counter(counters: &mut [u32], bin: usize, count: u64) {
+fn put_counter(counters: &mut [Count], bin: usize, count: u64) {
     if bin < counters.len() {
-        counters[bin] = (count % 4294967296) as u32;
+        counters[bin] = (count % 4294967296) as Count;
     }
 }
 
-fn fill_counters(case: &[u8], from: usize, counters: &mut [u32]) {
+fn fill_counters(case: &[u8], from: usize, counters: &mut [Count]) {
     if 4096 < from {
         return;
     }
@@ -54,7 +55,7 @@ pub(crate) fn read_same(case: &[u8]) -> bool {
 }
 
 // The bytes and counters that the case has.
-fn read_part(case: &[u8], bytes: &[u8], counters: &mut [u32]) -> bool {
+fn read_part(case: &[u8], bytes: &[u8], counters: &mut [Count]) -> bool {
     let length = count_at(case, 0);
     let places = count_at(case, 2);
     if bytes.len() < length {
@@ -66,20 +67,20 @@ fn read_part(case: &[u8], bytes: &[u8], counters: &mut [u32]) -> bool {
     counters_read(case, &bytes[..length], &mut counters[..places])
 }
 
-fn counters_read(case: &[u8], bytes: &[u8], counters: &mut [u32]) -> bool {
+fn counters_read(case: &[u8], bytes: &[u8], counters: &mut [Count]) -> bool {
     let answer = histogram_reader::read_histogram(bytes, counters);
     codes::number_of(answer) as u64 == fields::number_at(case, 4, 2)
         && counters_same(case, counters)
 }
 
-fn counters_same(case: &[u8], counters: &[u32]) -> bool {
-    let mut told = [0u32; 1000];
+fn counters_same(case: &[u8], counters: &[Count]) -> bool {
+    let mut told: [Count; 1000] = [0; 1000];
     fill_counters(case, 198, &mut told);
     all_counted(count_at(case, 4), &told, counters)
 }
 
 // A refusal leaves every counter as it was.
-fn counter_after(refusal: usize, told: &[u32], bin: usize) -> u32 {
+fn counter_after(refusal: usize, told: &[Count], bin: usize) -> Count {
     if 0 < refusal {
         return COUNTER;
     }
@@ -89,7 +90,7 @@ fn counter_after(refusal: usize, told: &[u32], bin: usize) -> u32 {
     0
 }
 
-fn all_counted(refusal: usize, told: &[u32], counters: &[u32]) -> bool {
+fn all_counted(refusal: usize, told: &[Count], counters: &[Count]) -> bool {
     let mut bin = 0;
     while bin < counters.len() {
         if counters[bin] != counter_after(refusal, told, bin) {
@@ -103,14 +104,14 @@ fn all_counted(refusal: usize, told: &[u32], counters: &[u32]) -> bool {
 // ---- writes
 // u16 places of the output, u16 counters of the store, u16 refusal, u16 bytes written; the counters; the bytes written.
 pub(crate) fn write_same(case: &[u8]) -> bool {
-    let mut counters = [0u32; 1001];
+    let mut counters: [Count; 1001] = [0; 1001];
     let mut out = [BYTE; 4096];
     fill_counters(case, 8, &mut counters);
     write_part(case, &counters, &mut out) && output_same(case, &out)
 }
 
 // The counters and places that the case has.
-fn write_part(case: &[u8], counters: &[u32], out: &mut [u8]) -> bool {
+fn write_part(case: &[u8], counters: &[Count], out: &mut [u8]) -> bool {
     let room = count_at(case, 0);
     let places = count_at(case, 2);
     if counters.len() < places {
@@ -122,7 +123,7 @@ fn write_part(case: &[u8], counters: &[u32], out: &mut [u8]) -> bool {
     record_written(case, &counters[..places], &mut out[..room])
 }
 
-fn record_written(case: &[u8], counters: &[u32], out: &mut [u8]) -> bool {
+fn record_written(case: &[u8], counters: &[Count], out: &mut [u8]) -> bool {
     let written = histogram_writer::write_histogram(counters, out);
     crate::written_same(case, 4, 6, written)
 }

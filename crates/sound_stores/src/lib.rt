@@ -1,4 +1,5 @@
 // What refuses a set of histories: after SET, which `history` asks, STORE, entry by entry. A store is sound where it suits its queue and holds no energy below boundary 0.
+use histogram_bins::Count;
 use history::set::Entry;
 use history::set::MOST;
 use history::set::Shape;
@@ -83,7 +84,7 @@ fn all_sound(entries: [Entry; MOST], count: usize, energies: &[f64]) -> bool
 }
 
 // The number of the first refusal that a set of histories gets, or 0.
-pub fn checked(entries: [Entry; MOST], count: usize, counters: &[u32], energies: &[f64]) -> u8
+pub fn checked(entries: [Entry; MOST], count: usize, counters: &[Count], energies: &[f64]) -> u8
     ensures { λ r. ⌜ r ≡ numberOf (setRows (histories entries count (now (counters .entry)) (now (energies .entry)))) ⌝ }
 {
     if history::set::outside_set(entries, count, counters, energies) {

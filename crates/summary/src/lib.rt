@@ -1,4 +1,5 @@
 // The figures of a report on one histogram's record: how many blocks, the bins of the range's two energies, and the range in tenths.
+use histogram_bins::Count;
 use history::set::Entry;
 use history::set::Shape;
 use refusals::Answer;
@@ -23,7 +24,7 @@ pub enum Summary {
     Refused(u8),
 }
 
-fn blocks_in(counters: &[u32]) -> u64
+fn blocks_in(counters: &[Count]) -> u64
     requires { ⌜ length (now counters) ≡ bins ⌝ }
     ensures { λ r. ⌜ r ≡ blocksIn (now (counters .entry)) ⌝ }
 {
@@ -43,7 +44,7 @@ fn between(low: usize, high: usize) -> usize
 }
 
 // The figures of a histogram, by the range's own question over it alone.
-fn figures(counters: &[u32]) -> Summary
+fn figures(counters: &[Count]) -> Summary
     requires { ⌜ length (now counters) ≡ bins ⌝ }
     ensures { λ r. ⌜ said r ≡ saidBy (figuresOf (now (counters .entry))) ⌝ }
 {
@@ -74,7 +75,7 @@ fn figures(counters: &[u32]) -> Summary
 pub fn of_record(bytes: &[u8]) -> Summary
     ensures { λ r. ⌜ said r ≡ saidBy (summaryOf (now (bytes .entry))) ⌝ }
 {
-    let mut counters = [0u32; histogram_bins::BINS];
+    let mut counters: [Count; histogram_bins::BINS] = [0; histogram_bins::BINS];
     match histogram_reader::read_histogram(bytes, &mut counters) {
         Answer::Done => figures(&counters),
         Answer::Refused(number) => Summary::Refused(number),
