@@ -13,7 +13,7 @@ use lib.Ieee.{Float, nan, inf, fin, Format, binary64, prec, low, up, down, round
 use lib.Ieee.Fits.{down-pos}
 use lib.Ieee.Exact.{HasValue}
 use lib.Ieee.Scale.{round-same}
-use Rattle.ranks.specs.Ranks.{lowRank, highRank, rankInFloats, lowShare, highShare, exactBelow, mostInHistograms, mostInQueues}
+use Rattle.ranks.specs.Ranks.{lowRank, highRank, rankInFloats, lowShare, highShare, exactBelow}
 use Rattle.ranks.proofs.Near.{Within, held, round-within}
 
 -- ---- an integer as a float, and a product, by the fraction that the float equals
@@ -135,10 +135,3 @@ low-rank-is-the-rust's n h =
 pub high-rank-is-the-rust's : (n : ℕ) → n < exactBelow → rankInFloats highShare n ≡ highRank n
 high-rank-is-the-rust's n h =
     rank-at highShare 4278419646001971 51 19 20 n (highRank n) high-share-is (lit< tt) (lit≤ tt) h (omega arith) (omega arith) (omega arith)
-
--- ---- every n that can arise
-pub histograms-below : mostInHistograms < exactBelow
-histograms-below = lit< tt
-
-pub queues-below : mostInQueues < exactBelow
-queues-below = lit< tt

@@ -24,10 +24,3 @@ highShare = round binary64 false 95 100
 -- below this n the floats give the whole-number ranks
 abbrev pub exactBelow : ℕ
 exactBelow = 2 ^ 46
-
--- how many blocks can arise: 16 histories, each a histogram of 1,000 counters up to 4,294,967,295, or a queue of up to 36,000 energies
-abbrev pub mostInHistograms : ℕ
-mostInHistograms = 16 * (1000 * 4_294_967_295)
-
-abbrev pub mostInQueues : ℕ
-mostInQueues = 16 * 36_000

@@ -31,10 +31,6 @@ fn added(counters: &mut [Count], energy: f64, bin: usize, count: u64) -> bool {
     codes::number_of(answer) == 0 && count_at(counters, bin) == count
 }
 
-fn widened(count: Count) -> u64 {
-    count as u64
-}
-
 // A number that is no count stands for none.
 pub(crate) fn narrowed(number: u64) -> Count {
     if 4294967295 < number {
@@ -46,7 +42,7 @@ pub(crate) fn narrowed(number: u64) -> Count {
 // A bin past the last has no count.
 fn count_at(counters: &[Count], bin: usize) -> u64 {
     if bin < counters.len() {
-        return widened(counters[bin]);
+        return histogram_bins::wide(counters[bin]);
     }
     0
 }
