@@ -15,7 +15,7 @@ use Rattle.layout.specs.Layout.{kindWidth, headWidth, histogramLength, orderOf,
 use Rattle.layout.proofs.Frames.{framed, passes}
 use Rattle.layout.proofs.Again.{record-body, record-passes, record-again, whole-read, whole-written}
 use Rattle.histogram_reader.specs.Record.{countWidth, countersIn, readHistogram}
-use Rattle.histogram_reader.proofs.Cases.{framed-length, read-went}
+use Rattle.histogram_reader.proofs.Cases.{framed-length, read-went, read-by-frame}
 use Rattle.histogram_writer.specs.Writing.{histogramRecord}
 use Rattle.histogram_writer.proofs.Cases.{body-length}
 
@@ -53,8 +53,7 @@ write-what-was-read bytes b e =
 
 -- ---- one reading: what the store held plays no part
 pub one-reading : (bytes store other : List ℕ) → length store ≡ bins → length other ≡ bins → readHistogram bytes store ≡ readHistogram bytes other
-unfolding readHistogram
-one-reading bytes store other s o = rw (eq-eqb (length store) bins s, eq-eqb (length other) bins o)
+one-reading bytes store other s o = read-by-frame bytes store s ∙ sym (read-by-frame bytes other o)
 
 -- records of the same bytes are of the same counters
 pub same-record : (a b : List ℕ) → length a ≡ bins → length b ≡ bins → Counting a → Counting b → histogramRecord a ≡ histogramRecord b → a ≡ b

@@ -5,11 +5,10 @@ use mathlib.Core.Bool.{Bool, true, false, cond}
 use mathlib.Core.List.{List, [], _∷_}
 use Prim.Native.Nat.{ℕ, _+_, _-_, _≤_}
 use native.Mathlib.Omega.{arith}
-use borrow.Author.Tests.{le-ltb, eq-eqb}
+use borrow.Author.Tests.{le-ltb}
 use lib.ListN.{length, length-replicate}
 use Rattle.refusals.specs.Outcome.{Outcome, went, refused, Question, answers, NoValues, done}
 use Rattle.refusals.specs.Rows.{Row, byRows}
-use Rattle.refusals.proofs.Rows.{rows-then}
 use Rattle.histogram_bins.specs.Bin.{bins, binOf}
 use Rattle.histogram.specs.Histogram.{empty, sums}
 use Rattle.history.specs.Set.{countersAt, anyOutside, allSound, allShow}
@@ -21,7 +20,8 @@ use Rattle.layout.specs.declared.Kind.the-variants.{Histogram}
 use Rattle.layout.specs.Layout.{orderOf, bodyIn, frameRows}
 use Rattle.refusals.proofs.Behind.{made-of}
 use Rattle.layout.proofs.Runs.{numbers-length}
-use Rattle.histogram_reader.specs.Record.{countWidth, countersIn, storeRows, readHistogram}
+use Rattle.histogram_reader.specs.Record.{countWidth, countersIn}
+use Rattle.histogram_reader.proofs.Cases.{read-by-frame}
 use Rattle.summary.specs.Summary.{Figures, ranged, rangeless, figuresBy, alone, figuresOf, figuresRead, summaryOf}
 use Rattle.summary.proofs.Rising.{Rising, counted-rises}
 
@@ -64,12 +64,11 @@ figuresFrom bytes = figuresIn (blocksIn (countersIn bytes)) (spanOf (countersIn 
 
 -- nothing but the record refuses the report
 pub summary-is : (bytes : List ℕ) → summaryOf bytes ≡ byRows (frameRows Histogram bytes) (answers (figuresFrom bytes))
-unfolding summaryOf readHistogram
+unfolding summaryOf
 summary-is bytes =
     let rows = frameRows Histogram bytes in
     let counters : Outcome (List ℕ) NoValues = went (countersIn bytes) done in
-    let stored : byRows (storeRows empty) counters ≡ counters = rw (eq-eqb (length empty) bins empty-length) in
-    ap figuresRead (rows-then counters rows (storeRows empty) ∙ ap (λ (o : Outcome (List ℕ) NoValues). byRows rows o) stored)
+    ap figuresRead (read-by-frame bytes empty empty-length)
     ∙ made-of figuresRead (λ r. refl) rows counters
     ∙ ap (λ (o : Question Figures). byRows rows o) (figures-alone (countersIn bytes) (counters-length bytes))
 
