@@ -1,10 +1,13 @@
 -- Demand 1 at the C interface, proved: a code other than 0 is the number that is said, so that what refuses the operation refuses the function. Assumes nothing.
 use mathlib.Core.Path.{_≡_, refl, sym, ap, _∙_}
+use mathlib.Core.Bool.{_&&_, cond}
 use mathlib.Core.List.{List, _∷_}
 use Prim.Native.Nat.{ℕ}
+use lib.Dec.{ltb}
+use lib.ListN.{length}
 use lib.Ieee.{Float}
 use Rattle.refusals.specs.Refusal.{number}
-use Rattle.refusals.specs.Outcome.{Outcome, went, refused, Said, says, refusal, saidBy, keptBy, done}
+use Rattle.refusals.specs.Outcome.{Outcome, Question, went, refused, Said, says, refusal, saidBy, keptBy}
 use Rattle.refusals.specs.Rows.{Row, FirstIs, RefusedBy}
 use Rattle.refusals.proofs.Rows.{refused-by}
 use Rattle.bin_search.specs.Reading.{readingRows, readingOf}
@@ -22,11 +25,19 @@ use Rattle.histogram_reader.specs.Record.{readHistogramRows, readHistogram}
 use Rattle.histogram_writer.specs.Writing.{writeHistogramRows, writeHistogram}
 use Rattle.queue_reader.specs.QueueRecord.{readQueueRows, readQueue}
 use Rattle.queue_writer.specs.Writing.{writeQueueRows, writeQueue}
+use Rattle.samples.specs.Frames.{framesOf}
+use Rattle.frames.specs.Places.{sampleAt}
+use Rattle.calls.specs.Calls.{frameRows}
+use Rattle.filter.specs.Process.{processRows, processed}
+use Rattle.filter.specs.Seed.{seedRows, seeded}
+use Rattle.interleaved_frames.specs.Shown.{Place, at, pastTheEnd, framesIn, sampleIn}
 use Rattle.codes.specs.Codes.{code, valueOr}
 use Rattle.entries.specs.Sets.{entryAt, setOf, uneven, asked, notOne, askedAlone}
 use Rattle.exports_range.specs.Spans.{rangeAsked, spanCode, lowOr, highOr}
+use Rattle.exports_interleaved.specs.Part.{placeCode, sampleElse}
 use Rattle.acceptance_refusals.proofs.Table.{demand-1}
 use Rattle.acceptance_records.proofs.Records.{record-calls}
+use Rattle.acceptance_signals.proofs.Signals.{signal-calls}
 use Rattle.acceptance_interface.specs.Interface.{Tells, Interface}
 
 number-said : {Values : Type 0} → Said Values → ℕ
@@ -84,6 +95,10 @@ module _ (numbers counters : List ℕ) (energies : List Float) where
       let rows = uneven numbers ∷ rangeRows set work in
       tells rows (rangeAsked numbers counters energies work) (refused-by rows (workAfter work (historiesOf set)) (spanOver (historiesOf set)))
 
+refused-place : (call : Question Place) → (code call ≡ 0 → ⊥) → (placeCode call ≡ code call) × ((old : Float) → sampleElse old call ≡ old)
+refused-place (went kept place) p = absurd (p refl)
+refused-place (refused r) p = (refl, λ old. refl)
+
 pub interface : Interface
 interface = record {
   reading = λ x. tells (readingRows x) (readingOf x) (demand-1 .reading x);
@@ -100,4 +115,13 @@ interface = record {
   histogramWrite = λ counters out. tells (writeHistogramRows counters out) (writeHistogram counters out) (record-calls .histogramWritten counters out);
   queueRead = λ bytes store. tells (readQueueRows bytes store) (readQueue bytes store) (record-calls .queueRead bytes store);
   queueWrite = λ s out. tells (writeQueueRows s out) (writeQueue s out) (record-calls .queueWritten s out);
+  process = λ call. tells (processRows call) (processed call) (signal-calls .process call);
+  seed = λ call. tells (seedRows call) (seeded call) (signal-calls .seed call);
+  frames = λ channels samples. tells (frameRows channels samples) (framesIn channels samples) (refused-by (frameRows channels samples) tt (framesOf channels samples));
+  sample =
+      λ channels samples channel frame.
+      let rows = frameRows channels (length samples) in
+      let place = cond (ltb channel channels && ltb frame (framesOf channels (length samples))) (at (sampleAt channels samples channel frame)) pastTheEnd in
+      tells rows (sampleIn channels samples channel frame) (refused-by rows tt place);
+  places = refused-place;
 }

@@ -1,11 +1,12 @@
 -- Demand 1 at the C interface: a function's result is 0, or n exactly when row n of its operation holds and no earlier one does; and then every value behind a pointer,
--- and all that was lent, is as given. A contract of the `exports_` crates says that the result is `code` of an outcome (a range's `spanCode`); here
+-- and all that was lent, is as given. A contract of the `exports_` crates says that the result is `code` of an outcome (a range's `spanCode`, a sample's `placeCode`); here
 -- these outcomes stand with their rows. proofs/Interface.antt proves `Interface`.
 use Prim.Native.Nat.{ℕ}
 use mathlib.Core.Path.{_≡_}
 use mathlib.Core.List.{List, _∷_}
+use lib.ListN.{length}
 use lib.Ieee.{Float}
-use Rattle.refusals.specs.Outcome.{Outcome, keptBy}
+use Rattle.refusals.specs.Outcome.{Outcome, Question, keptBy}
 use Rattle.refusals.specs.Rows.{Row, FirstIs}
 use Rattle.bin_search.specs.Reading.{readingRows, readingOf}
 use Rattle.histogram.specs.Histogram.{addRows, addTo, resetRows, cleared}
@@ -20,9 +21,15 @@ use Rattle.histogram_reader.specs.Record.{readHistogramRows, readHistogram}
 use Rattle.histogram_writer.specs.Writing.{writeHistogramRows, writeHistogram}
 use Rattle.queue_reader.specs.QueueRecord.{readQueueRows, readQueue}
 use Rattle.queue_writer.specs.Writing.{writeQueueRows, writeQueue}
+use Rattle.calls.specs.Calls.{frameRows}
+use Rattle.filter.specs.Call.{Call}
+use Rattle.filter.specs.Process.{processRows, processed}
+use Rattle.filter.specs.Seed.{seedRows, seeded}
+use Rattle.interleaved_frames.specs.Shown.{Place, framesIn, sampleIn}
 use Rattle.codes.specs.Codes.{code, valueOr}
 use Rattle.entries.specs.Sets.{entryAt, setOf, uneven, asked, notOne, askedAlone}
 use Rattle.exports_range.specs.Spans.{rangeAsked, spanCode, lowOr, highOr}
+use Rattle.exports_interleaved.specs.Part.{placeCode, sampleElse}
 
 pub record Tells {Kept Values : Type 0} (rows : List Row) (call : Outcome Kept Values) : Type 0 where
   -- the result is n, other than 0, exactly when row n holds and no earlier row does
@@ -53,3 +60,10 @@ pub record Interface : Type 0 where
   pub histogramWrite : (counters out : List ℕ) → Tells (writeHistogramRows counters out) (writeHistogram counters out)
   pub queueRead : (bytes : List ℕ) (store : List Float) → Tells (readQueueRows bytes store) (readQueue bytes store)
   pub queueWrite : (s : Stored) (out : List ℕ) → Tells (writeQueueRows s out) (writeQueue s out)
+  -- the filter's calls, of either kind of samples
+  pub process : (call : Call) → Tells (processRows call) (processed call)
+  pub seed : (call : Call) → Tells (seedRows call) (seeded call)
+  -- frames and samples of a part of interleaved samples; past the end a sample's result is 130, which is no refusal, and its value as given
+  pub frames : (channels samples : ℕ) → Tells (frameRows channels samples) (framesIn channels samples)
+  pub sample : (channels : ℕ) (samples : List Float) (channel frame : ℕ) → Tells (frameRows channels (length samples)) (sampleIn channels samples channel frame)
+  pub places : (call : Question Place) → (code call ≡ 0 → ⊥) → (placeCode call ≡ code call) × ((old : Float) → sampleElse old call ≡ old)
