@@ -3,11 +3,11 @@ use Rattle.refusals.specs.Answer.{said}
 use Rattle.refusals.specs.Outcome.{done}
 use Rattle.refusals.specs.Rows.{RefusedBy}
 use Rattle.refusals.proofs.Rows.{refused-by}
-use Rattle.filter.specs.Call.{Call, Kept}
+use Rattle.filter.specs.Call.{Call, Kept, given}
 use Rattle.filter.specs.Process.{processRows, processed}
 use Rattle.filter.specs.Seed.{seedRows, seeded}
 use Rattle.true_peak_state.specs.declared.TruePeak.{TruePeak}
-use Rattle.true_peak.specs.TruePeak.{peakRows}
+use Rattle.true_peak.specs.TruePeak.{peakRows, processed as peakProcessed, seeded as peakSeeded}
 use Rattle.acceptance_outcomes.proofs.Fixed.{fixes, answer-back, answer-there}
 use Rattle.acceptance_signals.specs.Signals.{SignalCalls}
 
@@ -25,6 +25,8 @@ signal-calls = record {
   seed = seeds;
   truePeak = λ rate block t. refused-by (peakRows block) _ done;
   seedTruePeak = λ rate block t. refused-by (peakRows block) _ done;
-  fixed = fixes Kept said answer-back answer-there;
-  fixedTruePeak = fixes TruePeak said answer-back answer-there;
+  fixedProcess = λ call. fixes Kept said answer-back answer-there (given call) (processed call);
+  fixedSeed = λ call. fixes Kept said answer-back answer-there (given call) (seeded call);
+  fixedTruePeak = λ rate block t. fixes TruePeak said answer-back answer-there t (peakProcessed rate block t);
+  fixedSeedTruePeak = λ rate block t. fixes TruePeak said answer-back answer-there t (peakSeeded rate block t);
 }
