@@ -1,5 +1,5 @@
 -- Demand 1 at the C interface, proved: a code other than 0 is the number that is said, so that what refuses the operation refuses the function. Assumes nothing.
-use mathlib.Core.Path.{_≡_, refl, sym, ap, _∙_}
+use mathlib.Core.Path.{_≡_, refl, sym, ap}
 use mathlib.Core.Bool.{_&&_, cond}
 use mathlib.Core.List.{List, _∷_}
 use Prim.Native.Nat.{ℕ}
@@ -8,7 +8,7 @@ use lib.ListN.{length}
 use lib.Ieee.{Float}
 use Rattle.refusals.specs.Refusal.{number}
 use Rattle.refusals.specs.Outcome.{Outcome, Question, went, refused, Said, says, refusal, saidBy, keptBy}
-use Rattle.refusals.specs.Rows.{Row, FirstIs, RefusedBy}
+use Rattle.refusals.specs.Rows.{Row, RefusedBy}
 use Rattle.refusals.proofs.Rows.{refused-by}
 use Rattle.bin_search.specs.Reading.{readingRows, readingOf}
 use Rattle.histogram.specs.Histogram.{addRows, addTo, resetRows, cleared}

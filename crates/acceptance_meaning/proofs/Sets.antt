@@ -11,14 +11,14 @@ use lib.ListN.{length, drop, length-take, length-drop}
 use lib.IntN.{pos}
 use lib.Ieee.{Float, binary64, mul, ofInt}
 use Rattle.refusals.specs.Outcome.{answers}
-use Rattle.refusals.specs.Rows.{Row, byRows, numberOf}
+use Rattle.refusals.specs.Rows.{Row, numberOf}
 use Rattle.refusals.proofs.Behind.{goes-on}
 use Rattle.tables.specs.Tables.{energyAt}
 use Rattle.histogram_bins.specs.Bin.{bins}
 use Rattle.history.specs.declared.set.Entry.{Entry}
 use Rattle.history.specs.declared.set.Shape.{Shape}
 use Rattle.history.specs.declared.set.Shape.the-variants.{Histogram, Queue as Queue-at}
-use Rattle.history.specs.Set.{History, counted, listed, Histories, chosen, shapeShows, allShow, historiesOf, isOutside, anyOutside, countersAt, setRows}
+use Rattle.history.specs.Set.{History, counted, listed, Histories, chosen, shapeShows, allShow, historiesOf, isOutside, anyOutside, setRows}
 use Rattle.history.proofs.Rows.{kept}
 use Rattle.history.proofs.Entries.{counters-inside}
 use Rattle.gate.specs.declared.blocks.Totals.{Totals}
@@ -27,8 +27,7 @@ use Rattle.gate.specs.Start.{startBin}
 use Rattle.gate.specs.Sums.{totalsOf, allTotals, allOf}
 use Rattle.gate.specs.Relative.{tenth, thresholdOf}
 use Rattle.gate.specs.Kept.{keptFrom}
-use Rattle.gate.specs.Gate.{gatedOf, allGated, leftOf, gatingRows, gateOver, gateOf}
-use Rattle.acceptance_meaning.specs.Levels.{noEnergy}
+use Rattle.gate.specs.Gate.{gatedOf, allGated, leftOf, gatingRows, gateOf}
 use Rattle.acceptance_meaning.specs.Bs1770.{
   equalsKept,
   more,

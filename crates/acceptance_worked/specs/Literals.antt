@@ -17,7 +17,6 @@ use Rattle.spans.specs.Span.{hundredth}
 use Rattle.samples.specs.Sample.{sampleOf16}
 use Rattle.calls.specs.Calls.{wrongChannels, admits, used}
 use Rattle.recurrence.specs.Recurrence.{flush}
-use Rattle.interp.specs.declared.Interp.{Interp}
 use Rattle.interp.specs.Interp.{Kind, upsampled, noTruePeak, kindOf}
 use Rattle.layout.specs.declared.Kind.the-variants.{Histogram, Queue}
 use Rattle.layout.specs.Layout.{kindNumber, canBe}

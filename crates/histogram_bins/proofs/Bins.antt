@@ -8,18 +8,11 @@ use Prim.Native.Nat.{ℕ, zero, suc, _+_, _≤_, _<_}
 use native.Mathlib.Nat.{le-of-suc-le-suc, not-suc-le-zero, eq-or-lt-of-le, lt-suc-self}
 use native.Mathlib.Omega.{arith}
 use lib.Dec.{T}
-use lib.Ieee.{Float, nan, inf, le, lt}
-use Rattle.floats.proofs.Order.{is-true, is-false, float-le-trans, lt→le, lt-not-le, le-nan, le-infinity}
+use lib.Ieee.{Float, nan, le, lt}
+use Rattle.floats.proofs.Order.{is-true, is-false, float-le-trans, lt→le, lt-not-le, le-nan}
 use Rattle.tables.specs.Tables.{boundaryAt, energyAt}
 use Rattle.histogram_bins.specs.Bin.{lastNotAbove, binOf}
-use Rattle.tables.proofs.Rules.{
-  boundaries-rise,
-  boundaries-strict,
-  same-boundary,
-  boundary-positive,
-  boundary-below-energy,
-  energy-below-next,
-}
+use Rattle.tables.proofs.Rules.{boundaries-rise, boundary-below-energy, energy-below-next}
 
 -- r is the last of the first n bins whose boundary is not above x, or 0
 pub last-is : (x : Float) (n r : ℕ) → r < n → (r ≡ 0) ⊎ (le (boundaryAt r) x ≡ true)
@@ -89,17 +82,9 @@ pub bin-between : (x : Float) (i : ℕ) → i < 1000 → T (le (boundaryAt i) x)
 bin-between x i h p q =
     bin-is x i h p (λ k a b. later-above x (1 + i) k (omega arith) (omega arith) (lt-not-le x (boundaryAt (1 + i)) q))
 
-pub bin-of-boundary : (i : ℕ) → i < 1000 → binOf (boundaryAt i) ≡ i
-bin-of-boundary i h = bin-is (boundaryAt i) i h (same-boundary i (omega arith)) (λ k a b. boundaries-strict i k a (omega arith))
-
 pub bin-of-energy : (i : ℕ) → i < 1000 → binOf (energyAt i) ≡ i
 bin-of-energy i h = bin-between (energyAt i) i h (lt→le (boundaryAt i) (energyAt i) (boundary-below-energy i h)) (energy-below-next i h)
 
 pub bin-of-nan : binOf nan ≡ 0
 unfolding binOf
 bin-of-nan = last-is nan 1000 0 (omega arith) (inl refl) (λ k a b. le-nan (boundaryAt k))
-
-pub bin-of-infinity : binOf (inf false) ≡ 999
-bin-of-infinity =
-    bin-is (inf false) 999 (omega arith) (subst T (sym (le-infinity (boundaryAt 999) (boundary-positive 999 (omega arith)))) tt)
-    (λ k a b. absurd (omega arith))

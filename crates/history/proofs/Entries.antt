@@ -15,7 +15,6 @@ use lib.Ieee.{Float}
 use Rattle.histogram_bins.specs.Bin.{bins}
 use Rattle.queue.specs.declared.Queue.{Queue}
 use Rattle.history.specs.declared.set.Entry.{Entry}
-use Rattle.history.specs.declared.set.Shape.{Shape}
 use Rattle.history.specs.declared.set.Shape.the-variants.{Histogram, Queue as Queue-at}
 use Rattle.histogram_bins.specs.Energy.{dropped}
 use Rattle.queue.specs.Queue.{suits, heldOf}

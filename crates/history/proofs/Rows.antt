@@ -1,5 +1,5 @@
 -- What refuses a set of histories, by its tests, and what a set that no row refuses keeps: few entries, none outside, every store sound. Assumes nothing.
-use mathlib.Core.Path.{_≡_, refl, sym}
+use mathlib.Core.Path.{_≡_, refl}
 use mathlib.Core.Bool.{Bool, true, false, not, _||_, true≢false}
 use Prim.Native.Nat.{_≤_, _<_}
 use borrow.Author.Tests.{lt-ltb, le-ltb, ltb-false}

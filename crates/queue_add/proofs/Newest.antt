@@ -13,14 +13,12 @@ use lib.Dec.{ltb}
 use lib.ListN.{length, drop, set, length-set}
 use lib.Seq.{getD-set-same, getD-set-other}
 use lib.Ieee.{Float, nan}
-use Rattle.refusals.specs.Outcome.{keptBy}
-use Rattle.histogram_bins.specs.Energy.{dropped}
 use Rattle.queue.specs.declared.Queue.{Queue}
-use Rattle.queue.specs.Queue.{over, suits, heldFrom, heldOf}
+use Rattle.queue.specs.Queue.{over, heldFrom, heldOf}
 use Rattle.queue.proofs.Ring.{Suited}
 use Rattle.queue.proofs.Held.{less-or-not, held-count, same-place, held-append}
-use Rattle.queue_add.specs.Adding.{nextPlace, advanced, withNewest, enqueued}
-use Rattle.queue_add.proofs.Adding.{advance-more, advance-full, enqueue-went}
+use Rattle.queue_add.specs.Adding.{nextPlace, advanced, withNewest}
+use Rattle.queue_add.proofs.Adding.{advance-more, advance-full}
 
 -- places on a ring of m
 -- below two turns, a place is itself, or itself less one turn
@@ -129,7 +127,3 @@ module _ (queue : Queue) (store : List Float) (fit : Suited queue (length store)
       rest : (b : Bool) → ltb (length (heldOf (over queue store))) (queue .maximum) ≡ b
           → withNewest (queue .maximum) (heldOf (over queue store)) energy ≡ cond b (heldOf (over queue store)) (drop 1 (heldOf (over queue store))) ++ (energy ∷ [])
       rest b e = ap (λ (t : Bool). cond t (heldOf (over queue store)) (drop 1 (heldOf (over queue store))) ++ (energy ∷ [])) e
-
-  pub held-added : dropped energy ≡ false → suits queue (length store) ≡ true
-      → heldOf (keptBy (over queue store) (enqueued (over queue store) energy)) ≡ withNewest (queue .maximum) (heldOf (over queue store)) energy
-  held-added d h = rw (enqueue-went queue store energy h d) held-after

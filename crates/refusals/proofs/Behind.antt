@@ -1,6 +1,6 @@
 -- What stands behind the rows of an operation: it is all that counts where no row holds, and what passes refusals on as they are says of the operation what it says of
 -- the outcome behind its rows. Assumes nothing.
-use mathlib.Core.Path.{_≡_, refl, sym, ap, _∙_}
+use mathlib.Core.Path.{_≡_, refl, sym, _∙_}
 use mathlib.Core.Bool.{Bool, true, false, cond}
 use mathlib.Core.List.{List, [], _∷_, _++_}
 use Prim.Native.Nat.{ℕ}

@@ -12,7 +12,7 @@ use lib.IntN.{ℤ}
 use lib.ListN.{length, getD, take, drop, length-drop, length-map, drop-of-length-le}
 use lib.Seq.{sets, take-all}
 use lib.Ieee.{Float}
-use Rattle.samples.specs.Sample.{sampleOf16, sampleOfF32, samplesOf16, samplesOfF32}
+use Rattle.samples.specs.Sample.{sampleOf16, sampleOfF32}
 use Rattle.samples.proofs.Columns.{entry-of}
 use Rattle.sources.specs.Source.{sourceOf}
 
@@ -61,14 +61,3 @@ module _ {A : Type 0} (f : A → Float) (l : List A) {src : List Float} (e : src
 
   pub entry-is : (d : A) (x : Float) → getD src i x ≡ f (getD l i d)
   entry-is d x = ap (λ (s : List Float). getD s i x) e ∙ entry-of f l i d x among
-
--- ---- samples of one kind alone
-
-pub only-ints : (ints : List ℤ) → sourceOf ints [] ≡ samplesOf16 ints
-unfolding sourceOf
-only-ints [] = refl
-only-ints (x ∷ l) = rw (ne-eqb (suc (length l)) 0 (λ e. omega arith))
-
-pub only-floats : (floats : List Float) → sourceOf [] floats ≡ samplesOfF32 floats
-unfolding sourceOf
-only-floats floats = refl

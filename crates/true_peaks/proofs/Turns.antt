@@ -5,13 +5,13 @@ use native.Mathlib.Nat.{mul-mod-left, add-mul, zero-div, zero-mul, div-add-mod',
 use native.Mathlib.Omega.{arith}
 use mathlib.Core.Path.{_≡_, refl, sym, ap, subst, _∙_}
 use mathlib.Core.Logic.{inl, inr, ⊎-elim}
-use mathlib.Core.List.{List, [], _∷_, _++_, map}
+use mathlib.Core.List.{List, [], _++_, map}
 use lib.IntN.{ℤ}
 use lib.ListN.{length, getD, length-map, take, drop, length-drop, take-append-drop, drop-of-length-le}
 use lib.Seq.{sets, length-sets, length-take-le, drop-drop, ext-getD, getD-take}
 use lib.Ieee.{Float, nan}
 use Rattle.refusals.specs.Outcome.{keptBy, went, done}
-use Rattle.samples.specs.Sample.{sampleOf16, samplesOf16, samplesOfF32}
+use Rattle.samples.specs.Sample.{sampleOf16, samplesOf16}
 use Rattle.samples.specs.Frames.{column}
 use Rattle.refusals.specs.Rows.{numberOf}
 use Rattle.refusals.proofs.Rows.{goes}
@@ -103,12 +103,6 @@ some-runs channels h few =
   where
     big : 0 < channels → 0 < 128 * channels
     big h = omega arith
-
--- ---- floats as they stand
-
-pub as-they-stand : (l : List Float) → samplesOfF32 l ≡ l
-as-they-stand [] = refl
-as-they-stand (x ∷ l) = ap (λ (t : List Float). x ∷ t) (as-they-stand l)
 
 -- ---- a block: its first places hold the samples, and a call that passes goes
 

@@ -14,7 +14,8 @@ use Rattle.sources.specs.Source.{sourceOf}
 use Rattle.sources.proofs.ByKind.{source-floats, source-ints}
 use Rattle.interp.specs.Interp.{kindOf}
 use Rattle.true_peak_state.specs.TruePeak.{measured}
-use Rattle.true_peaks.proofs.Turns.{as-they-stand, went-on}
+use Rattle.samples.proofs.ByKind.{as-they-stand}
+use Rattle.true_peaks.proofs.Turns.{went-on}
 use Rattle.true_peaks.proofs.hear.Statement.{statement}
 use Rattle.true_peaks.proofs.hear.Tie as tie
 

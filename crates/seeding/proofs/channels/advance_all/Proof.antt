@@ -1,12 +1,9 @@
 -- `seeding::advance_all` meets its contract: the state is that after the frames done, and the flush comes last. Assumes nothing.
 use borrow.Author.Needs.{needs}
 use Prim.Native.Nat.{ℕ, _-_, _≤_}
-use native.Mathlib.Nat.{le-of-eq}
 use native.Mathlib.Omega.{arith}
 use mathlib.Core.Path.{_≡_, refl, sym, ap, _∙_}
-use mathlib.Core.List.{List}
 use lib.ListN.{length}
-use lib.Ieee.{Float}
 use Rattle.samples.specs.Frames.{column}
 use Rattle.sources.specs.Blocks.{runPlaces}
 use Rattle.sources.specs.Source.{sourceOf}

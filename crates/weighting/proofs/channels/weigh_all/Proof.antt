@@ -1,11 +1,9 @@
 -- `weighting::weigh_all` meets its contract: the channels left, from the state and the destination as they are, give what all of them give, and the flush comes last. Assumes nothing.
 use borrow.Author.Needs.{needs}
-use Prim.Native.Nat.{ℕ, _-_, _≤_, _<_}
+use Prim.Native.Nat.{ℕ, _-_, _≤_}
 use native.Mathlib.Omega.{arith}
 use mathlib.Core.Path.{_≡_, refl, sym, ap, _∙_}
-use mathlib.Core.List.{List}
 use lib.ListN.{length, drop}
-use lib.Ieee.{Float}
 use Rattle.sources.specs.Source.{sourceOf}
 use Rattle.recurrence.specs.Recurrence.{flushed}
 use Rattle.states.specs.Channels.{statePlaces, eachUsed, overUsed}
