@@ -1,9 +1,7 @@
 -- Demand 1 at the C interface, proved: a code other than 0 is the number that is said, so that what refuses the operation refuses the function. Assumes nothing.
 use mathlib.Core.Path.{_≡_, refl, sym, ap}
-use mathlib.Core.Bool.{_&&_, cond}
 use mathlib.Core.List.{List, _∷_}
 use Prim.Native.Nat.{ℕ}
-use lib.Dec.{ltb}
 use lib.ListN.{length}
 use lib.Ieee.{Float}
 use Rattle.refusals.specs.Refusal.{number}
@@ -25,12 +23,10 @@ use Rattle.histogram_reader.specs.Record.{readHistogramRows, readHistogram}
 use Rattle.histogram_writer.specs.Writing.{writeHistogramRows, writeHistogram}
 use Rattle.queue_reader.specs.QueueRecord.{readQueueRows, readQueue}
 use Rattle.queue_writer.specs.Writing.{writeQueueRows, writeQueue}
-use Rattle.samples.specs.Frames.{framesOf}
-use Rattle.frames.specs.Places.{sampleAt}
 use Rattle.calls.specs.Calls.{frameRows}
 use Rattle.filter.specs.Process.{processRows, processed}
 use Rattle.filter.specs.Seed.{seedRows, seeded}
-use Rattle.interleaved_frames.specs.Shown.{Place, at, pastTheEnd, framesIn, sampleIn}
+use Rattle.interleaved_frames.specs.Shown.{Place, framesIn, sampleIn}
 use Rattle.codes.specs.Codes.{code, valueOr}
 use Rattle.entries.specs.Sets.{entryAt, setOf, uneven, asked, notOne, askedAlone}
 use Rattle.exports_range.specs.Spans.{rangeAsked, spanCode, lowOr, highOr}
@@ -117,11 +113,9 @@ interface = record {
   queueWrite = λ s out. tells (writeQueueRows s out) (writeQueue s out) (record-calls .queueWritten s out);
   process = λ call. tells (processRows call) (processed call) (signal-calls .process call);
   seed = λ call. tells (seedRows call) (seeded call) (signal-calls .seed call);
-  frames = λ channels samples. tells (frameRows channels samples) (framesIn channels samples) (refused-by (frameRows channels samples) tt (framesOf channels samples));
+  frames = λ channels samples. tells (frameRows channels samples) (framesIn channels samples) (signal-calls .frames channels samples);
   sample =
       λ channels samples channel frame.
-      let rows = frameRows channels (length samples) in
-      let place = cond (ltb channel channels && ltb frame (framesOf channels (length samples))) (at (sampleAt channels samples channel frame)) pastTheEnd in
-      tells rows (sampleIn channels samples channel frame) (refused-by rows tt place);
+      tells (frameRows channels (length samples)) (sampleIn channels samples channel frame) (signal-calls .sample channels samples channel frame);
   places = refused-place;
 }
