@@ -16,9 +16,9 @@ use lib.Ieee.Positive.{above}
 use Rattle.floats.specs.Entry.{at}
 use Rattle.rising_order.specs.Arrangement.{Reordered, unmoved, after, All, Above, Ordered, exchanged}
 use Rattle.heap_order.specs.Inner.{Child, Larger, HeapFrom, Heaped}
-use Rattle.rising_order.proofs.Perms.{perm-length, front-perm, exchange-perm, all-perm, all-at, all-of, all-take}
+use Rattle.rising_order.proofs.Perms.{perm-length, front-perm, all-perm, all-at, all-of, all-take}
 use Rattle.rising_order.proofs.Energies.{same-at-most, not-below, not-at-most}
-use Rattle.rising_order.proofs.Places.{le-by, same-or-other, exchanged-length, exchanged-first, exchanged-second, exchanged-other, front-at, back-at, rising-of}
+use Rattle.rising_order.proofs.Places.{le-by, same-or-other, exchanged-length, Exchange, exchange-is, front-at, back-at, rising-of}
 
 -- ---- of two children the one that is not below the other
 module _ (l : List Float) (a : Above l) (p : ℕ) (inside : 2 * p + 1 < length l) where
@@ -118,56 +118,43 @@ module _ {from place : ℕ} {old new : List Float} (s : Sinking from place old n
     place-inside : place < length new
     place-inside = omega arith
 
-    at-place : at moved place ≡ at new child
+    swap : Exchange new place child moved
     unfolding moved
-    at-place = exchanged-first new place child place-inside
-
-    at-child : at moved child ≡ at new place
-    unfolding moved
-    at-child = exchanged-second new place child inside
-
-    at-other : (k : ℕ) → (k ≡ place → ⊥) → (k ≡ child → ⊥) → at moved k ≡ at new k
-    unfolding moved
-    at-other = exchanged-other new place child
-
-    moved-length : length moved ≡ length new
-    unfolding moved
-    moved-length = exchanged-length new place child
+    swap = exchange-is new place child place-inside inside refl
 
     -- the larger child is now the parent: the other child is not above it, and it is not above the parent of the place
     under-place : T (le (at new place) (at new child)) → (k : ℕ) → Child place k → k < length new → (k ≡ child) ⊎ (k ≡ child → ⊥)
         → T (le (at moved k) (at new child))
-    under-place h k d g (inl e) = le-by (ap (at moved) e ∙ at-child) refl h
-    under-place h k d g (inr n) = le-by (at-other k (λ q. omega arith) n) refl (largest k d g)
+    under-place h k d g (inl e) = le-by (ap (at moved) e ∙ swap .second) refl h
+    under-place h k d g (inr n) = le-by (swap .other k (λ q. omega arith) n) refl (largest k d g)
 
     elsewhere : (p k : ℕ) → from ≤ p → (p ≡ place → ⊥) → (p ≡ child → ⊥) → Child p k → k < length new
         → (k ≡ place) ⊎ (k ≡ place → ⊥) → T (le (at moved k) (at moved p))
     elsewhere p k f n m d g (inl e) =
-        le-by (ap (at moved) e ∙ at-place) (at-other p n m) (s .over p child f (subst (λ (r : ℕ). Child p r) e d) c inside)
-    elsewhere p k f n m d g (inr o) = le-by (at-other k o (λ e. n (omega arith))) (at-other p n m) (s .heap p k f n d g)
+        le-by (ap (at moved) e ∙ swap .first) (swap .other p n m) (s .over p child f (subst (λ (r : ℕ). Child p r) e d) c inside)
+    elsewhere p k f n m d g (inr o) = le-by (swap .other k o (λ e. n (omega arith))) (swap .other p n m) (s .heap p k f n d g)
 
     kept : T (le (at new place) (at new child)) → (p k : ℕ) → from ≤ p → (p ≡ child → ⊥) → Child p k → k < length new
         → (p ≡ place) ⊎ (p ≡ place → ⊥) → T (le (at moved k) (at moved p))
-    kept h p k f m d g (inl e) = le-by refl (ap (at moved) e ∙ at-place) (under-place h k (subst (λ (r : ℕ). Child r k) e d) g (same-or-other k child))
+    kept h p k f m d g (inl e) = le-by refl (ap (at moved) e ∙ swap .first) (under-place h k (subst (λ (r : ℕ). Child r k) e d) g (same-or-other k child))
     kept h p k f m d g (inr n) = elsewhere p k f n m d g (same-or-other k place)
 
     grand : (p k : ℕ) → Child p child → Child child k → k < length new → T (le (at moved k) (at moved p))
     grand p k d b g =
         let e : p ≡ place = omega arith in
-        le-by (at-other k (λ q. omega arith) (λ q. omega arith)) (ap (at moved) e ∙ at-place)
+        le-by (swap .other k (λ q. omega arith) (λ q. omega arith)) (ap (at moved) e ∙ swap .first)
         (s .heap child k (omega (arith, s .reach)) (λ q. omega arith) b g)
 
     pub sink-on : le (at new child) (at new place) ≡ false → Sinking from child old (exchanged new place child)
     unfolding moved
     sink-on e =
         let over : T (le (at new place) (at new child)) = not-at-most (at new child) (at new place) (fine child inside) (fine place place-inside) e in
-        let turn : Reordered new (exchanged new place child) = exchange-perm new place child place-inside inside in
         record {
-          same = after (s .same) turn;
-          above = all-perm (λ x. T (above x)) turn (s .above);
+          same = after (s .same) (swap .turn);
+          above = all-perm (λ x. T (above x)) (swap .turn) (s .above);
           reach = omega (arith, s .reach);
-          heap = λ p k f m d g. kept over p k f m d (subst (λ (n : ℕ). k < n) moved-length g) (same-or-other p place);
-          over = λ p k f d b g. grand p k d b (subst (λ (n : ℕ). k < n) moved-length g);
+          heap = λ p k f m d g. kept over p k f m d (subst (λ (n : ℕ). k < n) (swap .long) g) (same-or-other p place);
+          over = λ p k f d b g. grand p k d b (subst (λ (n : ℕ). k < n) (swap .long) g);
         }
       where
         fine : (k : ℕ) → k < length new → T (above (at new k))
@@ -232,28 +219,12 @@ module _ (left : ℕ) (old new : List Float) (d : Draining left old new) (more :
   none-taken : 0 < length new
   none-taken = omega (arith, d .inside)
 
-  at-first : at taken 0 ≡ at new m
+  to-end : Exchange new 0 m taken
   unfolding taken
-  at-first = exchanged-first new 0 m none-taken
-
-  at-last : at taken m ≡ at new 0
-  unfolding taken
-  at-last = exchanged-second new 0 m short
-
-  at-rest : (k : ℕ) → (k ≡ 0 → ⊥) → (k ≡ m → ⊥) → at taken k ≡ at new k
-  unfolding taken
-  at-rest = exchanged-other new 0 m
-
-  taken-length : length taken ≡ length new
-  unfolding taken
-  taken-length = exchanged-length new 0 m
-
-  turn : Reordered new taken
-  unfolding taken
-  turn = exchange-perm new 0 m none-taken short
+  to-end = exchange-is new 0 m none-taken short refl
 
   part-length : length (take m taken) ≡ m
-  part-length = length-take-le m taken (omega (arith, short, taken-length))
+  part-length = length-take-le m taken (omega (arith, short, to-end .long))
 
   in-part : (k : ℕ) → k < m → at (take m taken) k ≡ at taken k
   in-part k h = getD-take m taken k nan h
@@ -267,8 +238,8 @@ module _ (left : ℕ) (old new : List Float) (d : Draining left old new) (more :
   part-heap : HeapFrom 1 (take m taken)
   part-heap p k f c g =
       let k-in : k < m = omega (arith, part-length) in
-      le-by (in-part k k-in ∙ at-rest k (λ e. omega arith) (λ e. omega arith) ∙ sym (in-heap k (omega (arith, m-is))))
-      (in-part p (omega arith) ∙ at-rest p (λ e. omega arith) (λ e. omega arith) ∙ sym (in-heap p (omega (arith, m-is))))
+      le-by (in-part k k-in ∙ to-end .other k (λ e. omega arith) (λ e. omega arith) ∙ sym (in-heap k (omega (arith, m-is))))
+      (in-part p (omega arith) ∙ to-end .other p (λ e. omega arith) (λ e. omega arith) ∙ sym (in-heap p (omega (arith, m-is))))
       (d .heap p k (omega arith) c (omega (arith, m-is, heap-length)))
 
   highest : (k : ℕ) → k < left → T (le (at new k) (at new 0))
@@ -281,20 +252,20 @@ module _ (left : ℕ) (old new : List Float) (d : Draining left old new) (more :
   under j a b k h = go (same-or-other j m) (same-or-other k 0)
     where
       go : (j ≡ m) ⊎ (j ≡ m → ⊥) → (k ≡ 0) ⊎ (k ≡ 0 → ⊥) → T (le (at taken k) (at taken j))
-      go (inl e) (inl z) = le-by (ap (at taken) z ∙ at-first) (ap (at taken) e ∙ at-last) (highest m (omega (arith, m-is)))
-      go (inl e) (inr n) = le-by (at-rest k n (λ q. omega arith)) (ap (at taken) e ∙ at-last) (highest k (omega (arith, m-is)))
-      go (inr o) (inl z) = le-by (ap (at taken) z ∙ at-first) (at-rest j (λ q. omega arith) o) (d .tail m j (omega arith) (omega (arith, m-is)) b)
-      go (inr o) (inr n) = le-by (at-rest k n (λ q. omega arith)) (at-rest j (λ q. omega arith) o) (d .tail k j (omega arith) (omega (arith, m-is)) b)
+      go (inl e) (inl z) = le-by (ap (at taken) z ∙ to-end .first) (ap (at taken) e ∙ to-end .second) (highest m (omega (arith, m-is)))
+      go (inl e) (inr n) = le-by (to-end .other k n (λ q. omega arith)) (ap (at taken) e ∙ to-end .second) (highest k (omega (arith, m-is)))
+      go (inr o) (inl z) = le-by (ap (at taken) z ∙ to-end .first) (to-end .other j (λ q. omega arith) o) (d .tail m j (omega arith) (omega (arith, m-is)) b)
+      go (inr o) (inr n) = le-by (to-end .other k n (λ q. omega arith)) (to-end .other j (λ q. omega arith) o) (d .tail k j (omega arith) (omega (arith, m-is)) b)
 
   beyond : (i j : ℕ) → i < j → m ≤ i → j < length new → T (le (at taken i) (at taken j))
   beyond i j h a b = go (same-or-other i m)
     where
       go : (i ≡ m) ⊎ (i ≡ m → ⊥) → T (le (at taken i) (at taken j))
       go (inl e) =
-          le-by (ap (at taken) e ∙ at-last) (at-rest j (λ q. omega arith) (λ q. omega arith))
+          le-by (ap (at taken) e ∙ to-end .second) (to-end .other j (λ q. omega arith) (λ q. omega arith))
           (d .tail 0 j (omega arith) (omega (arith, m-is)) b)
       go (inr o) =
-          le-by (at-rest i (λ q. omega arith) o) (at-rest j (λ q. omega arith) (λ q. omega arith))
+          le-by (to-end .other i (λ q. omega arith) o) (to-end .other j (λ q. omega arith) (λ q. omega arith))
           (d .tail i j h (omega (arith, m-is)) b)
 
   module _ (part : List Float) (h : Heaped 0 (take m taken) part) where
@@ -309,7 +280,7 @@ module _ (left : ℕ) (old new : List Float) (d : Draining left old new) (more :
     moved-on = front-perm m taken part (h .same)
 
     whole-length : length whole ≡ length new
-    whole-length = sym (perm-length moved-on) ∙ taken-length
+    whole-length = sym (perm-length moved-on) ∙ to-end .long
 
     front : (k : ℕ) → k < m → at whole k ≡ at part k
     unfolding whole
@@ -333,8 +304,8 @@ module _ (left : ℕ) (old new : List Float) (d : Draining left old new) (more :
     drained : Draining m old whole
     unfolding whole
     drained = record {
-      same = after (d .same) (after turn moved-on);
-      above = all-perm (λ x. T (above x)) (after turn moved-on) (d .above);
+      same = after (d .same) (after (to-end .turn) moved-on);
+      above = all-perm (λ x. T (above x)) (after (to-end .turn) moved-on) (d .above);
       inside = omega (arith, short, whole-length);
       heap = rw (take-at part (drop m taken) m part-is) (h .heap);
       tail = λ i j g a b. new-tail i j g a (subst (λ (n : ℕ). j < n) whole-length b) (decLt i m);
@@ -350,7 +321,7 @@ module _ {left : ℕ} {old new : List Float} (d : Draining left old new) (more :
   unfolding m taken
   part-above =
       all-take (λ x. T (above x)) (left - 1) (exchanged new 0 (left - 1))
-      (all-perm (λ x. T (above x)) (turn left old new d more) (d .above))
+      (all-perm (λ x. T (above x)) (to-end left old new d more .turn) (d .above))
 
   pub part-is-heap : HeapFrom 1 (take (left - 1) (exchanged new 0 (left - 1)))
   unfolding m taken

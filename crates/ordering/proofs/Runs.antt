@@ -1,7 +1,7 @@
 -- Energies that stand in order already, rising or falling: each neighbour in order makes every pair in order, and the first or the last above zero makes all so.
 -- What falls rises when it is turned round. Assumes nothing.
 use mathlib.Core.Path.{_≡_, refl, sym, ap, _∙_, subst}
-use mathlib.Core.Bool.{Bool, true, false, _&&_, true≢false}
+use mathlib.Core.Bool.{Bool, true, _&&_, and-eq-true-iff}
 use mathlib.Core.Logic.{_⊎_, inl, inr}
 use mathlib.Core.List.{List}
 use Prim.Native.Nat.{ℕ, zero, suc, _+_, _-_, _/_, _≤_, _<_}
@@ -17,9 +17,9 @@ use Rattle.floats.proofs.Order.{float-le-trans}
 use Rattle.floats.specs.Entry.{at}
 use Rattle.rising_order.specs.Arrangement.{Reordered, unmoved, after, Above, Rising, Ordered, exchanged}
 use Rattle.ordering.specs.Inner.{Climbs, Sinks, Falling, mirrored, Turned}
-use Rattle.rising_order.proofs.Perms.{perm-length, exchange-perm, all-of}
+use Rattle.rising_order.proofs.Perms.{perm-length, all-of}
 use Rattle.rising_order.proofs.Energies.{above-up, zero-below}
-use Rattle.rising_order.proofs.Places.{le-by, same-or-other, rising-of, exchanged-length, exchanged-first, exchanged-second, exchanged-other}
+use Rattle.rising_order.proofs.Places.{le-by, same-or-other, rising-of, exchanged-length, exchanged-other, Exchange, exchange-is}
 
 -- ---- in a relation that passes on, neighbours give every pair
 module _ (R : Float → Float → Type 0) (trans : (x y z : Float) → R x y → R y z → R x z) (l : List Float) where
@@ -60,24 +60,19 @@ module _ (P : ℕ → Type 0) where
       go (yes h) = s k a h
       go (no h) = t k (omega arith) b
 
-both-true : (a b : Bool) → a && b ≡ true → (a ≡ true) × T b
-both-true true true e = (refl, tt)
-both-true true false e = absurd (true≢false (sym e))
-both-true false b e = absurd (true≢false (sym e))
-
 module _ (l : List Float) (from i : ℕ) (fine : Bool) where
   next : i + 1 ≡ suc i
   next = omega arith
 
   pub climb-on : (fine ≡ true → Climbs from i l) → fine && le (at l i) (at l (i + 1)) ≡ true → Climbs from (i + 1) l
   climb-on s e =
-      let h = both-true fine (le (at l i) (at l (i + 1))) e in
-      stepped (λ k. T (le (at l k) (at l (suc k)))) from i (s (h .0)) (le-by refl (sym (ap (at l) next)) (h .1))
+      let h = and-eq-true-iff fine (le (at l i) (at l (i + 1))) .0 e in
+      stepped (λ k. T (le (at l k) (at l (suc k)))) from i (s (h .0)) (le-by refl (sym (ap (at l) next)) (subst T (sym (h .1)) tt))
 
   pub sink-on : (fine ≡ true → Sinks from i l) → fine && le (at l (i + 1)) (at l i) ≡ true → Sinks from (i + 1) l
   sink-on s e =
-      let h = both-true fine (le (at l (i + 1)) (at l i)) e in
-      stepped (λ k. T (le (at l (suc k)) (at l k))) from i (s (h .0)) (le-by (sym (ap (at l) next)) refl (h .1))
+      let h = and-eq-true-iff fine (le (at l (i + 1)) (at l i)) .0 e in
+      stepped (λ k. T (le (at l (suc k)) (at l k))) from i (s (h .0)) (le-by (sym (ap (at l) next)) refl (subst T (sym (h .1)) tt))
 
 module _ (l : List Float) where
   pub climbed : Climbs 0 (length l - 1) l → lt (ofBits binary64 0) (at l 0) ≡ true → Above l × Rising l
@@ -148,40 +143,28 @@ module _ (i : ℕ) (old new next : List Float) (t : Turning i old new)
   unfolding j
   j-in = omega arith
 
-  at-i : at next i ≡ at new j
+  swap : Exchange new i j next
   unfolding j
-  at-i = ap (λ (l : List Float). at l i) is ∙ exchanged-first new i j i-in
-
-  at-j : at next j ≡ at new i
-  unfolding j
-  at-j = ap (λ (l : List Float). at l j) is ∙ exchanged-second new i j j-in
-
-  at-else : (k : ℕ) → (k ≡ i → ⊥) → (k ≡ j → ⊥) → at next k ≡ at new k
-  unfolding j
-  at-else k a b = ap (λ (l : List Float). at l k) is ∙ exchanged-other new i j k a b
-
-  long : length next ≡ length new
-  unfolding j
-  long = ap length is ∙ exchanged-length new i j
+  swap = exchange-is new i j i-in j-in is
 
   outside : (k : ℕ) → k < length new → (k < i + 1) ⊎ (length new ≤ k + (i + 1)) → (k ≡ i) ⊎ (k ≡ i → ⊥) → (k ≡ j) ⊎ (k ≡ j → ⊥)
       → at next k ≡ at old (length new - 1 - k)
   unfolding j
-  outside k h o (inl e) b = ap (at next) e ∙ at-i ∙ t .inner j (omega arith) (omega arith) ∙ ap (λ (r : ℕ). at old (length new - 1 - r)) (sym e)
+  outside k h o (inl e) b = ap (at next) e ∙ swap .first ∙ t .inner j (omega arith) (omega arith) ∙ ap (λ (r : ℕ). at old (length new - 1 - r)) (sym e)
   outside k h o (inr a) (inl e) =
       let back : i ≡ length new - 1 - k = omega arith in
-      ap (at next) e ∙ at-j ∙ t .inner i (omega arith) (omega arith) ∙ ap (at old) back
-  outside k h (inl o) (inr a) (inr b) = at-else k a b ∙ t .outer k h (inl (omega arith))
-  outside k h (inr o) (inr a) (inr b) = at-else k a b ∙ t .outer k h (inr (omega arith))
+      ap (at next) e ∙ swap .second ∙ t .inner i (omega arith) (omega arith) ∙ ap (at old) back
+  outside k h (inl o) (inr a) (inr b) = swap .other k a b ∙ t .outer k h (inl (omega arith))
+  outside k h (inr o) (inr a) (inr b) = swap .other k a b ∙ t .outer k h (inr (omega arith))
 
   pub turn-on : Turning (i + 1) old next
   unfolding j
   turn-on = record {
-    same = after (t .same) (subst (Reordered new) (sym is) (exchange-perm new i j i-in j-in));
-    outer = λ k h o. rw long (outside k (rw long at h) (rw long at o) (same-or-other k i) (same-or-other k j));
+    same = after (t .same) (swap .turn);
+    outer = λ k h o. rw (swap .long) (outside k (rw (swap .long) at h) (rw (swap .long) at o) (same-or-other k i) (same-or-other k j));
     inner = λ k h g.
-        let in-new : k + (i + 1) < length new = rw long at g in
-        at-else k (λ e. omega arith) (λ e. omega arith) ∙ t .inner k (omega arith) (omega arith);
+        let in-new : k + (i + 1) < length new = rw (swap .long) at g in
+        swap .other k (λ e. omega arith) (λ e. omega arith) ∙ t .inner k (omega arith) (omega arith);
   }
 
 -- two places at once: four stores, of which none undoes another

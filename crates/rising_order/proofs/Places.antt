@@ -12,8 +12,8 @@ use lib.ListN.{length, take, drop, set, length-set, length-drop, List·getD-appe
 use lib.Seq.{ext-getD, take-all, length-take-le, getD-take, getD-set-same, getD-set-other, getD-append-add, getD-drop}
 use lib.Ieee.{Float, nan, le}
 use Rattle.floats.specs.Entry.{at}
-use Rattle.rising_order.specs.Arrangement.{Rising, exchanged}
-use Rattle.rising_order.proofs.Perms.{all-at, all-of}
+use Rattle.rising_order.specs.Arrangement.{Reordered, Rising, exchanged}
+use Rattle.rising_order.proofs.Perms.{exchange-perm, all-at, all-of}
 
 pub le-by : {x a y b : Float} → x ≡ a → y ≡ b → T (le a b) → T (le x y)
 le-by p q h = rw (p, q) h
@@ -42,6 +42,24 @@ module _ (l : List Float) (i j : ℕ) where
 
   pub exchanged-other : (k : ℕ) → (k ≡ i → ⊥) → (k ≡ j → ⊥) → at (exchanged l i j) k ≡ at l k
   exchanged-other k n m = getD-set-other (set l i (at l j)) j k (at l i) nan m ∙ getD-set-other l i k (at l j) nan n
+
+-- all that of a list which an exchange leaves, and that it has the same energies
+pub record Exchange (l : List Float) (i j : ℕ) (new : List Float) : Type 0 where
+  pub first : at new i ≡ at l j
+  pub second : at new j ≡ at l i
+  pub other : (k : ℕ) → (k ≡ i → ⊥) → (k ≡ j → ⊥) → at new k ≡ at l k
+  pub long : length new ≡ length l
+  pub turn : Reordered l new
+
+pub exchange-is : {new : List Float} (l : List Float) (i j : ℕ) → i < length l → j < length l → new ≡ exchanged l i j → Exchange l i j new
+exchange-is l i j h g e =
+    subst (Exchange l i j) (sym e) (record {
+      first = exchanged-first l i j h;
+      second = exchanged-second l i j g;
+      other = exchanged-other l i j;
+      long = exchanged-length l i j;
+      turn = exchange-perm l i j h g;
+    })
 
 -- ---- a list whose first m places are filled anew
 module _ (l ys : List Float) (m : ℕ) (e : length ys ≡ m) where

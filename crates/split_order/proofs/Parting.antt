@@ -14,9 +14,9 @@ use lib.Ieee.Positive.{above}
 use Rattle.floats.specs.Entry.{at}
 use Rattle.rising_order.specs.Arrangement.{Reordered, unmoved, after, All, Above, exchanged}
 use Rattle.split_order.specs.Inner.{Lowest, Parting, Parted}
-use Rattle.rising_order.proofs.Perms.{exchange-perm, all-perm, all-at, all-of}
+use Rattle.rising_order.proofs.Perms.{all-perm, all-at, all-of}
 use Rattle.rising_order.proofs.Energies.{not-below}
-use Rattle.rising_order.proofs.Places.{le-by, same-or-other, exchanged-length, exchanged-first, exchanged-second, exchanged-other}
+use Rattle.rising_order.proofs.Places.{le-by, same-or-other, Exchange, exchange-is}
 
 pub part-start : (l : List Float) → 0 < length l → Above l → Parting (at l 0) 1 1 l l
 part-start l h a = record {
@@ -37,69 +37,53 @@ module _ {pivot : Float} {low i : ℕ} {old new : List Float} (s : Parting pivot
   low-inside : low < length new
   low-inside = omega (arith, s .within)
 
-  at-i : at turned i ≡ at new low
+  swap : Exchange new i low turned
   unfolding turned
-  at-i = exchanged-first new i low more
-
-  at-low : at turned low ≡ at new i
-  unfolding turned
-  at-low = exchanged-second new i low low-inside
-
-  at-other : (k : ℕ) → (k ≡ i → ⊥) → (k ≡ low → ⊥) → at turned k ≡ at new k
-  unfolding turned
-  at-other = exchanged-other new i low
-
-  long : length turned ≡ length new
-  unfolding turned
-  long = exchanged-length new i low
-
-  turn : Reordered new turned
-  unfolding turned
-  turn = exchange-perm new i low more low-inside
+  swap = exchange-is new i low more low-inside refl
 
   kept-first : at turned 0 ≡ pivot
-  kept-first = at-other 0 (λ q. omega (arith, s .some, s .within)) (λ q. omega (arith, s .some)) ∙ s .first
+  kept-first = swap .other 0 (λ q. omega (arith, s .some, s .within)) (λ q. omega (arith, s .some)) ∙ s .first
 
   kept-below : (k : ℕ) → 0 < k → k < low → T (le (at turned k) pivot)
-  kept-below k g f = le-by (at-other k (λ q. omega (arith, s .within)) (λ q. omega arith)) refl (s .below k g f)
+  kept-below k g f = le-by (swap .other k (λ q. omega (arith, s .within)) (λ q. omega arith)) refl (s .below k g f)
 
   module _ (h : T (le (at new i) pivot)) where
     low-below : (k : ℕ) → 0 < k → k < low + 1 → (k ≡ low) ⊎ (k ≡ low → ⊥) → T (le (at turned k) pivot)
-    low-below k g f (inl e) = le-by (ap (at turned) e ∙ at-low) refl h
+    low-below k g f (inl e) = le-by (ap (at turned) e ∙ swap .second) refl h
     low-below k g f (inr n) = kept-below k g (omega arith)
 
     low-over : (k : ℕ) → low + 1 ≤ k → k < i + 1 → (k ≡ i) ⊎ (k ≡ i → ⊥) → T (le pivot (at turned k))
-    low-over k g f (inl e) = le-by refl (ap (at turned) e ∙ at-i) (s .over low (omega arith) (omega arith))
-    low-over k g f (inr n) = le-by refl (at-other k n (λ q. omega arith)) (s .over k (omega arith) (omega arith))
+    low-over k g f (inl e) = le-by refl (ap (at turned) e ∙ swap .first) (s .over low (omega arith) (omega arith))
+    low-over k g f (inr n) = le-by refl (swap .other k n (λ q. omega arith)) (s .over k (omega arith) (omega arith))
 
     part-low : Parting pivot (low + 1) (i + 1) old (exchanged new i low)
     unfolding turned
     part-low = record {
-      same = after (s .same) turn;
-      above = all-perm (λ x. T (above x)) turn (s .above);
+      same = after (s .same) (swap .turn);
+      above = all-perm (λ x. T (above x)) (swap .turn) (s .above);
       first = kept-first;
       some = omega arith;
       within = omega (arith, s .within);
-      inside = omega (arith, long);
+      inside = omega (arith, swap .long);
       below = λ k g f. low-below k g f (same-or-other k low);
       over = λ k g f. low-over k g f (same-or-other k i);
     }
 
   module _ (h : T (le pivot (at new i))) where
     high-over : (k : ℕ) → low ≤ k → k < i + 1 → (k ≡ low) ⊎ (k ≡ low → ⊥) → (k ≡ i) ⊎ (k ≡ i → ⊥) → T (le pivot (at turned k))
-    high-over k g f (inl e) o = le-by refl (ap (at turned) e ∙ at-low) h
-    high-over k g f (inr n) (inl e) = le-by refl (ap (at turned) e ∙ at-i) (s .over low (omega arith) (omega arith))
-    high-over k g f (inr n) (inr m) = le-by refl (at-other k m n) (s .over k g (omega arith))
+    high-over k g f (inl e) o = le-by refl (ap (at turned) e ∙ swap .second) h
+    high-over k g f (inr n) (inl e) = le-by refl (ap (at turned) e ∙ swap .first) (s .over low (omega arith) (omega arith))
+    high-over k g f (inr n) (inr m) = le-by refl (swap .other k m n) (s .over k g (omega arith))
 
     part-high : Parting pivot low (i + 1) old (exchanged new i low)
     unfolding turned
     part-high = record {
-      same = after (s .same) turn;
-      above = all-perm (λ x. T (above x)) turn (s .above);
+      same = after (s .same) (swap .turn);
+      above = all-perm (λ x. T (above x)) (swap .turn) (s .above);
       first = kept-first;
       some = s .some;
       within = omega (arith, s .within);
-      inside = omega (arith, long);
+      inside = omega (arith, swap .long);
       below = kept-below;
       over = λ k g f. high-over k g f (same-or-other k low) (same-or-other k i);
     }
@@ -151,24 +135,18 @@ module _ {pivot : Float} {low i : ℕ} {old new : List Float} (s : Parting pivot
     place-in : low - 1 < length new
     place-in = omega (arith, s .some, s .within, s .inside)
 
+    to-place : Exchange new 0 (low - 1) l
+    to-place = exchange-is new 0 (low - 1) (omega (arith, place-in)) place-in is
+
     at-place : at l (low - 1) ≡ pivot
-    at-place = ap (λ (k : List Float). at k (low - 1)) is ∙ exchanged-second new 0 (low - 1) place-in ∙ s .first
-
-    at-first : at l 0 ≡ at new (low - 1)
-    at-first = ap (λ (k : List Float). at k 0) is ∙ exchanged-first new 0 (low - 1) (omega (arith, place-in))
-
-    at-else : (k : ℕ) → (k ≡ 0 → ⊥) → (k ≡ low - 1 → ⊥) → at l k ≡ at new k
-    at-else k n m = ap (λ (j : List Float). at j k) is ∙ exchanged-other new 0 (low - 1) k n m
-
-    l-length : length l ≡ length new
-    l-length = ap length is ∙ exchanged-length new 0 (low - 1)
+    at-place = to-place .second ∙ s .first
 
     before : (k : ℕ) → k < low - 1 → (k ≡ 0) ⊎ (k ≡ 0 → ⊥) → T (le (at l k) pivot)
-    before k h (inl e) = le-by (ap (at l) e ∙ at-first) refl (s .below (low - 1) (omega arith) (omega (arith, s .some)))
-    before k h (inr n) = le-by (at-else k n (λ q. omega arith)) refl (s .below k (omega arith) (omega arith))
+    before k h (inl e) = le-by (ap (at l) e ∙ to-place .first) refl (s .below (low - 1) (omega arith) (omega (arith, s .some)))
+    before k h (inr n) = le-by (to-place .other k n (λ q. omega arith)) refl (s .below k (omega arith) (omega arith))
 
     beyond : (k : ℕ) → low - 1 < k → k < length new → T (le pivot (at l k))
-    beyond k h g = le-by refl (at-else k (λ q. omega arith) (λ q. omega arith)) (s .over k (omega (arith, s .some)) (omega arith))
+    beyond k h g = le-by refl (to-place .other k (λ q. omega arith) (λ q. omega arith)) (s .over k (omega (arith, s .some)) (omega arith))
 
     pairs : (i j : ℕ) → i < j → i < low - 1 + 1 → low - 1 ≤ j → j < length new
         → (i ≡ low - 1) ⊎ (i ≡ low - 1 → ⊥) → (j ≡ low - 1) ⊎ (j ≡ low - 1 → ⊥) → T (le (at l i) (at l j))
@@ -179,10 +157,10 @@ module _ {pivot : Float} {low i : ℕ} {old new : List Float} (s : Parting pivot
 
     pub parted : Parted (low - 1) (low - 1 + 1) old l
     parted = record {
-      same = subst (λ (k : List Float). Reordered old k) (sym is) (after (s .same) (exchange-perm new 0 (low - 1) (omega (arith, place-in)) place-in));
+      same = after (s .same) (to-place .turn);
       ordered = omega arith;
-      inside = omega (arith, place-in, l-length);
-      settled = λ i j h a b g. pairs i j h a b (subst (λ (n : ℕ). j < n) l-length g) (same-or-other i (low - 1)) (same-or-other j (low - 1));
+      inside = omega (arith, place-in, to-place .long);
+      settled = λ i j h a b g. pairs i j h a b (subst (λ (n : ℕ). j < n) (to-place .long) g) (same-or-other i (low - 1)) (same-or-other j (low - 1));
     }
 
   -- where no energy is below the pivot, those before `low` are at most all others
