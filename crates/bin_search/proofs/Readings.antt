@@ -1,6 +1,6 @@
 -- The reading by its cases: each test that puts an energy off the scale, and the tenths of one that is on it. Assumes nothing.
-use mathlib.Core.Path.{_≡_, refl}
-use mathlib.Core.Bool.{Bool, true, false, _||_, cond}
+use mathlib.Core.Path.{_≡_}
+use mathlib.Core.Bool.{Bool, true, false, cond, or-true}
 use Prim.Native.Nat.{ℕ, suc, _-_, _≤_}
 use native.Mathlib.Omega.{arith}
 use lib.Dec.{ltb}
@@ -12,10 +12,6 @@ use Rattle.refusals.specs.Refusal.{SCALE}
 use Rattle.refusals.specs.Outcome.{refused, answers}
 use Rattle.tables.specs.Tables.{boundaryAt}
 use Rattle.bin_search.specs.Reading.{offScale, readingOf, tenthsOf}
-
-or-true : (a : Bool) → a || true ≡ true
-or-true true = refl
-or-true false = refl
 
 module _ (energy : Float) where
   pub off-scale : offScale energy ≡ true → readingOf energy ≡ refused SCALE

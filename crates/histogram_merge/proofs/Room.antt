@@ -1,7 +1,7 @@
 -- Whether every sum fits, in a loop: each turn goes on from one counter to the next, so that what is left to look at is known by recursion on the counters.
 -- Assumes nothing.
 use mathlib.Core.Path.{_≡_, refl, sym}
-use mathlib.Core.Bool.{Bool, true, false, _&&_, true≢false, and-true, and-assoc}
+use mathlib.Core.Bool.{Bool, true, false, _&&_, and-true, and-assoc, and-eq-true-iff}
 use mathlib.Core.List.{List, [], _∷_}
 use Prim.Native.Nat.{ℕ, zero, suc, _+_, _-_, _≤_, _<_}
 use native.Mathlib.Nat.{le-of-suc-le-suc, not-suc-le-zero}
@@ -9,7 +9,7 @@ use native.Mathlib.Numerals.{add-one}
 use native.Mathlib.Omega.{arith}
 use borrow.Author.Tests.{le-leb, lt-leb, leb-true, leb-false}
 use lib.Dec.{leb}
-use lib.ListN.{length, getD, drop}
+use lib.ListN.{length, getD, drop, drop-of-length-le}
 use lib.Seq.{drop-cons}
 use Rattle.histogram.specs.Histogram.{largestCount}
 use Rattle.histogram_merge.specs.Merge.{room}
@@ -39,27 +39,13 @@ module _ (into from : List ℕ) where
       )
 
   pub look-end : (fits : Bool) (bin : ℕ) → length into ≤ bin → lookedTo fits bin ≡ fits
-  look-end fits bin h = rw (none into bin h) (and-true fits)
-    where
-      none : (l : List ℕ) (n : ℕ) → length l ≤ n → drop n l ≡ []
-      none [] zero h = refl
-      none [] (suc n) h = refl
-      none (x ∷ l) zero h = absurd (not-suc-le-zero h)
-      none (x ∷ l) (suc n) h = none l n (le-of-suc-le-suc h)
+  look-end fits bin h = rw (drop-of-length-le into {i = bin} h) (and-true fits)
 
 -- where there is room, each sum fits
 pub room-at : (into from : List ℕ) (bin : ℕ) → bin < length into → bin < length from → room into from ≡ true
     → getD into bin 0 + getD from bin 0 ≤ largestCount
 room-at [] from bin h g r = absurd (not-suc-le-zero h)
 room-at (x ∷ into) [] bin h g r = absurd (not-suc-le-zero g)
-room-at (x ∷ into) (y ∷ from) zero h g r = first (leb (x + y) largestCount) refl r
-  where
-    first : (b : Bool) → leb (x + y) largestCount ≡ b → b && room into from ≡ true → x + y ≤ largestCount
-    first true e r = leb-true (x + y) largestCount e
-    first false e r = absurd (true≢false (sym r))
+room-at (x ∷ into) (y ∷ from) zero h g r = leb-true (x + y) largestCount (and-eq-true-iff (leb (x + y) largestCount) (room into from) .0 r .0)
 room-at (x ∷ into) (y ∷ from) (suc bin) h g r =
-    room-at into from bin (le-of-suc-le-suc h) (le-of-suc-le-suc g) (rest (leb (x + y) largestCount) r)
-  where
-    rest : (b : Bool) → b && room into from ≡ true → room into from ≡ true
-    rest true r = r
-    rest false r = absurd (true≢false (sym r))
+    room-at into from bin (le-of-suc-le-suc h) (le-of-suc-le-suc g) (and-eq-true-iff (leb (x + y) largestCount) (room into from) .0 r .1)

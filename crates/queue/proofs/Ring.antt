@@ -1,15 +1,11 @@
 -- What `suits` says of a queue: it is a test on numbers, and each part is a fact about them. Assumes nothing.
-use mathlib.Core.Path.{_≡_, refl, sym}
-use mathlib.Core.Bool.{Bool, true, false, _&&_, true≢false}
+use mathlib.Core.Path.{_≡_}
+use mathlib.Core.Bool.{true, _&&_, and-eq-true-iff}
 use Prim.Native.Nat.{ℕ, _≤_, _<_}
 use borrow.Author.Tests.{leb-true, ltb-true, eqb-true, le-leb, lt-ltb, eq-eqb}
 use lib.Dec.{eqb, leb, ltb}
 use Rattle.queue.specs.declared.Queue.{Queue}
 use Rattle.queue.specs.Queue.{longest, suits}
-
-both : (a b : Bool) → a && b ≡ true → (a ≡ true) × (b ≡ true)
-both true b h = (refl, h)
-both false b h = absurd (true≢false (sym h))
 
 -- a queue that suits a store of some length
 pub record Suited (queue : Queue) (places : ℕ) : Type 0 where
@@ -22,11 +18,11 @@ pub record Suited (queue : Queue) (places : ℕ) : Type 0 where
 pub suited : (queue : Queue) (places : ℕ) → suits queue places ≡ true → Suited queue places
 unfolding suits
 suited queue places h =
-    let a = both (leb 1 (queue .maximum))
-    (leb (queue .maximum) longest && (eqb (queue .maximum) places && (ltb (queue .head) (queue .maximum) && leb (queue .held) (queue .maximum)))) h in
-    let b = both (leb (queue .maximum) longest) (eqb (queue .maximum) places && (ltb (queue .head) (queue .maximum) && leb (queue .held) (queue .maximum))) (a .1) in
-    let d = both (eqb (queue .maximum) places) (ltb (queue .head) (queue .maximum) && leb (queue .held) (queue .maximum)) (b .1) in
-    let e = both (ltb (queue .head) (queue .maximum)) (leb (queue .held) (queue .maximum)) (d .1) in
+    let ring = ltb (queue .head) (queue .maximum) && leb (queue .held) (queue .maximum) in
+    let a = and-eq-true-iff (leb 1 (queue .maximum)) (leb (queue .maximum) longest && (eqb (queue .maximum) places && ring)) .0 h in
+    let b = and-eq-true-iff (leb (queue .maximum) longest) (eqb (queue .maximum) places && ring) .0 (a .1) in
+    let d = and-eq-true-iff (eqb (queue .maximum) places) ring .0 (b .1) in
+    let e = and-eq-true-iff (ltb (queue .head) (queue .maximum)) (leb (queue .held) (queue .maximum)) .0 (d .1) in
     record {
       least = leb-true 1 (queue .maximum) (a .0);
       most = leb-true (queue .maximum) longest (b .0);

@@ -1,7 +1,7 @@
 -- The energies that a queue holds are two slices of those in which its store stands, one after the other: the store is itself a slice, so that its parts are.
 -- Assumes nothing.
 use mathlib.Core.Path.{_≡_, refl, sym, ap, _∙_, subst}
-use mathlib.Core.Bool.{Bool, true, false, not, _&&_, true≢false}
+use mathlib.Core.Bool.{Bool, true, false, not, and-eq-true-iff}
 use mathlib.Core.List.{List, [], _∷_, _++_}
 use Prim.Native.Nat.{ℕ, zero, suc, _+_, _-_, _≤_, _<_}
 use native.Mathlib.Numerals.{add-one}
@@ -38,10 +38,6 @@ pub slice-end : {A : Type 0} (l : List A) (i until : ℕ) → until ≤ i → sl
 slice-end l i until h = ap (λ (n : ℕ). take n (drop i l)) {x = until - i} {y = 0} (omega arith)
 
 -- ---- whether a store stands
-both-true : (a b : Bool) → a && b ≡ true → (a ≡ true) × (b ≡ true)
-both-true true b h = (refl, h)
-both-true false b h = absurd (true≢false (sym h))
-
 module _ (queue : Queue) (start places : ℕ) where
   pub outside : places < start + queue .maximum → stands queue start places ≡ false
   outside h = rw (lt-ltb places (start + queue .maximum) h)
@@ -51,7 +47,7 @@ module _ (queue : Queue) (start places : ℕ) where
 
   pub stands-well : stands queue start places ≡ true → (start + queue .maximum ≤ places) × Suited queue (queue .maximum)
   stands-well h =
-      let w = both-true (not (ltb places (start + queue .maximum))) (suits queue (queue .maximum)) h in
+      let w = and-eq-true-iff (not (ltb places (start + queue .maximum))) (suits queue (queue .maximum)) .0 h in
       (ltb-false places (start + queue .maximum) (not-true (ltb places (start + queue .maximum)) (w .0)), suited queue (queue .maximum) (w .1))
 
   -- ---- where its energies stand

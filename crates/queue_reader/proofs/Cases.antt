@@ -1,14 +1,14 @@
 -- What a queue's record that passes has, and what its reading comes to behind the frame. Assumes nothing.
-use mathlib.Core.Path.{_≡_, refl, ap, _∙_}
-use mathlib.Core.Bool.{true, _&&_}
-use mathlib.Core.List.{List, [], _∷_, _++_}
-use Prim.Native.Nat.{ℕ, suc, _+_, _-_, _*_, _≤_}
+use mathlib.Core.Path.{_≡_, ap, _∙_}
+use mathlib.Core.Bool.{true, _&&_, and-eq-true-iff}
+use mathlib.Core.List.{List, _++_}
+use Prim.Native.Nat.{ℕ, _+_, _-_, _*_, _≤_}
 use native.Mathlib.Omega.{arith}
 use borrow.Author.Tests.{eq-eqb, eqb-true, leb-true, not-false}
 use lib.Dec.{eqb, leb}
-use lib.ListN.{length, drop}
+use lib.ListN.{length, length-map, drop}
 use lib.Seq.{sets, sets-eq}
-use lib.Ieee.{Float}
+use lib.Ieee.{Float, ofBits, binary64}
 use Rattle.refusals.specs.Refusal.{STORE, LENGTH, CONTENT}
 use Rattle.refusals.specs.Outcome.{went}
 use Rattle.refusals.specs.Rows.{numberOf}
@@ -36,7 +36,6 @@ use Rattle.queue_reader.specs.QueueRecord.{
   readQueue,
 }
 use Rattle.queue_reader.specs.Inner.{bodyRead}
-use Rattle.queue_reader.proofs.Patterns.{both}
 
 -- ---- bytes that pass the frame
 module _ (bytes : List ℕ) (e : numberOf (frameRows QueueKind bytes) ≡ 0) where
@@ -92,17 +91,13 @@ module _ (order : Order) (bytes : List ℕ) (store : List Float) where
 pub numbers-within : (maximum held : ℕ) → numbersFit maximum held ≡ true → (1 ≤ maximum) × (maximum ≤ longest) × (held ≤ maximum)
 unfolding numbersFit
 numbers-within maximum held h =
-    let least = both (leb 1 maximum) (leb maximum longest && leb held maximum) h in
-    let others = both (leb maximum longest) (leb held maximum) (least .1) in
+    let least = and-eq-true-iff (leb 1 maximum) (leb maximum longest && leb held maximum) .0 h in
+    let others = and-eq-true-iff (leb maximum longest) (leb held maximum) .0 (least .1) in
     (leb-true 1 maximum (least .0), leb-true maximum longest (others .0), leb-true held maximum (others .1))
-
-map-length : (l : List ℕ) → length (energiesOf l) ≡ length l
-map-length [] = refl
-map-length (x ∷ l) = ap suc (map-length l)
 
 -- energies stored from the first place on
 pub energies-count : (order : Order) (bytes : List ℕ) → length (energiesOf (patternsIn order bytes)) ≡ heldIn order bytes
-energies-count order bytes = map-length (patternsIn order bytes) ∙ numbers-length order energyWidth (heldIn order bytes) (drop leastLength bytes)
+energies-count order bytes = length-map (patternsIn order bytes) (ofBits binary64) ∙ numbers-length order energyWidth (heldIn order bytes) (drop leastLength bytes)
 
 pub stored-is : (order : Order) (bytes : List ℕ) (store : List Float) → heldIn order bytes ≤ length store
     → sets store 0 (energiesOf (patternsIn order bytes)) ≡ stored order bytes store

@@ -1,7 +1,7 @@
 -- Which patterns fit: below infinity's by one comparison of their float, and from there on two alone, since past it are NaNs and floats with a sign.
 -- And patterns one after the other: one turn of a loop that tests them, and of one that stores their floats. Assumes nothing.
 use mathlib.Core.Path.{_≡_, refl, sym, ap, subst, _∙_}
-use mathlib.Core.Bool.{Bool, true, false, not, _&&_, _||_, cond, true≢false}
+use mathlib.Core.Bool.{Bool, true, false, not, _&&_, _||_, cond, true≢false, or-false, and-eq-true-iff}
 use mathlib.Core.List.{List, [], _∷_}
 use Prim.Native.Nat.{ℕ, zero, suc, _+_, _/_, _%_, _<_, _≤_}
 use native.Mathlib.Numerals.{add-one}
@@ -62,14 +62,6 @@ fits-is : (pattern : ℕ) → le (boundaryAt 0) (ofBits binary64 pattern) || eqb
 unfolding patternFits
 fits-is pattern = fits-by (boundaryAt 0) (lowest-number (boundaryAt 0) (boundary-positive 0 (omega arith))) pattern
 
-pub both : (a b : Bool) → a && b ≡ true → (a ≡ true) × (b ≡ true)
-both true b h = (refl, h)
-both false b h = absurd (true≢false (sym h))
-
-or-false : (b : Bool) → b || false ≡ b
-or-false true = refl
-or-false false = refl
-
 -- a pattern that fits is NaN's own or a number's
 pub own-nan : (pattern : ℕ) → pattern ≡ nanPattern → nan ≡ ofBits binary64 pattern
 own-nan pattern e = sym (only-nan (ofBits binary64 pattern) (own pattern (subst T (sym (eq-eqb pattern nanPattern e)) tt)))
@@ -77,7 +69,7 @@ own-nan pattern e = sym (only-nan (ofBits binary64 pattern) (own pattern (subst 
 pub other-number : (pattern : ℕ) → patternFits pattern ≡ true → (pattern ≡ nanPattern → ⊥) → T (not (nanBits binary64 pattern))
 unfolding patternFits
 other-number pattern h k =
-    let number = both (not (dropped (ofBits binary64 pattern))) (not (isNan (ofBits binary64 pattern)) || eqb pattern nanPattern) h .1 in
+    let number = and-eq-true-iff (not (dropped (ofBits binary64 pattern))) (not (isNan (ofBits binary64 pattern)) || eqb pattern nanPattern) .0 h .1 in
     let told : not (isNan (ofBits binary64 pattern)) ≡ true =
     sym (or-false (not (isNan (ofBits binary64 pattern)))) ∙ ap (λ (b : Bool). not (isNan (ofBits binary64 pattern)) || b) (sym (ne-eqb pattern nanPattern k)) ∙ number in
     subst (λ (b : Bool). T (not b)) (sym (nanBits-is binary64 pattern)) (subst T (sym told) tt)
@@ -103,8 +95,8 @@ pub finite-fit : (patterns : List ℕ) → allFinite patterns ≡ true → allFi
 unfolding every finiteFits
 finite-fit [] h = refl
 finite-fit (pattern ∷ rest) h =
-    let p = both (finiteFits pattern) (allFinite rest) h in
-    rw (both (ltb pattern infinityPattern) (patternFits pattern) (p .0) .1, finite-fit rest (p .1))
+    let p = and-eq-true-iff (finiteFits pattern) (allFinite rest) .0 h in
+    rw (and-eq-true-iff (ltb pattern infinityPattern) (patternFits pattern) .0 (p .0) .1, finite-fit rest (p .1))
 
 -- ---- from infinity's on
 not-above-odd : (d q k l : ℕ) → above (odd d true q k l) ≡ false
@@ -179,7 +171,7 @@ module _ (order : Order) (width : ℕ) (bytes : List ℕ) (at next n k value : �
   pub each : (test : ℕ → Bool) → every test (numbersIn order width n (drop at bytes)) ≡ true
       → (test value ≡ true) × (every test (numbersIn order width k (drop next bytes)) ≡ true)
   unfolding every
-  each test h = both (test value) (every test (numbersIn order width k (drop next bytes))) (sym (ap (every test) taken) ∙ h)
+  each test h = and-eq-true-iff (test value) (every test (numbersIn order width k (drop next bytes))) .0 (sym (ap (every test) taken) ∙ h)
 
   pub store-turn : (store : List Float) (i : ℕ) (energy : Float) → energy ≡ ofBits binary64 value
       → sets (set store i energy) (i + 1) (energiesOf (numbersIn order width k (drop next bytes))) ≡ sets store i (energiesOf (numbersIn order width n (drop at bytes)))

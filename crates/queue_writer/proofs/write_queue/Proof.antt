@@ -1,7 +1,7 @@
 -- `queue_writer::write_queue` meets its contract: a sound queue's record has 14 bytes and 8 for each energy held, and goes where there is room for it.
 -- Assumes nothing.
 use mathlib.Core.Path.{_≡_, refl, sym, ap, _∙_}
-use mathlib.Core.Bool.{true, _&&_}
+use mathlib.Core.Bool.{true, _&&_, and-eq-true-iff}
 use mathlib.Core.List.{List}
 use Prim.Native.Nat.{ℕ, _+_, _-_, _*_}
 use native.Mathlib.Omega.{arith}
@@ -19,7 +19,6 @@ use Rattle.queue.proofs.Ring.{Suited, suited}
 use Rattle.layout.specs.declared.Kind.the-variants.{Queue as QueueKind}
 use Rattle.layout.specs.Layout.{allBytes, withHead}
 use Rattle.queue_reader.specs.QueueRecord.{numberWidth, energyWidth, maximumAt, heldAt, leastLength, patternsOf}
-use Rattle.queue_reader.proofs.Patterns.{both}
 use Rattle.queue_writer.specs.Writing.{queueRecord, writeQueue}
 use Rattle.queue_writer.proofs.Places.{held-number}
 use Rattle.queue_writer.proofs.Cases.{whole-length, queue-put}
@@ -33,7 +32,7 @@ sound-here c = sym (c .before .sound-queue .ensures) ∙ c .if1 .taken
 suits-here : (c : tie.Then1) → let a = c .before .before .before .before .args in suits (a .queue) (length (now (a .store))) ≡ true
 suits-here c =
     let a = c .before .before .before .before .args in
-    both (suits (a .queue) (length (now (a .store)))) (noneBelow (heldOf (over (a .queue) (now (a .store))))) (sound-here c) .0
+    and-eq-true-iff (suits (a .queue) (length (now (a .store)))) (noneBelow (heldOf (over (a .queue) (now (a .store))))) .0 (sound-here c) .0
 
 suited-here : (c : tie.Then1) → let a = c .before .before .before .before .args in Suited (a .queue) (length (now (a .store)))
 suited-here c = let a = c .before .before .before .before .args in suited (a .queue) (length (now (a .store))) (suits-here c)
@@ -45,9 +44,6 @@ long c =
     let a = c .before .before .before .before .args in
     whole-length (a .queue .maximum) (heldOf (over (a .queue) (now (a .store))))
     ∙ ap (λ (n : ℕ). leastLength + energyWidth * n) (held-number (a .queue) (now (a .store)))
-
-sound-queue-requires : tie.Need-sound-queue-requires
-sound-queue-requires c κs = search needs
 
 mul-length : tie.Need-mul-length
 mul-length c = let f = suited-here c in omega arith
@@ -66,28 +62,10 @@ returns c =
     )
     (refl, refl)
 
-order-of-requires : tie.Need-order-of-requires
-order-of-requires c κs = search needs
-
-sub-put-head : tie.Need-sub-put-head
-sub-put-head c = search needs
-
-put-head-requires : tie.Need-put-head-requires
-put-head-requires c κs = search needs
-
-put-field-requires : tie.Need-put-field-requires
-put-field-requires c κs = search needs
-
-put-field-requires-2 : tie.Need-put-field-requires-2
-put-field-requires-2 c κs = search needs
-
 write-held-requires : tie.Need-write-held-requires
 write-held-requires c κs =
     let e = c .before .before .before .before .before .before .before .before .before .before .before .before .before .before in
     (suits-here (e .before), omega (arith, e .if2 .left))
-
-same-length : tie.Need-same-length
-same-length c = search needs
 
 returns-2 : tie.Need-returns-2
 unfolding writeQueue
@@ -124,17 +102,5 @@ returns-3 c = rw (sym (c .before .sound-queue .ensures) ∙ c .if1 .left) (refl,
 pub write-queue-spec : {M : Type 1} → statement M
 write-queue-spec =
     tie.close
-    (tie.spec
-    sound-queue-requires
-    mul-length
-    add-length
-    returns
-    order-of-requires
-    sub-put-head
-    put-head-requires
-    put-field-requires
-    put-field-requires-2
-    write-held-requires
-    same-length
-    returns-2
-    returns-3)
+    (tie.spec (search needs) mul-length add-length returns (search needs) (search needs) (search needs) (search needs)
+    (search needs) write-held-requires (search needs) returns-2 returns-3)
