@@ -18,14 +18,8 @@ Inv-loop energy boundaries min₀ max₀ min max = (min + 2 ≤ max) × Bracket 
 abbrev μ-loop : tie.MeasureT-loop
 μ-loop energy boundaries min₀ max₀ min max = max - min
 
-all-boundaries-requires : tie.Need-all-boundaries-requires Inv-loop μ-loop
-all-boundaries-requires c κs = search needs
-
 loop-holds : tie.Need-loop-holds Inv-loop μ-loop
 loop-holds c = (omega arith, start (c .before .args .energy))
-
-add-mid : tie.Need-add-mid Inv-loop μ-loop
-add-mid c = search needs
 
 mul-if1 : tie.Need-mul-if1 Inv-loop μ-loop
 mul-if1 c = omega (arith, c .loop .inv .1 .within)
@@ -62,4 +56,6 @@ returns c = done (joined (c .before .before .before) .0) (c .if2 .taken)
 
 pub find-histogram-index-spec : {M : Type 1} → statement M
 find-histogram-index-spec =
-    tie.close (tie.spec Inv-loop μ-loop all-boundaries-requires loop-holds add-mid mul-if1 array-read-if1 sub-if2 loop-less loop-again returns)
+    tie.close
+    (tie.spec Inv-loop μ-loop (search needs) loop-holds (search needs) mul-if1 array-read-if1 sub-if2 loop-less loop-again
+    returns)

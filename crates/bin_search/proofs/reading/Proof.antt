@@ -19,24 +19,15 @@ use Rattle.bin_search.proofs.reading.Tie as tie
 returns : tie.Need-returns
 returns c = let e = c .before .args .energy in rw (off-scale e (nan-off e (sym (differs e) ∙ c .if1 .taken)))
 
-lowest-boundary-requires : tie.Need-lowest-boundary-requires
-lowest-boundary-requires c κs = search needs
-
 returns-2 : tie.Need-returns-2
 returns-2 c =
     let e = c .before .before .before .args .energy in
     rw (off-scale e (low-off e (ap (lt e) (sym (c .before .lowest-boundary .ensures)) ∙ c .if2 .taken)))
 
-highest-boundary-requires : tie.Need-highest-boundary-requires
-highest-boundary-requires c κs = search needs
-
 returns-3 : tie.Need-returns-3
 returns-3 c =
     let e = c .before .before .before .before .before .args .energy in
     rw (off-scale e (high-off e (ap (λ (b : Float). le b e) (sym (c .before .highest-boundary .ensures)) ∙ c .if3 .taken)))
-
-find-histogram-index-requires : tie.Need-find-histogram-index-requires
-find-histogram-index-requires c κs = search needs
 
 small : (c : tie.After-find-histogram-index) → c .find-histogram-index .result < 1000
 small c = omega (arith, c .find-histogram-index .ensures, bin-below (c .before .before .before .before .before .before .args .energy))
@@ -65,4 +56,5 @@ returns-4 c =
 
 pub reading-spec : {M : Type 1} → statement M
 reading-spec =
-    tie.close (tie.spec returns lowest-boundary-requires returns-2 highest-boundary-requires returns-3 find-histogram-index-requires cast-t5 add-t6 returns-4)
+    tie.close
+    (tie.spec returns (search needs) returns-2 (search needs) returns-3 (search needs) cast-t5 add-t6 returns-4)

@@ -6,54 +6,6 @@ use borrow.Author.Needs.{needs}
 use Rattle.entries.proofs.entries_of.Statement.{statement}
 use Rattle.entries.proofs.entries_of.Tie as tie
 
-entry-at-requires : tie.Need-entry-at-requires
-entry-at-requires c κs = search needs
-
-entry-at-requires-2 : tie.Need-entry-at-requires-2
-entry-at-requires-2 c κs = search needs
-
-entry-at-requires-3 : tie.Need-entry-at-requires-3
-entry-at-requires-3 c κs = search needs
-
-entry-at-requires-4 : tie.Need-entry-at-requires-4
-entry-at-requires-4 c κs = search needs
-
-entry-at-requires-5 : tie.Need-entry-at-requires-5
-entry-at-requires-5 c κs = search needs
-
-entry-at-requires-6 : tie.Need-entry-at-requires-6
-entry-at-requires-6 c κs = search needs
-
-entry-at-requires-7 : tie.Need-entry-at-requires-7
-entry-at-requires-7 c κs = search needs
-
-entry-at-requires-8 : tie.Need-entry-at-requires-8
-entry-at-requires-8 c κs = search needs
-
-entry-at-requires-9 : tie.Need-entry-at-requires-9
-entry-at-requires-9 c κs = search needs
-
-entry-at-requires-10 : tie.Need-entry-at-requires-10
-entry-at-requires-10 c κs = search needs
-
-entry-at-requires-11 : tie.Need-entry-at-requires-11
-entry-at-requires-11 c κs = search needs
-
-entry-at-requires-12 : tie.Need-entry-at-requires-12
-entry-at-requires-12 c κs = search needs
-
-entry-at-requires-13 : tie.Need-entry-at-requires-13
-entry-at-requires-13 c κs = search needs
-
-entry-at-requires-14 : tie.Need-entry-at-requires-14
-entry-at-requires-14 c κs = search needs
-
-entry-at-requires-15 : tie.Need-entry-at-requires-15
-entry-at-requires-15 c κs = search needs
-
-entry-at-requires-16 : tie.Need-entry-at-requires-16
-entry-at-requires-16 c κs = search needs
-
 returns : tie.Need-returns
 unfolding entriesFrom
 returns c =
@@ -78,21 +30,6 @@ returns c =
 pub entries-of-spec : {M : Type 1} → statement M
 entries-of-spec =
     tie.close
-    (tie.spec
-    entry-at-requires
-    entry-at-requires-2
-    entry-at-requires-3
-    entry-at-requires-4
-    entry-at-requires-5
-    entry-at-requires-6
-    entry-at-requires-7
-    entry-at-requires-8
-    entry-at-requires-9
-    entry-at-requires-10
-    entry-at-requires-11
-    entry-at-requires-12
-    entry-at-requires-13
-    entry-at-requires-14
-    entry-at-requires-15
-    entry-at-requires-16
-    returns)
+    (tie.spec (search needs) (search needs) (search needs) (search needs) (search needs) (search needs) (search needs)
+    (search needs) (search needs) (search needs) (search needs) (search needs) (search needs) (search needs) (search needs)
+    (search needs) returns)

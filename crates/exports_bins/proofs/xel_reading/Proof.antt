@@ -9,15 +9,6 @@ use Rattle.codes.proofs.Told.{values-told, refusal-told}
 use Rattle.exports_bins.proofs.xel_reading.Statement.{statement}
 use Rattle.exports_bins.proofs.xel_reading.Tie as tie
 
-reading-requires : tie.Need-reading-requires
-reading-requires c κs = search needs
-
-enum-known-t : tie.Need-enum-known-t
-enum-known-t c = search needs
-
-enum-known-number : tie.Need-enum-known-number
-enum-known-number c = search needs
-
 returns : tie.Need-returns
 returns c =
     let at-start = c .before .before .before .before in
@@ -33,4 +24,4 @@ returns-2 c =
     (ap said (sym (c .before .number .given .1)) ∙ c .before .before .before .reading .ensures)
 
 pub xel-reading-spec : {M : Type 1} → statement M
-xel-reading-spec = tie.close (tie.spec reading-requires enum-known-t enum-known-number returns returns-2)
+xel-reading-spec = tie.close (tie.spec (search needs) (search needs) (search needs) returns returns-2)

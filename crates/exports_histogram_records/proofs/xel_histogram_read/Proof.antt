@@ -7,15 +7,6 @@ use Rattle.codes.proofs.Told.{answer-told}
 use Rattle.exports_histogram_records.proofs.xel_histogram_read.Statement.{statement}
 use Rattle.exports_histogram_records.proofs.xel_histogram_read.Tie as tie
 
-read-histogram-requires : tie.Need-read-histogram-requires
-read-histogram-requires c κs = search needs
-
-number-of-requires : tie.Need-number-of-requires
-number-of-requires c κs = search needs
-
-same-length : tie.Need-same-length
-same-length c = search needs
-
 returns : tie.Need-returns
 returns c =
     let given = c .before .before .before .before .before .before .before .args in
@@ -23,4 +14,4 @@ returns c =
     (c .number-of .ensures ∙ answer-told (readHistogram (now (given .bytes)) (now (given .counters))) (call .result) (call .ensures .0), call .ensures .1)
 
 pub xel-histogram-read-spec : {M : Type 1} → statement M
-xel-histogram-read-spec = tie.close (tie.spec read-histogram-requires number-of-requires same-length returns)
+xel-histogram-read-spec = tie.close (tie.spec (search needs) (search needs) (search needs) returns)

@@ -8,18 +8,6 @@ use Rattle.codes.proofs.Told.{values-told, refusal-told}
 use Rattle.exports_histogram_records.proofs.xel_histogram_write.Statement.{statement}
 use Rattle.exports_histogram_records.proofs.xel_histogram_write.Tie as tie
 
-write-histogram-requires : tie.Need-write-histogram-requires
-write-histogram-requires c κs = search needs
-
-enum-known-n : tie.Need-enum-known-n
-enum-known-n c = search needs
-
-enum-known-number : tie.Need-enum-known-number
-enum-known-number c = search needs
-
-same-length : tie.Need-same-length
-same-length c = search needs
-
 returns : tie.Need-returns
 returns c =
     let a = c .before .before .before .before .before .before .before .before .before .args in
@@ -27,9 +15,6 @@ returns c =
     let given = c .before .n .given in
     let told = values-told (writeHistogram (now (a .counters)) (now (a .out))) (now (a .written)) (given .0 .0) (ap said (sym (given .1)) ∙ call .ensures .0) in
     (told .0, told .1, call .ensures .1)
-
-same-length-2 : tie.Need-same-length-2
-same-length-2 c = search needs
 
 returns-2 : tie.Need-returns-2
 returns-2 c =
@@ -40,4 +25,6 @@ returns-2 c =
     (told .0, told .1, call .ensures .1)
 
 pub xel-histogram-write-spec : {M : Type 1} → statement M
-xel-histogram-write-spec = tie.close (tie.spec write-histogram-requires enum-known-n enum-known-number same-length returns same-length-2 returns-2)
+xel-histogram-write-spec =
+    tie.close
+    (tie.spec (search needs) (search needs) (search needs) (search needs) returns (search needs) returns-2)

@@ -7,15 +7,6 @@ use Rattle.codes.proofs.Told.{answer-told}
 use Rattle.exports_histories.proofs.xel_histogram_add.Statement.{statement}
 use Rattle.exports_histories.proofs.xel_histogram_add.Tie as tie
 
-add-requires : tie.Need-add-requires
-add-requires c κs = search needs
-
-number-of-requires : tie.Need-number-of-requires
-number-of-requires c κs = search needs
-
-same-length : tie.Need-same-length
-same-length c = search needs
-
 returns : tie.Need-returns
 returns c =
     let at-start = c .before .before .before .before .before .before .args in
@@ -23,4 +14,4 @@ returns c =
     (c .number-of .ensures ∙ answer-told (addTo (now (at-start .counters)) (at-start .energy)) (call .result) (call .ensures .0), call .ensures .1)
 
 pub xel-histogram-add-spec : {M : Type 1} → statement M
-xel-histogram-add-spec = tie.close (tie.spec add-requires number-of-requires same-length returns)
+xel-histogram-add-spec = tie.close (tie.spec (search needs) (search needs) (search needs) returns)

@@ -7,15 +7,6 @@ use Rattle.codes.proofs.Told.{answer-told}
 use Rattle.exports_histories.proofs.xel_histogram_merge.Statement.{statement}
 use Rattle.exports_histories.proofs.xel_histogram_merge.Tie as tie
 
-merge-requires : tie.Need-merge-requires
-merge-requires c κs = search needs
-
-number-of-requires : tie.Need-number-of-requires
-number-of-requires c κs = search needs
-
-same-length : tie.Need-same-length
-same-length c = search needs
-
 returns : tie.Need-returns
 returns c =
     let at-start = c .before .before .before .before .before .before .before .args in
@@ -23,4 +14,4 @@ returns c =
     (c .number-of .ensures ∙ answer-told (mergeInto (now (at-start .into)) (now (at-start .from))) (call .result) (call .ensures .0), call .ensures .1)
 
 pub xel-histogram-merge-spec : {M : Type 1} → statement M
-xel-histogram-merge-spec = tie.close (tie.spec merge-requires number-of-requires same-length returns)
+xel-histogram-merge-spec = tie.close (tie.spec (search needs) (search needs) (search needs) returns)

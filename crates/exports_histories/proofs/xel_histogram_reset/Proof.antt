@@ -7,15 +7,6 @@ use Rattle.codes.proofs.Told.{answer-told}
 use Rattle.exports_histories.proofs.xel_histogram_reset.Statement.{statement}
 use Rattle.exports_histories.proofs.xel_histogram_reset.Tie as tie
 
-reset-requires : tie.Need-reset-requires
-reset-requires c κs = search needs
-
-number-of-requires : tie.Need-number-of-requires
-number-of-requires c κs = search needs
-
-same-length : tie.Need-same-length
-same-length c = search needs
-
 returns : tie.Need-returns
 returns c =
     let at-start = c .before .before .before .before .before .before .args in
@@ -23,4 +14,4 @@ returns c =
     (c .number-of .ensures ∙ answer-told (cleared (now (at-start .counters))) (call .result) (call .ensures .0), call .ensures .1)
 
 pub xel-histogram-reset-spec : {M : Type 1} → statement M
-xel-histogram-reset-spec = tie.close (tie.spec reset-requires number-of-requires same-length returns)
+xel-histogram-reset-spec = tie.close (tie.spec (search needs) (search needs) (search needs) returns)

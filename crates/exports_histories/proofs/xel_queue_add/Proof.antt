@@ -19,18 +19,6 @@ refused-stays : (o : Outcome Stored NoValues) (old : Stored) (n : ℕ) → refus
 refused-stays (went kept v) old n h = absurd (let z : _≡_ {A = ℕ} 0 1 = cc in omega arith)
 refused-stays (refused r) old n h = refl
 
-add-requires : tie.Need-add-requires
-add-requires c κs = search needs
-
-enum-told : tie.Need-enum-told
-enum-told c = search needs
-
-enum-known-answer : tie.Need-enum-known-answer
-enum-known-answer c = search needs
-
-same-length : tie.Need-same-length
-same-length c = search needs
-
 returns : tie.Need-returns
 returns c =
     let after-add = c .before .before .before .before .before in
@@ -43,9 +31,6 @@ returns c =
       ap (λ (s : Stored). s .queue .held) kept,
       ap (λ (s : Stored). s .store) kept,
     )
-
-same-length-2 : tie.Need-same-length-2
-same-length-2 c = search needs
 
 returns-2 : tie.Need-returns-2
 returns-2 c =
@@ -63,4 +48,6 @@ returns-2 c =
     )
 
 pub xel-queue-add-spec : {M : Type 1} → statement M
-xel-queue-add-spec = tie.close (tie.spec add-requires enum-told enum-known-answer same-length returns same-length-2 returns-2)
+xel-queue-add-spec =
+    tie.close
+    (tie.spec (search needs) (search needs) (search needs) (search needs) returns (search needs) returns-2)

@@ -8,18 +8,6 @@ use Rattle.codes.proofs.Told.{values-told, refusal-told}
 use Rattle.exports_queue_records.proofs.xel_queue_read.Statement.{statement}
 use Rattle.exports_queue_records.proofs.xel_queue_read.Tie as tie
 
-read-queue-requires : tie.Need-read-queue-requires
-read-queue-requires c κs = search needs
-
-enum-known-queue : tie.Need-enum-known-queue
-enum-known-queue c = search needs
-
-enum-known-number : tie.Need-enum-known-number
-enum-known-number c = search needs
-
-same-length : tie.Need-same-length
-same-length c = search needs
-
 returns : tie.Need-returns
 returns c =
     let a = c .before .before .before .before .before .before .before .before .before .args in
@@ -28,9 +16,6 @@ returns c =
     let old : Queue = record { maximum = now (a .maximum); head = now (a .head); held = now (a .held) } in
     let told = values-told (readQueue (now (a .bytes)) (now (a .store))) old (given .0 .0) (ap said (sym (given .1)) ∙ call .ensures .0) in
     (told .0, ap (λ (q : Queue). q .maximum) (told .1), ap (λ (q : Queue). q .head) (told .1), ap (λ (q : Queue). q .held) (told .1), call .ensures .1)
-
-same-length-2 : tie.Need-same-length-2
-same-length-2 c = search needs
 
 returns-2 : tie.Need-returns-2
 returns-2 c =
@@ -42,4 +27,6 @@ returns-2 c =
     (told .0, ap (λ (q : Queue). q .maximum) (told .1), ap (λ (q : Queue). q .head) (told .1), ap (λ (q : Queue). q .held) (told .1), call .ensures .1)
 
 pub xel-queue-read-spec : {M : Type 1} → statement M
-xel-queue-read-spec = tie.close (tie.spec read-queue-requires enum-known-queue enum-known-number same-length returns same-length-2 returns-2)
+xel-queue-read-spec =
+    tie.close
+    (tie.spec (search needs) (search needs) (search needs) (search needs) returns (search needs) returns-2)

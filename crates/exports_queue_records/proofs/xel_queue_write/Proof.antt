@@ -9,18 +9,6 @@ use Rattle.codes.proofs.Told.{values-told, refusal-told}
 use Rattle.exports_queue_records.proofs.xel_queue_write.Statement.{statement}
 use Rattle.exports_queue_records.proofs.xel_queue_write.Tie as tie
 
-write-queue-requires : tie.Need-write-queue-requires
-write-queue-requires c κs = search needs
-
-enum-known-n : tie.Need-enum-known-n
-enum-known-n c = search needs
-
-enum-known-number : tie.Need-enum-known-number
-enum-known-number c = search needs
-
-same-length : tie.Need-same-length
-same-length c = search needs
-
 returns : tie.Need-returns
 returns c =
     let a = c .before .before .before .before .before .before .before .before .before .args in
@@ -28,9 +16,6 @@ returns c =
     let given = c .before .n .given in
     let told = values-told (writeQueue (over (record { maximum = a .maximum; head = a .head; held = a .held }) (now (a .store))) (now (a .out))) (now (a .written)) (given .0 .0) (ap said (sym (given .1)) ∙ call .ensures .0) in
     (told .0, told .1, call .ensures .1)
-
-same-length-2 : tie.Need-same-length-2
-same-length-2 c = search needs
 
 returns-2 : tie.Need-returns-2
 returns-2 c =
@@ -41,4 +26,6 @@ returns-2 c =
     (told .0, told .1, call .ensures .1)
 
 pub xel-queue-write-spec : {M : Type 1} → statement M
-xel-queue-write-spec = tie.close (tie.spec write-queue-requires enum-known-n enum-known-number same-length returns same-length-2 returns-2)
+xel-queue-write-spec =
+    tie.close
+    (tie.spec (search needs) (search needs) (search needs) (search needs) returns (search needs) returns-2)

@@ -23,9 +23,6 @@ returns c =
     let here = c .before .before .args in
     sym (past-end (now (here .bytes)) (here .at) (narrowed (here .width)) (c .if1 .taken))
 
-narrow-requires : tie.Need-narrow-requires Inv-loop μ-loop
-narrow-requires c κs = search needs
-
 none : (bytes : _) (at width : ℕ) → 0 ≡ fieldAt bytes (at + width) (width - width)
 unfolding fieldAt
 none bytes at width = let z : width - width ≡ 0 = omega arith in rw z
@@ -33,17 +30,11 @@ none bytes at width = let z : width - width ≡ 0 = omega arith in rw z
 loop-holds : tie.Need-loop-holds Inv-loop μ-loop
 loop-holds c = let here = c .before .before .before .args in (omega arith, none (now (here .bytes)) (here .at) (c .narrow .result))
 
-sub-left : tie.Need-sub-left Inv-loop μ-loop
-sub-left c = search needs
-
 few : (c : tie.In-loop Inv-loop μ-loop) → c .before .before .narrow .result ≤ 8
 few c = let w = narrowed-small (c .before .before .before .before .before .args .width) in omega (arith, c .before .before .narrow .ensures)
 
 add-byte-at : tie.Need-add-byte-at Inv-loop μ-loop
 add-byte-at c = omega (arith, few c, c .before .before .before .if1 .left)
-
-byte-at-requires : tie.Need-byte-at-requires Inv-loop μ-loop
-byte-at-requires c κs = search needs
 
 room : (c : tie.In-loop Inv-loop μ-loop) → c .before .loop .number < 2 ^ 56
 room c =
@@ -64,9 +55,6 @@ mul-number c = omega (arith, room (c .before))
 
 add-number : tie.Need-add-number Inv-loop μ-loop
 add-number c = omega (arith, room (c .before), byte-small c)
-
-loop-less : tie.Need-loop-less Inv-loop μ-loop
-loop-less c = search needs
 
 loop-again : tie.Need-loop-again Inv-loop μ-loop
 loop-again c =
@@ -90,4 +78,5 @@ returns-2 c =
 pub number-at-spec : {M : Type 1} → statement M
 number-at-spec =
     tie.close
-    (tie.spec Inv-loop μ-loop returns narrow-requires loop-holds sub-left add-byte-at byte-at-requires mul-number add-number loop-less loop-again returns-2)
+    (tie.spec Inv-loop μ-loop returns (search needs) loop-holds (search needs) add-byte-at (search needs) mul-number add-number
+    (search needs) loop-again returns-2)

@@ -20,18 +20,6 @@ abbrev μ-loop : tie.MeasureT-loop
 loop-holds : tie.Need-loop-holds Inv-loop μ-loop
 loop-holds c = (omega arith, refl, ap (λ (n : ℕ). lowBytes n (c .args .number)) (omega arith))
 
-cast-field : tie.Need-cast-field Inv-loop μ-loop
-cast-field c = search needs
-
-slice-write-field : tie.Need-slice-write-field Inv-loop μ-loop
-slice-write-field c = search needs
-
-add-i : tie.Need-add-i Inv-loop μ-loop
-add-i c = search needs
-
-loop-less : tie.Need-loop-less Inv-loop μ-loop
-loop-less c = search needs
-
 loop-again : tie.Need-loop-again Inv-loop μ-loop
 loop-again c =
     let l = c .before in (
@@ -41,9 +29,6 @@ loop-again c =
           (low-turn (l .loop .field) (l .loop .i) (length (l .loop .field) - l .loop .i) (l .loop .left) (omega arith) (omega arith) ∙ l .loop .inv .2),
     )
 
-same-length : tie.Need-same-length Inv-loop μ-loop
-same-length c = search needs
-
 returns : tie.Need-returns Inv-loop μ-loop
 returns c =
     let l = c .before in
@@ -51,4 +36,6 @@ returns c =
 
 pub put-low-spec : {M : Type 1} → statement M
 put-low-spec =
-    tie.close (tie.spec Inv-loop μ-loop loop-holds cast-field slice-write-field add-i loop-less loop-again same-length returns)
+    tie.close
+    (tie.spec Inv-loop μ-loop loop-holds (search needs) (search needs) (search needs) (search needs) loop-again (search needs)
+    returns)

@@ -9,16 +9,10 @@ use Rattle.fields.proofs.Orders.{low-first}
 use Rattle.fields.proofs.put_number.Statement.{statement}
 use Rattle.fields.proofs.put_number.Tie as tie
 
-put-low-requires : tie.Need-put-low-requires
-put-low-requires c κs = search needs
-
-same-length : tie.Need-same-length
-same-length c = search needs
-
 returns : tie.Need-returns
 returns c =
     let a = c .before .before .before .before .before .args in
     c .before .before .put-low .ensures ∙ ap (λ (o : Order). bytesOf o (length (now (a .field))) (a .number)) (sym (low-first (a .order)))
 
 pub put-number-spec : {M : Type 1} → statement M
-put-number-spec = tie.close (tie.spec put-low-requires same-length returns)
+put-number-spec = tie.close (tie.spec (search needs) (search needs) returns)

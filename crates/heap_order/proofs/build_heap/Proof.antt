@@ -23,16 +23,10 @@ loop-holds c =
     let l = c .before .args .part .now in
     (c .before .pre, record { same = unmoved l; heap = heap-start l (length l / 2) refl })
 
-sub-from : tie.Need-sub-from Inv-loop μ-loop
-sub-from c = omega arith
-
 sift-requires : tie.Need-sift-requires Inv-loop μ-loop
 sift-requires c κs =
     let kept = c .before .before .loop .inv in
     (kept .0, λ p k f d g. kept .1 .heap p k (omega arith) d g)
-
-loop-less : tie.Need-loop-less Inv-loop μ-loop
-loop-less c = omega arith
 
 loop-again : tie.Need-loop-again Inv-loop μ-loop
 loop-again c =
@@ -51,13 +45,4 @@ returns c =
 pub build-heap-spec : {M : Type 1} → statement M
 build-heap-spec =
     tie.close
-    (tie.spec
-    Inv-loop
-    μ-loop
-    loop-holds
-    sub-from
-    sift-requires
-    loop-less
-    loop-again
-    same-length
-    returns)
+    (tie.spec Inv-loop μ-loop loop-holds (λ c. omega arith) sift-requires (λ c. omega arith) loop-again same-length returns)

@@ -20,16 +20,10 @@ Inv-loop part₀ left₀ part left = Draining left part₀ part
 abbrev μ-loop : tie.MeasureT-loop
 μ-loop part₀ left₀ part left = left
 
-build-heap-requires : tie.Need-build-heap-requires Inv-loop μ-loop
-build-heap-requires c κs = search needs
-
 loop-holds : tie.Need-loop-holds Inv-loop μ-loop
 loop-holds c =
     let built = c .before .before .build-heap in
     drain-start (built .last .0) (all-perm (λ x. T (above x)) (built .ensures .same) (c .before .before .before .before .before .pre)) (built .ensures .heap)
-
-sub-left : tie.Need-sub-left Inv-loop μ-loop
-sub-left c = omega arith
 
 -- the places of the part are numbers of its kind: it is as long as at the start
 long : (c : tie.At-loop Inv-loop μ-loop) → length (c .loop .part) ≡ length (c .before .before .before .before .before .before .args .part .now)
@@ -71,9 +65,6 @@ sift-requires c κs =
     let head = c .before .before .before in
     (part-above (head .before .loop .inv) (head .loop-test .taken), part-is-heap (head .before .loop .inv) (head .loop-test .taken))
 
-loop-less : tie.Need-loop-less Inv-loop μ-loop
-loop-less c = omega arith
-
 loop-again : tie.Need-loop-again Inv-loop μ-loop
 loop-again c =
     let head = c .before .before .before .before .before .before in
@@ -91,22 +82,6 @@ returns c =
 pub heap-sort-spec : {M : Type 1} → statement M
 heap-sort-spec =
     tie.close
-    (tie.spec
-    Inv-loop
-    μ-loop
-    build-heap-requires
-    loop-holds
-    sub-left
-    slice-read-x
-    mul-y
-    slice-read-y
-    slice-write-part
-    mul-part
-    slice-write-part-2
-    slice-relend-prefix-sift
-    slice-aggregate-sift
-    sift-requires
-    loop-less
-    loop-again
-    same-length
-    returns)
+    (tie.spec Inv-loop μ-loop (λ c κs. search needs) loop-holds (λ c. omega arith) slice-read-x mul-y slice-read-y
+    slice-write-part mul-part slice-write-part-2 slice-relend-prefix-sift slice-aggregate-sift sift-requires (λ c. omega arith)
+    loop-again same-length returns)

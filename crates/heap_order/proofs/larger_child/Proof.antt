@@ -4,29 +4,8 @@ use Rattle.heap_order.proofs.Heap.{left-only, right-larger, left-larger
 use Rattle.heap_order.proofs.larger_child.Statement.{statement}
 use Rattle.heap_order.proofs.larger_child.Tie as tie
 
-mul-left : tie.Need-mul-left
-mul-left c = search needs
-
-add-left : tie.Need-add-left
-add-left c = search needs
-
-add-right : tie.Need-add-right
-add-right c = search needs
-
 returns : tie.Need-returns
 returns c = left-only (c .before .args .heap .now) (c .before .pre .1) (c .before .args .parent) (c .before .pre .0) (c .if1 .taken)
-
-mul-x : tie.Need-mul-x
-mul-x c = search needs
-
-shared-slice-read-x : tie.Need-shared-slice-read-x
-shared-slice-read-x c = search needs
-
-mul-y : tie.Need-mul-y
-mul-y c = search needs
-
-shared-slice-read-y : tie.Need-shared-slice-read-y
-shared-slice-read-y c = search needs
 
 returns-2 : tie.Need-returns-2
 returns-2 c =
@@ -41,4 +20,5 @@ returns-3 c =
 pub larger-child-spec : {M : Type 1} → statement M
 larger-child-spec =
     tie.close
-    (tie.spec mul-left add-left add-right returns mul-x shared-slice-read-x mul-y shared-slice-read-y returns-2 returns-3)
+    (tie.spec (search needs) (search needs) (search needs) returns (search needs) (search needs) (search needs) (search needs)
+    returns-2 returns-3)

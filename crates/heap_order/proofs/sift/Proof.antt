@@ -21,12 +21,6 @@ loop-holds c = (refl, refl, sink-start (c .before .args .from) (c .before .args 
 larger-child-requires : tie.Need-larger-child-requires Inv-loop μ-loop
 larger-child-requires c κs = (omega arith, c .before .before .loop .inv .2 .above)
 
-mul-x : tie.Need-mul-x Inv-loop μ-loop
-mul-x c = omega arith
-
-slice-read-x : tie.Need-slice-read-x Inv-loop μ-loop
-slice-read-x c = omega arith
-
 mul-y : tie.Need-mul-y Inv-loop μ-loop
 mul-y c = omega (arith, c .before .larger-child .ensures .inside)
 
@@ -40,12 +34,6 @@ returns : tie.Need-returns Inv-loop μ-loop
 returns c =
     let called = c .before .before .before .larger-child in
     sink-rests (c .before .before .before .before .before .before .loop .inv .2) (called .result) (called .ensures) (c .if1 .taken)
-
-mul-heap : tie.Need-mul-heap Inv-loop μ-loop
-mul-heap c = omega arith
-
-slice-write-heap : tie.Need-slice-write-heap Inv-loop μ-loop
-slice-write-heap c = omega arith
 
 mul-heap-2 : tie.Need-mul-heap-2 Inv-loop μ-loop
 mul-heap-2 c = omega (arith, c .before .before .before .larger-child .ensures .inside)
@@ -75,22 +63,6 @@ returns-2 c = sink-leaf (c .before .loop .inv .2) (omega arith)
 pub sift-spec : {M : Type 1} → statement M
 sift-spec =
     tie.close
-    (tie.spec
-    Inv-loop
-    μ-loop
-    loop-holds
-    larger-child-requires
-    mul-x
-    slice-read-x
-    mul-y
-    slice-read-y
-    same-length
-    returns
-    mul-heap
-    slice-write-heap
-    mul-heap-2
-    slice-write-heap-2
-    loop-less
-    loop-again
-    same-length-2
+    (tie.spec Inv-loop μ-loop loop-holds larger-child-requires (λ c. omega arith) (λ c. omega arith) mul-y slice-read-y
+    same-length returns (λ c. omega arith) (λ c. omega arith) mul-heap-2 slice-write-heap-2 loop-less loop-again same-length-2
     returns-2)

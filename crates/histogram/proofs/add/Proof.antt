@@ -18,14 +18,8 @@ use Rattle.histogram.proofs.add.Tie as tie
 returns : tie.Need-returns
 returns c = rw (add-store _ _ (c .if1 .taken)) (refl, refl)
 
-lowest-boundary-requires : tie.Need-lowest-boundary-requires
-lowest-boundary-requires c κs = search needs
-
 returns-2 : tie.Need-returns-2
 returns-2 c = rw (add-dropped _ _ (c .before .before .if1 .left) (ap (lt (c .before .before .before .before .args .energy)) (sym (c .before .lowest-boundary .ensures)) ∙ c .if2 .taken)) (refl, refl)
-
-find-histogram-index-requires : tie.Need-find-histogram-index-requires
-find-histogram-index-requires c κs = search needs
 
 -- the bin found is one of the histogram's
 below : (c : tie.After-find-histogram-index) → c .find-histogram-index .result < bins
@@ -61,9 +55,6 @@ mul-counters c = omega (arith, below (c .before .before))
 slice-write-counters : tie.Need-slice-write-counters
 slice-write-counters c = omega (arith, below (c .before .before))
 
-same-length : tie.Need-same-length
-same-length c = search needs
-
 returns-4 : tie.Need-returns-4
 returns-4 c =
     let f = c .before .before in
@@ -75,16 +66,5 @@ returns-4 c =
 pub add-spec : {M : Type 1} → statement M
 add-spec =
     tie.close
-    (tie.spec
-    returns
-    lowest-boundary-requires
-    returns-2
-    find-histogram-index-requires
-    mul-count
-    slice-read-count
-    returns-3
-    add-counters
-    mul-counters
-    slice-write-counters
-    same-length
-    returns-4)
+    (tie.spec returns (search needs) returns-2 (search needs) mul-count slice-read-count returns-3 add-counters mul-counters
+    slice-write-counters (search needs) returns-4)

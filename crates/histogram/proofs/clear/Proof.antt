@@ -21,18 +21,6 @@ abbrev μ-loop : tie.MeasureT-loop
 loop-holds : tie.Need-loop-holds Inv-loop μ-loop
 loop-holds c = (omega arith, refl, refl)
 
-mul-counters : tie.Need-mul-counters Inv-loop μ-loop
-mul-counters c = search needs
-
-slice-write-counters : tie.Need-slice-write-counters Inv-loop μ-loop
-slice-write-counters c = search needs
-
-add-bin : tie.Need-add-bin Inv-loop μ-loop
-add-bin c = search needs
-
-loop-less : tie.Need-loop-less Inv-loop μ-loop
-loop-less c = search needs
-
 loop-again : tie.Need-loop-again Inv-loop μ-loop
 loop-again c =
     let l = c .before in (
@@ -40,9 +28,6 @@ loop-again c =
       simp length-set (l .loop .inv .1),
       ap (λ (s : List ℕ). set s (l .loop .bin) 0) (l .loop .inv .2) ∙ fill-more (l .loop .bin) 0 (now (l .before .args .counters)) (omega arith),
     )
-
-same-length : tie.Need-same-length Inv-loop μ-loop
-same-length c = search needs
 
 returns : tie.Need-returns Inv-loop μ-loop
 returns c =
@@ -52,14 +37,5 @@ returns c =
 pub clear-spec : {M : Type 1} → statement M
 clear-spec =
     tie.close
-    (tie.spec
-    Inv-loop
-    μ-loop
-    loop-holds
-    mul-counters
-    slice-write-counters
-    add-bin
-    loop-less
-    loop-again
-    same-length
+    (tie.spec Inv-loop μ-loop loop-holds (search needs) (search needs) (search needs) (search needs) loop-again (search needs)
     returns)

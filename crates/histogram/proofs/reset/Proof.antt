@@ -8,16 +8,10 @@ use Rattle.histogram.proofs.reset.Tie as tie
 returns : tie.Need-returns
 returns c = rw (clear-store _ (c .if1 .taken)) (refl, refl)
 
-clear-requires : tie.Need-clear-requires
-clear-requires c κs = search needs
-
-same-length : tie.Need-same-length
-same-length c = search needs
-
 returns-2 : tie.Need-returns-2
 returns-2 c =
     let k = c .before .before in
     rw (clear-went _ (k .before .before .if1 .left)) (refl, k .clear .ensures)
 
 pub reset-spec : {M : Type 1} → statement M
-reset-spec = tie.close (tie.spec returns clear-requires same-length returns-2)
+reset-spec = tie.close (tie.spec returns (search needs) (search needs) returns-2)

@@ -8,15 +8,6 @@ use Rattle.tables.proofs.Taken.{boundary-entry}
 use Rattle.histogram_bins.proofs.boundary.Statement.{statement}
 use Rattle.histogram_bins.proofs.boundary.Tie as tie
 
-all-boundaries-requires : tie.Need-all-boundaries-requires
-all-boundaries-requires c κs = search needs
-
-mul-result : tie.Need-mul-result
-mul-result c = search needs
-
-array-read-result : tie.Need-array-read-result
-array-read-result c = search needs
-
 returns : tie.Need-returns
 returns c = boundary-entry (c .all-boundaries .result) (c .before .before .args .i) (c .all-boundaries .ensures)
 
@@ -25,4 +16,4 @@ unfolding div ofBits
 returns-2 c = sym (boundary-past (c .before .args .i) (search needs))
 
 pub boundary-spec : {M : Type 1} → statement M
-boundary-spec = tie.close (tie.spec all-boundaries-requires mul-result array-read-result returns returns-2)
+boundary-spec = tie.close (tie.spec (search needs) (search needs) (search needs) returns returns-2)

@@ -8,15 +8,6 @@ use Rattle.tables.proofs.Taken.{energy-entry}
 use Rattle.histogram_bins.proofs.energy.Statement.{statement}
 use Rattle.histogram_bins.proofs.energy.Tie as tie
 
-all-energies-requires : tie.Need-all-energies-requires
-all-energies-requires c κs = search needs
-
-mul-result : tie.Need-mul-result
-mul-result c = search needs
-
-array-read-result : tie.Need-array-read-result
-array-read-result c = search needs
-
 returns : tie.Need-returns
 returns c = energy-entry (c .all-energies .result) (c .before .before .args .i) (c .all-energies .ensures)
 
@@ -25,4 +16,4 @@ unfolding div ofBits
 returns-2 c = sym (energy-past (c .before .args .i) (search needs))
 
 pub energy-spec : {M : Type 1} → statement M
-energy-spec = tie.close (tie.spec all-energies-requires mul-result array-read-result returns returns-2)
+energy-spec = tie.close (tie.spec (search needs) (search needs) (search needs) returns returns-2)

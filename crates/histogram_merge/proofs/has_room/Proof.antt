@@ -20,26 +20,8 @@ abbrev μ-loop : tie.MeasureT-loop
 loop-holds : tie.Need-loop-holds Inv-loop μ-loop
 loop-holds c = (omega arith, refl)
 
-mul-fits : tie.Need-mul-fits Inv-loop μ-loop
-mul-fits c = search needs
-
-shared-slice-read-fits : tie.Need-shared-slice-read-fits Inv-loop μ-loop
-shared-slice-read-fits c = search needs
-
-mul-fits-2 : tie.Need-mul-fits-2 Inv-loop μ-loop
-mul-fits-2 c = search needs
-
-shared-slice-read-fits-2 : tie.Need-shared-slice-read-fits-2 Inv-loop μ-loop
-shared-slice-read-fits-2 c = search needs
-
 sub-fits : tie.Need-sub-fits Inv-loop μ-loop
 sub-fits c = omega (arith, c .shared-slice-known2 .given (c .before .before .before .loop .bin))
-
-add-bin : tie.Need-add-bin Inv-loop μ-loop
-add-bin c = search needs
-
-loop-less : tie.Need-loop-less Inv-loop μ-loop
-loop-less c = search needs
 
 loop-again : tie.Need-loop-again Inv-loop μ-loop
 loop-again c =
@@ -58,16 +40,5 @@ returns c =
 pub has-room-spec : {M : Type 1} → statement M
 has-room-spec =
     tie.close
-    (tie.spec
-    Inv-loop
-    μ-loop
-    loop-holds
-    mul-fits
-    shared-slice-read-fits
-    mul-fits-2
-    shared-slice-read-fits-2
-    sub-fits
-    add-bin
-    loop-less
-    loop-again
-    returns)
+    (tie.spec Inv-loop μ-loop loop-holds (search needs) (search needs) (search needs) (search needs) sub-fits (search needs)
+    (search needs) loop-again returns)

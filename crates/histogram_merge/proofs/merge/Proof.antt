@@ -13,9 +13,6 @@ returns c = rw (merge-store _ _ (c .if1 .taken)) (refl, refl)
 returns-2 : tie.Need-returns-2
 returns-2 c = rw (merge-store-from _ _ (c .before .if1 .left) (c .if2 .taken)) (refl, refl)
 
-has-room-requires : tie.Need-has-room-requires
-has-room-requires c κs = search needs
-
 room-is : (c : tie.After-has-room)
     → room (now (c .before .before .before .before .before .before .args .into)) (now (c .before .before .before .before .before .before .args .from))
     ≡ c .has-room .result
@@ -24,17 +21,11 @@ room-is c = sym (c .has-room .ensures)
 add-all-requires : tie.Need-add-all-requires
 add-all-requires c κs = (search needs, room-is (c .before .before) ∙ c .before .if3 .taken)
 
-same-length : tie.Need-same-length
-same-length c = search needs
-
 returns-3 : tie.Need-returns-3
 returns-3 c =
     let t = c .before .before .before .before in
     let e = t .before .before .before in
     rw (merge-went _ _ (e .before .if1 .left) (e .if2 .left) (room-is (t .before) ∙ t .if3 .taken)) (refl, c .before .before .add-all .ensures)
-
-same-length-2 : tie.Need-same-length-2
-same-length-2 c = search needs
 
 returns-4 : tie.Need-returns-4
 returns-4 c =
@@ -42,4 +33,6 @@ returns-4 c =
     rw (merge-full _ _ (e .before .if1 .left) (e .if2 .left) (room-is (c .before) ∙ c .if3 .left)) (refl, refl)
 
 pub merge-spec : {M : Type 1} → statement M
-merge-spec = tie.close (tie.spec returns returns-2 has-room-requires add-all-requires same-length returns-3 same-length-2 returns-4)
+merge-spec =
+    tie.close
+    (tie.spec returns returns-2 (search needs) add-all-requires (search needs) returns-3 (search needs) returns-4)

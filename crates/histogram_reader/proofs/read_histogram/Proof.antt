@@ -17,12 +17,6 @@ use Rattle.histogram_reader.proofs.Cases.{framed-length, read-behind, r
 use Rattle.histogram_reader.proofs.read_histogram.Statement.{statement}
 use Rattle.histogram_reader.proofs.read_histogram.Tie as tie
 
-frame-requires : tie.Need-frame-requires
-frame-requires c κs = search needs
-
-enum-told : tie.Need-enum-told
-enum-told c = search needs
-
 past-frame : (c : tie.After-enum-told) → numberOf (frameRows Histogram (now (c .before .before .before .before .before .args .bytes))) ≡ 0
 unfolding frameOf
 past-frame c =
@@ -33,19 +27,10 @@ returns c =
     let a = c .before .before .before .before .before .before .args in
     rw (read-behind (now (a .bytes)) (now (a .counters)) (past-frame (c .before))) (rw (ne-eqb (length (now (a .counters))) bins (c .if1 .taken)) (refl, refl))
 
-order-of-requires : tie.Need-order-of-requires
-order-of-requires c κs = search needs
-
 read-counters-requires : tie.Need-read-counters-requires
 read-counters-requires c κs =
     let e = c .before .before in
     (framed-length (now (e .before .before .before .before .before .before .args .bytes)) (past-frame (e .before)), e .if1 .left)
-
-enum-known-number : tie.Need-enum-known-number
-enum-known-number c = search needs
-
-same-length : tie.Need-same-length
-same-length c = search needs
 
 returns-2 : tie.Need-returns-2
 unfolding countersIn
@@ -72,4 +57,6 @@ returns-3 c =
 
 pub read-histogram-spec : {M : Type 1} → statement M
 read-histogram-spec =
-    tie.close (tie.spec frame-requires enum-told returns order-of-requires read-counters-requires enum-known-number same-length returns-2 returns-3)
+    tie.close
+    (tie.spec (search needs) (search needs) returns (search needs) read-counters-requires (search needs) (search needs) returns-2
+    returns-3)

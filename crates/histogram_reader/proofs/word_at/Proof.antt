@@ -9,33 +9,10 @@ use Rattle.fields.proofs.Orders.{number-within}
 use Rattle.histogram_reader.proofs.word_at.Statement.{statement}
 use Rattle.histogram_reader.proofs.word_at.Tie as tie
 
-add-end : tie.Need-add-end
-add-end c = search needs
-
-sub-word : tie.Need-sub-word
-sub-word c = search needs
-
-part-word-start : tie.Need-part-word-start
-part-word-start c = search needs
-
-part-word-end : tie.Need-part-word-end
-part-word-end c = search needs
-
-word-requires : tie.Need-word-requires
-word-requires c κs = search needs
-
 returns : tie.Need-returns
 returns c =
     let a = c .before .before .before .args in
     c .word .ensures ∙ number-within (a .order) 4 (drop (a .at) (now (a .bytes))) (a .at + 4 - a .at) (omega arith)
 
 pub word-at-spec : {M : Type 1} → statement M
-word-at-spec =
-    tie.close
-    (tie.spec
-    add-end
-    sub-word
-    part-word-start
-    part-word-end
-    word-requires
-    returns)
+word-at-spec = tie.close (tie.spec (search needs) (search needs) (search needs) (search needs) (search needs) returns)

@@ -9,12 +9,6 @@ use Rattle.fields.proofs.Orders.{low-first}
 use Rattle.histogram_writer.proofs.put_word.Statement.{statement}
 use Rattle.histogram_writer.proofs.put_word.Tie as tie
 
-put-low-word-requires : tie.Need-put-low-word-requires
-put-low-word-requires c κs = search needs
-
-same-length : tie.Need-same-length
-same-length c = search needs
-
 returns : tie.Need-returns
 returns c =
     let a = c .before .before .before .before .before .args in
@@ -22,4 +16,4 @@ returns c =
     ∙ ap (λ (order : Order). sets (now (a .out)) (a .at) (bytesOf order 4 (a .word))) (sym (low-first (a .order)))
 
 pub put-word-spec : {M : Type 1} → statement M
-put-word-spec = tie.close (tie.spec put-low-word-requires same-length returns)
+put-word-spec = tie.close (tie.spec (search needs) (search needs) returns)

@@ -23,38 +23,11 @@ abbrev μ-loop : tie.MeasureT-loop
 loop-holds : tie.Need-loop-holds Inv-loop μ-loop
 loop-holds c = (refl, refl)
 
-mul-places : tie.Need-mul-places Inv-loop μ-loop
-mul-places c = search needs
-
-shared-slice-read-places : tie.Need-shared-slice-read-places Inv-loop μ-loop
-shared-slice-read-places c = search needs
-
-mul-places-2 : tie.Need-mul-places-2 Inv-loop μ-loop
-mul-places-2 c = search needs
-
-array-write-places : tie.Need-array-write-places Inv-loop μ-loop
-array-write-places c = search needs
-
-add-i : tie.Need-add-i Inv-loop μ-loop
-add-i c = search needs
-
-loop-less : tie.Need-loop-less Inv-loop μ-loop
-loop-less c = search needs
-
 loop-again : tie.Need-loop-again Inv-loop μ-loop
 loop-again c =
     let l = c .before .before in
     let counters = now (l .before .before .before .args .counters) in
     (simp length-set (l .loop .inv .0), copy-turn counters (l .loop .places) (l .loop .i) (omega arith) (omega arith) ∙ l .loop .inv .1)
-
-slice-aggregate-write-words : tie.Need-slice-aggregate-write-words Inv-loop μ-loop
-slice-aggregate-write-words c = search needs
-
-write-words-requires : tie.Need-write-words-requires Inv-loop μ-loop
-write-words-requires c κs = search needs
-
-same-length : tie.Need-same-length Inv-loop μ-loop
-same-length c = search needs
 
 returns : tie.Need-returns Inv-loop μ-loop
 returns c =
@@ -68,18 +41,5 @@ returns c =
 pub write-counters-spec : {M : Type 1} → statement M
 write-counters-spec =
     tie.close
-    (tie.spec
-    Inv-loop
-    μ-loop
-    loop-holds
-    mul-places
-    shared-slice-read-places
-    mul-places-2
-    array-write-places
-    add-i
-    loop-less
-    loop-again
-    slice-aggregate-write-words
-    write-words-requires
-    same-length
-    returns)
+    (tie.spec Inv-loop μ-loop loop-holds (search needs) (search needs) (search needs) (search needs) (search needs) (search needs)
+    loop-again (search needs) (search needs) (search needs) returns)

@@ -35,19 +35,10 @@ returns-2 c =
     )
     (refl, refl)
 
-put-head-requires : tie.Need-put-head-requires
-put-head-requires c κs = search needs
-
-order-of-requires : tie.Need-order-of-requires
-order-of-requires c κs = search needs
-
 write-counters-requires : tie.Need-write-counters-requires
 write-counters-requires c κs =
     let d = c .before .before .before .before .before .before in
     (d .before .if1 .left, omega (arith, d .if2 .left))
-
-same-length : tie.Need-same-length
-same-length c = search needs
 
 returns-3 : tie.Need-returns-3
 unfolding writeHistogram
@@ -72,4 +63,6 @@ returns-3 c =
     )
 
 pub write-histogram-spec : {M : Type 1} → statement M
-write-histogram-spec = tie.close (tie.spec returns returns-2 put-head-requires order-of-requires write-counters-requires same-length returns-3)
+write-histogram-spec =
+    tie.close
+    (tie.spec returns returns-2 (search needs) (search needs) write-counters-requires (search needs) returns-3)

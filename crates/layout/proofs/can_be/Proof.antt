@@ -6,12 +6,6 @@ use Rattle.layout.specs.Layout.{canBe}
 use Rattle.layout.proofs.can_be.Statement.{statement}
 use Rattle.layout.proofs.can_be.Tie as tie
 
-enum-told : tie.Need-enum-told
-enum-told c = search needs
-
-enum-told-2 : tie.Need-enum-told-2
-enum-told-2 c = search needs
-
 returns : tie.Need-returns
 returns c = sym (ap (λ (k : Kind). canBe k (c .before .before .args .length)) (c .enum-told .given .1))
 
@@ -19,4 +13,4 @@ returns-2 : tie.Need-returns-2
 returns-2 c = sym (ap (λ (k : Kind). canBe k (c .before .before .args .length)) (c .enum-told2 .given .1))
 
 pub can-be-spec : {M : Type 1} → statement M
-can-be-spec = tie.close (tie.spec enum-told enum-told-2 returns returns-2)
+can-be-spec = tie.close (tie.spec (search needs) (search needs) returns returns-2)

@@ -30,12 +30,6 @@ returns : tie.Need-returns
 unfolding frameOf
 returns c = rw (lt-ltb (length (now (c .before .before .args .bytes))) headWidth (c .if1 .taken))
 
-number-at-requires : tie.Need-number-at-requires
-number-at-requires c κs = search needs
-
-kind-number-requires : tie.Need-kind-number-requires
-kind-number-requires c κs = search needs
-
 returns-2 : tie.Need-returns-2
 unfolding frameOf
 returns-2 c =
@@ -44,12 +38,6 @@ returns-2 c =
       long (c .before .before .before),
       ne-eqb (kindIn (now (a .bytes))) (kindNumber (a .kind)) (λ e. c .if2 .taken (c .before .before .number-at .ensures ∙ e ∙ sym (c .before .kind-number .ensures))),
     )
-
-number-at-requires-2 : tie.Need-number-at-requires-2
-number-at-requires-2 c κs = search needs
-
-sub-if3 : tie.Need-sub-if3
-sub-if3 c = search needs
 
 returns-3 : tie.Need-returns-3
 unfolding frameOf
@@ -61,9 +49,6 @@ returns-3 c =
       same-kind d,
       ne-eqb (lengthIn bytes) (length bytes - lengthWidth) (λ e. c .if3 .taken (c .before .number-at2 .ensures ∙ e)),
     )
-
-can-be-requires : tie.Need-can-be-requires
-can-be-requires c κs = search needs
 
 -- what the kind's own rule decides
 ruled : (c : tie.After-can-be) → let a = c .before .before .before .before .before .before .before .before .args in
@@ -89,4 +74,5 @@ returns-5 c =
 pub frame-spec : {M : Type 1} → statement M
 frame-spec =
     tie.close
-    (tie.spec returns number-at-requires kind-number-requires returns-2 number-at-requires-2 sub-if3 returns-3 can-be-requires returns-4 returns-5)
+    (tie.spec returns (search needs) (search needs) returns-2 (search needs) (search needs) returns-3 (search needs) returns-4
+    returns-5)

@@ -11,32 +11,8 @@ use Rattle.layout.proofs.Heads.{head-put, no-head}
 use Rattle.layout.proofs.put_head.Statement.{statement}
 use Rattle.layout.proofs.put_head.Tie as tie
 
-slice-relend-prefix-put-number : tie.Need-slice-relend-prefix-put-number
-slice-relend-prefix-put-number c = search needs
-
 slice-aggregate-put-number : tie.Need-slice-aggregate-put-number
 slice-aggregate-put-number c = sym (length-take-le 4 (now (c .before .before .before .args .out)) (omega arith))
-
-put-number-requires : tie.Need-put-number-requires
-put-number-requires c κs = search needs
-
-sub-put-number : tie.Need-sub-put-number
-sub-put-number c = search needs
-
-part-put-number-start : tie.Need-part-put-number-start
-part-put-number-start c = search needs
-
-part-put-number-end : tie.Need-part-put-number-end
-part-put-number-end c = search needs
-
-kind-number-requires : tie.Need-kind-number-requires
-kind-number-requires c κs = search needs
-
-put-number-requires-2 : tie.Need-put-number-requires-2
-put-number-requires-2 c κs = search needs
-
-same-length : tie.Need-same-length
-same-length c = search needs
 
 returns : tie.Need-returns
 returns c =
@@ -52,5 +28,5 @@ returns-2 c = let a = c .before .before .args in sym (no-head (a .kind) (a .leng
 pub put-head-spec : {M : Type 1} → statement M
 put-head-spec =
     tie.close
-    (tie.spec slice-relend-prefix-put-number slice-aggregate-put-number put-number-requires sub-put-number part-put-number-start part-put-number-end
-    kind-number-requires put-number-requires-2 same-length returns returns-2)
+    (tie.spec (search needs) slice-aggregate-put-number (search needs) (search needs) (search needs) (search needs) (search needs)
+    (search needs) (search needs) returns returns-2)

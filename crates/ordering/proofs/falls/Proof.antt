@@ -20,26 +20,8 @@ abbrev μ-loop : tie.MeasureT-loop
 returns : tie.Need-returns Inv-loop μ-loop
 returns c = λ e. let n = no-energies (c .before .before .args .energies .now) (c .if1 .taken) in (n .0, n .2)
 
-sub-last : tie.Need-sub-last Inv-loop μ-loop
-sub-last c = omega arith
-
 loop-holds : tie.Need-loop-holds Inv-loop μ-loop
 loop-holds c = (omega arith, λ k a b. absurd (omega arith))
-
-sub-loop : tie.Need-sub-loop Inv-loop μ-loop
-sub-loop c = omega arith
-
-add-sinks : tie.Need-add-sinks Inv-loop μ-loop
-add-sinks c = omega arith
-
-sinks-requires : tie.Need-sinks-requires Inv-loop μ-loop
-sinks-requires c κs = omega arith
-
-add-i : tie.Need-add-i Inv-loop μ-loop
-add-i c = omega arith
-
-loop-less : tie.Need-loop-less Inv-loop μ-loop
-loop-less c = omega arith
 
 loop-again : tie.Need-loop-again Inv-loop μ-loop
 loop-again c =
@@ -49,15 +31,6 @@ loop-again c =
 
 returns-2 : tie.Need-returns-2 Inv-loop μ-loop
 returns-2 c = λ e. absurd (true≢false (sym e))
-
-sinks-requires-2 : tie.Need-sinks-requires-2 Inv-loop μ-loop
-sinks-requires-2 c κs = omega arith
-
-mul-result : tie.Need-mul-result Inv-loop μ-loop
-mul-result c = omega arith
-
-shared-slice-read-result : tie.Need-shared-slice-read-result Inv-loop μ-loop
-shared-slice-read-result c = omega arith
 
 returns-3 : tie.Need-returns-3 Inv-loop μ-loop
 returns-3 c = λ e.
@@ -72,21 +45,6 @@ returns-4 c = λ e. absurd (true≢false (sym e))
 pub falls-spec : {M : Type 1} → statement M
 falls-spec =
     tie.close
-    (tie.spec
-    Inv-loop
-    μ-loop
-    returns
-    sub-last
-    loop-holds
-    sub-loop
-    add-sinks
-    sinks-requires
-    add-i
-    loop-less
-    loop-again
-    returns-2
-    sinks-requires-2
-    mul-result
-    shared-slice-read-result
-    returns-3
-    returns-4)
+    (tie.spec Inv-loop μ-loop returns (λ c. omega arith) loop-holds (λ c. omega arith) (λ c. omega arith) (λ c κs. omega arith)
+    (λ c. omega arith) (λ c. omega arith) loop-again returns-2 (λ c κs. omega arith) (λ c. omega arith) (λ c. omega arith)
+    returns-3 returns-4)

@@ -20,26 +20,8 @@ abbrev μ-loop : tie.MeasureT-loop
 returns : tie.Need-returns Inv-loop μ-loop
 returns c = λ e. let n = no-energies (c .before .before .args .energies .now) (c .if1 .taken) in (n .0, n .1)
 
-sub-last : tie.Need-sub-last Inv-loop μ-loop
-sub-last c = omega arith
-
 loop-holds : tie.Need-loop-holds Inv-loop μ-loop
 loop-holds c = (omega arith, λ k a b. absurd (omega arith))
-
-sub-loop : tie.Need-sub-loop Inv-loop μ-loop
-sub-loop c = omega arith
-
-add-climbs : tie.Need-add-climbs Inv-loop μ-loop
-add-climbs c = omega arith
-
-climbs-requires : tie.Need-climbs-requires Inv-loop μ-loop
-climbs-requires c κs = omega arith
-
-add-i : tie.Need-add-i Inv-loop μ-loop
-add-i c = omega arith
-
-loop-less : tie.Need-loop-less Inv-loop μ-loop
-loop-less c = omega arith
 
 loop-again : tie.Need-loop-again Inv-loop μ-loop
 loop-again c =
@@ -49,12 +31,6 @@ loop-again c =
 
 returns-2 : tie.Need-returns-2 Inv-loop μ-loop
 returns-2 c = λ e. absurd (true≢false (sym e))
-
-climbs-requires-2 : tie.Need-climbs-requires-2 Inv-loop μ-loop
-climbs-requires-2 c κs = omega arith
-
-shared-slice-read-result : tie.Need-shared-slice-read-result Inv-loop μ-loop
-shared-slice-read-result c = omega arith
 
 returns-3 : tie.Need-returns-3 Inv-loop μ-loop
 returns-3 c = λ e.
@@ -69,20 +45,5 @@ returns-4 c = λ e. absurd (true≢false (sym e))
 pub rises-spec : {M : Type 1} → statement M
 rises-spec =
     tie.close
-    (tie.spec
-    Inv-loop
-    μ-loop
-    returns
-    sub-last
-    loop-holds
-    sub-loop
-    add-climbs
-    climbs-requires
-    add-i
-    loop-less
-    loop-again
-    returns-2
-    climbs-requires-2
-    shared-slice-read-result
-    returns-3
-    returns-4)
+    (tie.spec Inv-loop μ-loop returns (λ c. omega arith) loop-holds (λ c. omega arith) (λ c. omega arith) (λ c κs. omega arith)
+    (λ c. omega arith) (λ c. omega arith) loop-again returns-2 (λ c κs. omega arith) (λ c. omega arith) returns-3 returns-4)

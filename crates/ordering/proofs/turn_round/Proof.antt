@@ -19,18 +19,6 @@ abbrev μ-loop : tie.MeasureT-loop
 loop-holds : tie.Need-loop-holds Inv-loop μ-loop
 loop-holds c = (refl, omega arith, turn-start (c .before .args .part .now))
 
-sub-loop : tie.Need-sub-loop Inv-loop μ-loop
-sub-loop c = search needs
-
-exchange-two-requires : tie.Need-exchange-two-requires Inv-loop μ-loop
-exchange-two-requires c κs = search needs
-
-add-i : tie.Need-add-i Inv-loop μ-loop
-add-i c = search needs
-
-loop-less : tie.Need-loop-less Inv-loop μ-loop
-loop-less c = search needs
-
 loop-again : tie.Need-loop-again Inv-loop μ-loop
 loop-again c =
     let call = c .before .before in
@@ -43,9 +31,6 @@ same-length c = sym (perm-length (c .before .before .loop .inv .2 .same))
 
 returns : tie.Need-returns Inv-loop μ-loop
 returns c = let head = c .before .before .loop in turn-done (head .i) _ (head .part) (omega arith) (head .inv .2)
-
-exchange-requires : tie.Need-exchange-requires Inv-loop μ-loop
-exchange-requires c κs = search needs
 
 same-length-2 : tie.Need-same-length-2 Inv-loop μ-loop
 same-length-2 c =
@@ -64,17 +49,5 @@ returns-2 c =
 pub turn-round-spec : {M : Type 1} → statement M
 turn-round-spec =
     tie.close
-    (tie.spec
-    Inv-loop
-    μ-loop
-    loop-holds
-    sub-loop
-    exchange-two-requires
-    add-i
-    loop-less
-    loop-again
-    same-length
-    returns
-    exchange-requires
-    same-length-2
-    returns-2)
+    (tie.spec Inv-loop μ-loop loop-holds (search needs) (search needs) (search needs) (search needs) loop-again same-length
+    returns (search needs) same-length-2 returns-2)

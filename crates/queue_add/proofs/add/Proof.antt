@@ -44,12 +44,6 @@ went-on c place p =
     enqueue-went (a .queue) (now (a .store)) (a .energy) (sym (f .before .suits .ensures) ∙ f .if1 .taken) (taken c)
     ∙ ap {B = Outcome Stored NoValues} (λ (n : ℕ). went (over (advanced (a .queue)) (set (now (a .store)) n (a .energy))) done) (sym p)
 
-suits-requires : tie.Need-suits-requires
-suits-requires c κs = search needs
-
-lowest-boundary-requires : tie.Need-lowest-boundary-requires
-lowest-boundary-requires c κs = search needs
-
 returns : tie.Need-returns
 returns c =
     let a = c .before .before .before .before .before .args in
@@ -73,9 +67,6 @@ slice-write-store c = let f = suited-here (c .before .before .before .before) in
 add-t14 : tie.Need-add-t14
 add-t14 c = let f = suited-here (c .before .before .before .before) in omega arith
 
-same-length : tie.Need-same-length
-same-length c = search needs
-
 returns-2 : tie.Need-returns-2
 returns-2 c =
     let e = c .before .before in
@@ -90,9 +81,6 @@ slice-write-store-2 c = let f = suited-here (c .before .before .before) in omega
 
 after-requires : tie.Need-after-requires
 after-requires c κs = let f = suited-here (c .before .before .before) in omega arith
-
-same-length-2 : tie.Need-same-length-2
-same-length-2 c = search needs
 
 returns-3 : tie.Need-returns-3
 returns-3 c =
@@ -110,20 +98,5 @@ returns-4 c =
 pub add-spec : {M : Type 1} → statement M
 add-spec =
     tie.close
-    (tie.spec
-    suits-requires
-    lowest-boundary-requires
-    returns
-    add-on-ring
-    on-ring-requires
-    mul-store
-    slice-write-store
-    add-t14
-    same-length
-    returns-2
-    mul-store-2
-    slice-write-store-2
-    after-requires
-    same-length-2
-    returns-3
-    returns-4)
+    (tie.spec (search needs) (search needs) returns add-on-ring on-ring-requires mul-store slice-write-store add-t14
+    (search needs) returns-2 mul-store-2 slice-write-store-2 after-requires (search needs) returns-3 returns-4)

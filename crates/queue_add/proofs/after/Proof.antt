@@ -7,9 +7,6 @@ use borrow.Author.Needs.{needs}
 use Rattle.queue_add.proofs.after.Statement.{statement}
 use Rattle.queue_add.proofs.after.Tie as tie
 
-add-next : tie.Need-add-next
-add-next c = search needs
-
 returns : tie.Need-returns
 returns c = sym (mod-eq-of-lt (c .if1 .taken))
 
@@ -20,4 +17,4 @@ returns-2 c =
     sym (ap (λ n. n % a .maximum) last ∙ mod-self (a .maximum))
 
 pub after-spec : {M : Type 1} → statement M
-after-spec = tie.close (tie.spec add-next returns returns-2)
+after-spec = tie.close (tie.spec (search needs) returns returns-2)

@@ -25,24 +25,6 @@ loop-holds c =
     let a = c .before .args in
     (omega arith, ap allFinite (all-left (a .order) 8 (now (a .bytes)) (a .at) (a .count)))
 
-mul-pattern-at : tie.Need-mul-pattern-at Inv-loop μ-loop
-mul-pattern-at c = search needs
-
-add-pattern-at : tie.Need-add-pattern-at Inv-loop μ-loop
-add-pattern-at c = search needs
-
-pattern-at-requires : tie.Need-pattern-at-requires Inv-loop μ-loop
-pattern-at-requires c κs = omega arith
-
-finite-fits-requires : tie.Need-finite-fits-requires Inv-loop μ-loop
-finite-fits-requires c κs = search needs
-
-add-i : tie.Need-add-i Inv-loop μ-loop
-add-i c = search needs
-
-loop-less : tie.Need-loop-less Inv-loop μ-loop
-loop-less c = search needs
-
 loop-again : tie.Need-loop-again Inv-loop μ-loop
 loop-again c =
     let d = c .before in
@@ -64,4 +46,6 @@ returns c =
 
 pub all-finite-spec : {M : Type 1} → statement M
 all-finite-spec =
-    tie.close (tie.spec Inv-loop μ-loop loop-holds mul-pattern-at add-pattern-at pattern-at-requires finite-fits-requires add-i loop-less loop-again returns)
+    tie.close
+    (tie.spec Inv-loop μ-loop loop-holds (search needs) (search needs) (λ c κs. omega arith) (search needs) (search needs)
+    (search needs) loop-again returns)

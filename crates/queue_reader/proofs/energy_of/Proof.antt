@@ -12,8 +12,5 @@ returns c = own-nan (c .before .args .pattern) (c .if1 .taken)
 float-from-bits-result : tie.Need-float-from-bits-result
 float-from-bits-result c = other-number (c .before .args .pattern) (c .before .pre) (c .if1 .left)
 
-returns-2 : tie.Need-returns-2
-returns-2 c = search needs
-
 pub energy-of-spec : {M : Type 1} → statement M
-energy-of-spec = tie.close (tie.spec returns float-from-bits-result returns-2)
+energy-of-spec = tie.close (tie.spec returns float-from-bits-result (search needs))

@@ -8,9 +8,6 @@ use Rattle.queue_reader.proofs.finite_fits.Tie as tie
 float-from-bits-result : tie.Need-float-from-bits-result
 float-from-bits-result c = below-infinity (c .before .args .pattern) (c .if1 .taken)
 
-lowest-boundary-requires : tie.Need-lowest-boundary-requires
-lowest-boundary-requires c κs = search needs
-
 returns : tie.Need-returns
 returns c = rw (c .lowest-boundary .ensures) (finite-is (c .before .before .args .pattern) (c .before .if1 .taken))
 
@@ -18,4 +15,4 @@ returns-2 : tie.Need-returns-2
 returns-2 c = sym (not-finite (c .before .args .pattern) (c .if1 .left))
 
 pub finite-fits-spec : {M : Type 1} → statement M
-finite-fits-spec = tie.close (tie.spec float-from-bits-result lowest-boundary-requires returns returns-2)
+finite-fits-spec = tie.close (tie.spec float-from-bits-result (search needs) returns returns-2)

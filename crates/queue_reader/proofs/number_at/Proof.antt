@@ -9,24 +9,6 @@ use Rattle.fields.proofs.Orders.{number-within}
 use Rattle.queue_reader.proofs.number_at.Statement.{statement}
 use Rattle.queue_reader.proofs.number_at.Tie as tie
 
-add-end : tie.Need-add-end
-add-end c = search needs
-
-sub-word : tie.Need-sub-word
-sub-word c = search needs
-
-part-word-start : tie.Need-part-word-start
-part-word-start c = search needs
-
-part-word-end : tie.Need-part-word-end
-part-word-end c = search needs
-
-word-requires : tie.Need-word-requires
-word-requires c κs = search needs
-
-cast-result : tie.Need-cast-result
-cast-result c = search needs
-
 returns : tie.Need-returns
 returns c =
     let a = c .before .before .before .args in
@@ -35,11 +17,4 @@ returns c =
 pub number-at-spec : {M : Type 1} → statement M
 number-at-spec =
     tie.close
-    (tie.spec
-    add-end
-    sub-word
-    part-word-start
-    part-word-end
-    word-requires
-    cast-result
-    returns)
+    (tie.spec (search needs) (search needs) (search needs) (search needs) (search needs) (search needs) returns)

@@ -4,11 +4,8 @@ use Rattle.queue_reader.proofs.Patterns.{told-apart}
 use Rattle.queue_reader.proofs.pattern_fits.Statement.{statement}
 use Rattle.queue_reader.proofs.pattern_fits.Tie as tie
 
-finite-fits-requires : tie.Need-finite-fits-requires
-finite-fits-requires c κs = search needs
-
 returns : tie.Need-returns
 returns c = rw (c .finite-fits .ensures) (told-apart (c .before .args .pattern))
 
 pub pattern-fits-spec : {M : Type 1} → statement M
-pattern-fits-spec = tie.close (tie.spec finite-fits-requires returns)
+pattern-fits-spec = tie.close (tie.spec (search needs) returns)

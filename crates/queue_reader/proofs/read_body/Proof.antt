@@ -50,15 +50,6 @@ looked c =
     let a = h .before .before .before .before .args in
     ap (λ (n : ℕ). allFit (numbersIn (a .order) energyWidth n (drop leastLength (now (a .bytes))))) (sym (h .number-at2 .ensures)) ∙ sym (c .energies-fit .ensures)
 
-number-at-requires : tie.Need-number-at-requires
-number-at-requires c κs = search needs
-
-number-at-requires-2 : tie.Need-number-at-requires-2
-number-at-requires-2 c κs = search needs
-
-numbers-fit-requires : tie.Need-numbers-fit-requires
-numbers-fit-requires c κs = search needs
-
 returns : tie.Need-returns
 unfolding bodyRead
 returns c = rw (tested (c .before) ∙ not-true (c .before .numbers-fit .result) (c .if1 .taken)) (refl, refl)
@@ -121,9 +112,6 @@ read-energies-requires c κs =
     let e = f .before .before in
     (omega (arith, f .before .if2 .left), omega (arith, d .if4 .left, small e .2), sym (f .energies-fit .ensures) ∙ not-false (f .energies-fit .result) (d .before .if3 .left))
 
-same-length : tie.Need-same-length
-same-length c = search needs
-
 returns-5 : tie.Need-returns-5
 returns-5 c =
     let d = c .before .before .before .before in
@@ -151,17 +139,5 @@ returns-5 c =
 pub read-body-spec : {M : Type 1} → statement M
 read-body-spec =
     tie.close
-    (tie.spec
-    number-at-requires
-    number-at-requires-2
-    numbers-fit-requires
-    returns
-    mul-if2
-    add-if2
-    returns-2
-    energies-fit-requires
-    returns-3
-    returns-4
-    read-energies-requires
-    same-length
-    returns-5)
+    (tie.spec (search needs) (search needs) (search needs) returns mul-if2 add-if2 returns-2 energies-fit-requires returns-3
+    returns-4 read-energies-requires (search needs) returns-5)

@@ -30,15 +30,6 @@ loop-holds c =
       ap allFit (all-left (a .order) 8 (now (a .bytes)) (a .at) (a .count)) ∙ c .before .before .pre .2,
     )
 
-mul-pattern-at : tie.Need-mul-pattern-at Inv-loop μ-loop
-mul-pattern-at c = search needs
-
-add-pattern-at : tie.Need-add-pattern-at Inv-loop μ-loop
-add-pattern-at c = search needs
-
-pattern-at-requires : tie.Need-pattern-at-requires Inv-loop μ-loop
-pattern-at-requires c κs = omega arith
-
 -- the pattern that is read fits, and those after it
 left-fit : (c : tie.After-pattern-at Inv-loop μ-loop) →
     let l = c .before .before in
@@ -56,18 +47,6 @@ left-fit c =
 energy-of-requires : tie.Need-energy-of-requires Inv-loop μ-loop
 energy-of-requires c κs = left-fit c .0
 
-mul-store : tie.Need-mul-store Inv-loop μ-loop
-mul-store c = search needs
-
-slice-write-store : tie.Need-slice-write-store Inv-loop μ-loop
-slice-write-store c = search needs
-
-add-i : tie.Need-add-i Inv-loop μ-loop
-add-i c = search needs
-
-loop-less : tie.Need-loop-less Inv-loop μ-loop
-loop-less c = search needs
-
 loop-again : tie.Need-loop-again Inv-loop μ-loop
 loop-again c =
     let p = c .before in
@@ -83,9 +62,6 @@ loop-again c =
       left-fit p .1,
     )
 
-same-length : tie.Need-same-length Inv-loop μ-loop
-same-length c = search needs
-
 returns : tie.Need-returns Inv-loop μ-loop
 returns c =
     let l = c .before in
@@ -95,18 +71,5 @@ returns c =
 pub read-energies-spec : {M : Type 1} → statement M
 read-energies-spec =
     tie.close
-    (tie.spec
-    Inv-loop
-    μ-loop
-    loop-holds
-    mul-pattern-at
-    add-pattern-at
-    pattern-at-requires
-    energy-of-requires
-    mul-store
-    slice-write-store
-    add-i
-    loop-less
-    loop-again
-    same-length
-    returns)
+    (tie.spec Inv-loop μ-loop loop-holds (search needs) (search needs) (λ c κs. omega arith) energy-of-requires (search needs)
+    (search needs) (search needs) (search needs) loop-again (search needs) returns)

@@ -15,31 +15,16 @@ use Rattle.queue_reader.proofs.Cases.{read-behind, framed-long, framed-
 use Rattle.queue_reader.proofs.read_queue.Statement.{statement}
 use Rattle.queue_reader.proofs.read_queue.Tie as tie
 
-frame-requires : tie.Need-frame-requires
-frame-requires c κs = search needs
-
-enum-told : tie.Need-enum-told
-enum-told c = search needs
-
 past-frame : (c : tie.After-enum-told) → numberOf (frameRows QueueKind (now (c .before .before .before .before .before .args .bytes))) ≡ 0
 unfolding frameOf
 past-frame c =
     passed (frameRows QueueKind (now (c .before .before .before .before .before .args .bytes))) (sym (ap said (c .enum-told .given .1)) ∙ c .before .before .frame .ensures)
-
-order-of-requires : tie.Need-order-of-requires
-order-of-requires c κs = search needs
 
 read-body-requires : tie.Need-read-body-requires
 read-body-requires c κs =
     let e = c .before .before in
     let bytes = now (e .before .before .before .before .before .args .bytes) in
     (framed-long bytes (past-frame e), framed-length bytes (past-frame e))
-
-enum-known-number : tie.Need-enum-known-number
-enum-known-number c = search needs
-
-same-length : tie.Need-same-length
-same-length c = search needs
 
 returns : tie.Need-returns
 returns c =
@@ -66,4 +51,6 @@ returns-2 c =
     (r .says, r .keeps)
 
 pub read-queue-spec : {M : Type 1} → statement M
-read-queue-spec = tie.close (tie.spec frame-requires enum-told order-of-requires read-body-requires enum-known-number same-length returns returns-2)
+read-queue-spec =
+    tie.close
+    (tie.spec (search needs) (search needs) (search needs) read-body-requires (search needs) (search needs) returns returns-2)

@@ -7,24 +7,6 @@ use Rattle.queue_writer.proofs.Places.{field-put}
 use Rattle.queue_writer.proofs.put_field.Statement.{statement}
 use Rattle.queue_writer.proofs.put_field.Tie as tie
 
-add-end : tie.Need-add-end
-add-end c = search needs
-
-sub-put-number : tie.Need-sub-put-number
-sub-put-number c = search needs
-
-part-put-number-start : tie.Need-part-put-number-start
-part-put-number-start c = search needs
-
-part-put-number-end : tie.Need-part-put-number-end
-part-put-number-end c = search needs
-
-put-number-requires : tie.Need-put-number-requires
-put-number-requires c κs = search needs
-
-same-length : tie.Need-same-length
-same-length c = search needs
-
 returns : tie.Need-returns
 returns c =
     let start = c .before .before .before .before .before in
@@ -34,11 +16,4 @@ returns c =
 pub put-field-spec : {M : Type 1} → statement M
 put-field-spec =
     tie.close
-    (tie.spec
-    add-end
-    sub-put-number
-    part-put-number-start
-    part-put-number-end
-    put-number-requires
-    same-length
-    returns)
+    (tie.spec (search needs) (search needs) (search needs) (search needs) (search needs) (search needs) returns)

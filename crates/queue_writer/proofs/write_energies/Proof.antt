@@ -26,30 +26,6 @@ loop-holds c =
     let a = c .before .before .args in
     (omega arith, refl, ap (λ (n : ℕ). sets (now (a .out)) n (allBytes (a .order) 8 (patternsOf (now (a .energies))))) {x = a .at + 0} {y = a .at} (omega arith))
 
-mul-put-field : tie.Need-mul-put-field Inv-loop μ-loop
-mul-put-field c = search needs
-
-add-put-field : tie.Need-add-put-field Inv-loop μ-loop
-add-put-field c = search needs
-
-mul-pattern-of : tie.Need-mul-pattern-of Inv-loop μ-loop
-mul-pattern-of c = search needs
-
-shared-slice-read-pattern-of : tie.Need-shared-slice-read-pattern-of Inv-loop μ-loop
-shared-slice-read-pattern-of c = search needs
-
-pattern-of-requires : tie.Need-pattern-of-requires Inv-loop μ-loop
-pattern-of-requires c κs = search needs
-
-put-field-requires : tie.Need-put-field-requires Inv-loop μ-loop
-put-field-requires c κs = search needs
-
-add-i : tie.Need-add-i Inv-loop μ-loop
-add-i c = search needs
-
-loop-less : tie.Need-loop-less Inv-loop μ-loop
-loop-less c = search needs
-
 loop-again : tie.Need-loop-again Inv-loop μ-loop
 loop-again c =
     let l = c .before .before .before .before .before .before .before in
@@ -67,9 +43,6 @@ loop-again c =
           ∙ l .loop .inv .2,
     )
 
-same-length : tie.Need-same-length Inv-loop μ-loop
-same-length c = search needs
-
 returns : tie.Need-returns Inv-loop μ-loop
 returns c =
     let l = c .before in
@@ -81,18 +54,5 @@ returns c =
 pub write-energies-spec : {M : Type 1} → statement M
 write-energies-spec =
     tie.close
-    (tie.spec
-    Inv-loop
-    μ-loop
-    loop-holds
-    mul-put-field
-    add-put-field
-    mul-pattern-of
-    shared-slice-read-pattern-of
-    pattern-of-requires
-    put-field-requires
-    add-i
-    loop-less
-    loop-again
-    same-length
-    returns)
+    (tie.spec Inv-loop μ-loop loop-holds (search needs) (search needs) (search needs) (search needs) (search needs) (search needs)
+    (search needs) (search needs) loop-again (search needs) returns)

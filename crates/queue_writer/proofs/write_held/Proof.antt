@@ -41,9 +41,6 @@ whole c =
     let both = length-append (slice (parts .from) (parts .until) (store c)) (slice (parts .start) (parts .end) (store c)) in
     omega (arith, older-length c, newer-length c, both, ap length (both-parts c), held-number (c .before .before .before .args .queue) (store c))
 
-parts-requires : tie.Need-parts-requires
-parts-requires c κs = search needs
-
 sub-next : tie.Need-sub-next
 sub-next c = let w = within c in omega arith
 
@@ -87,9 +84,6 @@ write-energies-requires-2 c κs =
     let p = c .before .before .before .before .before .before .before in
     omega (arith, whole p, newer-length p, p .before .before .before .pre .1)
 
-same-length : tie.Need-same-length
-same-length c = search needs
-
 returns : tie.Need-returns
 returns c =
     let w = c .before .before .before .before .before .before .before in
@@ -108,20 +102,6 @@ returns c =
 pub write-held-spec : {M : Type 1} → statement M
 write-held-spec =
     tie.close
-    (tie.spec
-    parts-requires
-    sub-next
-    mul-next
-    add-next
-    mul-write-energies
-    sub-write-energies
-    part-write-energies-start
-    part-write-energies-end
-    write-energies-requires
-    mul-write-energies-2
-    sub-write-energies-2
-    part-write-energies-start-2
-    part-write-energies-end-2
-    write-energies-requires-2
-    same-length
-    returns)
+    (tie.spec (search needs) sub-next mul-next add-next mul-write-energies sub-write-energies part-write-energies-start
+    part-write-energies-end write-energies-requires mul-write-energies-2 sub-write-energies-2 part-write-energies-start-2
+    part-write-energies-end-2 write-energies-requires-2 (search needs) returns)

@@ -15,34 +15,16 @@ Inv-loop energies x n found₀ i₀ found i = found + count (λ y. lt y x) (drop
 abbrev μ-loop : tie.MeasureT-loop
 μ-loop energies x n found₀ i₀ found i = length energies - i
 
-loop-holds : tie.Need-loop-holds Inv-loop μ-loop
-loop-holds c = omega arith
-
-mul-energy : tie.Need-mul-energy Inv-loop μ-loop
-mul-energy c = omega arith
-
-shared-slice-read-energy : tie.Need-shared-slice-read-energy Inv-loop μ-loop
-shared-slice-read-energy c = omega arith
-
-add-i : tie.Need-add-i Inv-loop μ-loop
-add-i c = omega arith
-
 add-found : tie.Need-add-found Inv-loop μ-loop
 add-found c =
     let start = c .before .before .before .before in
     omega (arith, c .before .before .before .loop .inv, count-within (λ y. lt y (start .args .x)) (start .args .energies .now), start .good .0 .1)
-
-loop-less : tie.Need-loop-less Inv-loop μ-loop
-loop-less c = omega arith
 
 loop-again : tie.Need-loop-again Inv-loop μ-loop
 loop-again c =
     let start = c .before .before .before .before in
     let head = c .before .before .before .loop in
     count-one (λ y. lt y (start .args .x)) (start .args .energies .now) (head .i) (head .found) (c .before .before .loop-test .taken) (head .inv) (c .if1 .taken)
-
-loop-less-2 : tie.Need-loop-less-2 Inv-loop μ-loop
-loop-less-2 c = omega arith
 
 loop-again-2 : tie.Need-loop-again-2 Inv-loop μ-loop
 loop-again-2 c =
@@ -59,16 +41,5 @@ returns c =
 pub below-spec : {M : Type 1} → statement M
 below-spec =
     tie.close
-    (tie.spec
-    Inv-loop
-    μ-loop
-    loop-holds
-    mul-energy
-    shared-slice-read-energy
-    add-i
-    add-found
-    loop-less
-    loop-again
-    loop-less-2
-    loop-again-2
-    returns)
+    (tie.spec Inv-loop μ-loop (λ c. omega arith) (λ c. omega arith) (λ c. omega arith) (λ c. omega arith) add-found
+    (λ c. omega arith) loop-again (λ c. omega arith) loop-again-2 returns)

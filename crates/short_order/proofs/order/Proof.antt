@@ -10,21 +10,6 @@ use Rattle.short_order.proofs.order.Tie as tie
 returns : tie.Need-returns
 returns c = too-many (c .before .before .args .energies .now) (c .if1 .taken)
 
-slice-aggregate-put-in-place : tie.Need-slice-aggregate-put-in-place
-slice-aggregate-put-in-place c = search needs
-
-put-in-place-requires : tie.Need-put-in-place-requires
-put-in-place-requires c κs = search needs
-
-slice-aggregate-copy-back : tie.Need-slice-aggregate-copy-back
-slice-aggregate-copy-back c = search needs
-
-copy-back-requires : tie.Need-copy-back-requires
-copy-back-requires c κs = search needs
-
-same-length : tie.Need-same-length
-same-length c = search needs
-
 returns-2 : tie.Need-returns-2
 returns-2 c =
     let copied = c .before .before .copy-back in
@@ -35,9 +20,6 @@ returns-2 c =
     let fine : allAbove l ≡ true = sym (placed .ensures .0) ∙ test .if2 .taken in
     in-order l (few .if1 .left) fine (copied .last .0) (copied .ensures ∙ placed .ensures .1 fine)
 
-same-length-2 : tie.Need-same-length-2
-same-length-2 c = search needs
-
 returns-3 : tie.Need-returns-3
 returns-3 c =
     let placed = c .before .before .put-in-place in
@@ -47,13 +29,5 @@ returns-3 c =
 pub order-spec : {M : Type 1} → statement M
 order-spec =
     tie.close
-    (tie.spec
-    returns
-    slice-aggregate-put-in-place
-    put-in-place-requires
-    slice-aggregate-copy-back
-    copy-back-requires
-    same-length
-    returns-2
-    same-length-2
+    (tie.spec returns (search needs) (search needs) (search needs) (search needs) (search needs) returns-2 (search needs)
     returns-3)

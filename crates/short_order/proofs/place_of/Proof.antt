@@ -13,34 +13,10 @@ use Rattle.rising_order.proofs.Places.{last-part}
 use Rattle.short_order.proofs.place_of.Statement.{statement}
 use Rattle.short_order.proofs.place_of.Tie as tie
 
-mul-x : tie.Need-mul-x
-mul-x c = search needs
-
-shared-slice-read-x : tie.Need-shared-slice-read-x
-shared-slice-read-x c = search needs
-
 slice-aggregate-at-most : tie.Need-slice-aggregate-at-most
 slice-aggregate-at-most c =
     let start = c .before .before .before in
     sym (length-take-le (start .args .i) (start .args .part .now) (omega (arith, start .pre)))
-
-at-most-requires : tie.Need-at-most-requires
-at-most-requires c κs = search needs
-
-mul-below : tie.Need-mul-below
-mul-below c = search needs
-
-sub-below : tie.Need-sub-below
-sub-below c = search needs
-
-part-below-start : tie.Need-part-below-start
-part-below-start c = search needs
-
-part-below-end : tie.Need-part-below-end
-part-below-end c = search needs
-
-below-requires : tie.Need-below-requires
-below-requires c κs = search needs
 
 is-place : (c : tie.After-below)
     → c .before .before .at-most .result + c .below .result
@@ -74,15 +50,5 @@ returns c = is-place c
 pub place-of-spec : {M : Type 1} → statement M
 place-of-spec =
     tie.close
-    (tie.spec
-    mul-x
-    shared-slice-read-x
-    slice-aggregate-at-most
-    at-most-requires
-    mul-below
-    sub-below
-    part-below-start
-    part-below-end
-    below-requires
-    add-result
-    returns)
+    (tie.spec (search needs) (search needs) slice-aggregate-at-most (search needs) (search needs) (search needs) (search needs)
+    (search needs) (search needs) add-result returns)

@@ -30,26 +30,11 @@ inside c =
 loop-holds : tie.Need-loop-holds Inv-loop μ-loop
 loop-holds c = (refl, refl, λ a k h. absurd (omega arith))
 
-place-of-requires : tie.Need-place-of-requires Inv-loop μ-loop
-place-of-requires c κs = search needs
-
-mul-x : tie.Need-mul-x Inv-loop μ-loop
-mul-x c = omega arith
-
-shared-slice-read-x : tie.Need-shared-slice-read-x Inv-loop μ-loop
-shared-slice-read-x c = omega arith
-
 mul-places : tie.Need-mul-places Inv-loop μ-loop
 mul-places c = omega (arith, inside (c .before))
 
 slice-write-places : tie.Need-slice-write-places Inv-loop μ-loop
 slice-write-places c = omega (arith, inside (c .before))
-
-add-i : tie.Need-add-i Inv-loop μ-loop
-add-i c = omega arith
-
-loop-less : tie.Need-loop-less Inv-loop μ-loop
-loop-less c = omega arith
 
 loop-again : tie.Need-loop-again Inv-loop μ-loop
 loop-again c =
@@ -80,17 +65,5 @@ returns c =
 pub put-in-place-spec : {M : Type 1} → statement M
 put-in-place-spec =
     tie.close
-    (tie.spec
-    Inv-loop
-    μ-loop
-    loop-holds
-    place-of-requires
-    mul-x
-    shared-slice-read-x
-    mul-places
-    slice-write-places
-    add-i
-    loop-less
-    loop-again
-    same-length
-    returns)
+    (tie.spec Inv-loop μ-loop loop-holds (search needs) (λ c. omega arith) (λ c. omega arith) mul-places slice-write-places
+    (λ c. omega arith) (λ c. omega arith) loop-again same-length returns)

@@ -13,14 +13,8 @@ Inv-loop n left₀ depth₀ left depth = depth + 2 * size left ≡ 2 * size n
 abbrev μ-loop : tie.MeasureT-loop
 μ-loop n left₀ depth₀ left depth = left
 
-loop-holds : tie.Need-loop-holds Inv-loop μ-loop
-loop-holds c = omega arith
-
 add-depth : tie.Need-add-depth Inv-loop μ-loop
 add-depth c = omega (arith, few-digits (c .before .before .args .n) (c .before .before .pre))
-
-loop-less : tie.Need-loop-less Inv-loop μ-loop
-loop-less c = omega arith
 
 loop-again : tie.Need-loop-again Inv-loop μ-loop
 loop-again c = omega (arith, half-digits (c .before .loop .left) (c .loop-test .taken))
@@ -31,5 +25,4 @@ returns c =
     omega (arith, ap size none, no-digits)
 
 pub depth-for-spec : {M : Type 1} → statement M
-depth-for-spec =
-    tie.close (tie.spec Inv-loop μ-loop loop-holds add-depth loop-less loop-again returns)
+depth-for-spec = tie.close (tie.spec Inv-loop μ-loop (λ c. omega arith) add-depth (λ c. omega arith) loop-again returns)

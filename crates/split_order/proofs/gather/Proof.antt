@@ -51,20 +51,11 @@ loop-holds c =
 mul-x : tie.Need-mul-x Inv-loop μ-loop
 mul-x c = omega (arith, short (c .before))
 
-slice-read-x : tie.Need-slice-read-x Inv-loop μ-loop
-slice-read-x c = omega arith
-
 mul-y : tie.Need-mul-y Inv-loop μ-loop
 mul-y c = omega (arith, short (c .before .before))
 
-slice-read-y : tie.Need-slice-read-y Inv-loop μ-loop
-slice-read-y c = omega arith
-
 mul-part : tie.Need-mul-part Inv-loop μ-loop
 mul-part c = omega (arith, short (c .before .before .before))
-
-slice-write-part : tie.Need-slice-write-part Inv-loop μ-loop
-slice-write-part c = omega arith
 
 mul-part-2 : tie.Need-mul-part-2 Inv-loop μ-loop
 mul-part-2 c = omega (arith, short (c .before .before .before))
@@ -78,17 +69,11 @@ add-i c = omega (arith, short (c .before .before .before))
 add-low : tie.Need-add-low Inv-loop μ-loop
 add-low c = omega (arith, short (c .before .before .before .before))
 
-loop-less : tie.Need-loop-less Inv-loop μ-loop
-loop-less c = omega arith
-
 loop-again : tie.Need-loop-again Inv-loop μ-loop
 loop-again c =
     let at = c .before .before .before .before .loop in
     let on = is-gathered (at .inv .1) (omega arith) (c .before .before .before .before .before .before .before .before .before .before .before .args .equal) (c .if1 .taken) in
     (perm-length (on .same), on)
-
-loop-less-2 : tie.Need-loop-less-2 Inv-loop μ-loop
-loop-less-2 c = omega arith
 
 loop-again-2 : tie.Need-loop-again-2 Inv-loop μ-loop
 loop-again-2 c =
@@ -111,25 +96,6 @@ returns c =
 pub gather-spec : {M : Type 1} → statement M
 gather-spec =
     tie.close
-    (tie.spec
-    Inv-loop
-    μ-loop
-    exchange-requires
-    slice-read-pivot
-    loop-holds
-    mul-x
-    slice-read-x
-    mul-y
-    slice-read-y
-    mul-part
-    slice-write-part
-    mul-part-2
-    slice-write-part-2
-    add-i
-    add-low
-    loop-less
-    loop-again
-    loop-less-2
-    loop-again-2
-    same-length
-    returns)
+    (tie.spec Inv-loop μ-loop exchange-requires slice-read-pivot loop-holds mul-x (λ c. omega arith) mul-y (λ c. omega arith)
+    mul-part (λ c. omega arith) mul-part-2 slice-write-part-2 add-i add-low (λ c. omega arith) loop-again (λ c. omega arith)
+    loop-again-2 same-length returns)

@@ -23,25 +23,10 @@ apart c = parted (c .before .before .before .before .gather .ensures) (omega ari
 all-above : (c : tie.After-exchange) → Above (c .exchange .last .0)
 all-above c = all-perm (λ x. T (above x)) (apart c .same) (c .before .before .before .before .before .before .before .before .before .pre .1)
 
-pivot-place-requires : tie.Need-pivot-place-requires
-pivot-place-requires c κs = search needs
-
-gather-requires : tie.Need-gather-requires
-gather-requires c κs = search needs
-
-sub-place : tie.Need-sub-place
-sub-place c = search needs
-
 exchange-requires : tie.Need-exchange-requires
 exchange-requires c κs =
     let cut = c .before .before .before .gather .ensures in
     (omega (arith, cut .some, cut .within), omega (arith, cut .some, cut .within))
-
-add-t14 : tie.Need-add-t14
-add-t14 c = search needs
-
-same-length : tie.Need-same-length
-same-length c = search needs
 
 returns : tie.Need-returns
 returns c = apart (c .before .before .before)
@@ -59,9 +44,6 @@ first c =
 gather-requires-2 : tie.Need-gather-requires-2
 gather-requires-2 c κs = (omega (arith, first (c .before) .inside), all-above (c .before .before .before .before))
 
-same-length-2 : tie.Need-same-length-2
-same-length-2 c = search needs
-
 returns-2 : tie.Need-returns-2
 returns-2 c =
     let least = c .before .before .before .before in
@@ -71,14 +53,5 @@ returns-2 c =
 pub split-spec : {M : Type 1} → statement M
 split-spec =
     tie.close
-    (tie.spec
-    pivot-place-requires
-    gather-requires
-    sub-place
-    exchange-requires
-    add-t14
-    same-length
-    returns
-    gather-requires-2
-    same-length-2
-    returns-2)
+    (tie.spec (search needs) (λ c κs. search needs) (search needs) exchange-requires (search needs) (search needs) returns
+    gather-requires-2 (search needs) returns-2)

@@ -8,13 +8,10 @@ use Rattle.fields.proofs.Orders.{low-first}
 use Rattle.words.proofs.double_word.Statement.{statement}
 use Rattle.words.proofs.double_word.Tie as tie
 
-low-double-word-requires : tie.Need-low-double-word-requires
-low-double-word-requires c κs = search needs
-
 returns : tie.Need-returns
 returns c =
     let a = c .before .before .args in
     c .low-double-word .ensures ∙ ap (λ (o : Order). numberIn o widest (now (a .field))) (sym (low-first (a .order)))
 
 pub double-word-spec : {M : Type 1} → statement M
-double-word-spec = tie.close (tie.spec low-double-word-requires returns)
+double-word-spec = tie.close (tie.spec (search needs) returns)

@@ -6,23 +6,11 @@ use Rattle.fields.proofs.Fields.{small}
 use Rattle.words.proofs.low_word.Statement.{statement}
 use Rattle.words.proofs.low_word.Tie as tie
 
-number-at-requires : tie.Need-number-at-requires
-number-at-requires c κs = search needs
-
 cast-result : tie.Need-cast-result
 cast-result c =
     let start = c .before .before in
     let bytes = now (start .before .args .field) in
     record { fits = omega (arith, c .number-at .ensures, small bytes (λ i. omega (arith, start .shared-slice-known .given i)) 0 4) }
 
-returns : tie.Need-returns
-returns c = search needs
-
-word-at-requires : tie.Need-word-at-requires
-word-at-requires c κs = search needs
-
-returns-2 : tie.Need-returns-2
-returns-2 c = search needs
-
 pub low-word-spec : {M : Type 1} → statement M
-low-word-spec = tie.close (tie.spec number-at-requires cast-result returns word-at-requires returns-2)
+low-word-spec = tie.close (tie.spec (search needs) cast-result (search needs) (search needs) (search needs))

@@ -8,13 +8,10 @@ use Rattle.fields.proofs.Orders.{low-first}
 use Rattle.words.proofs.word.Statement.{statement}
 use Rattle.words.proofs.word.Tie as tie
 
-low-word-requires : tie.Need-low-word-requires
-low-word-requires c κs = search needs
-
 returns : tie.Need-returns
 returns c =
     let a = c .before .before .args in
     c .low-word .ensures ∙ ap (λ (o : Order). numberIn o wordWidth (now (a .field))) (sym (low-first (a .order)))
 
 pub word-spec : {M : Type 1} → statement M
-word-spec = tie.close (tie.spec low-word-requires returns)
+word-spec = tie.close (tie.spec (search needs) returns)

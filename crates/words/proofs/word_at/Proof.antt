@@ -7,17 +7,8 @@ use Rattle.fields.proofs.Fields.{four-bytes}
 use Rattle.words.proofs.word_at.Statement.{statement}
 use Rattle.words.proofs.word_at.Tie as tie
 
-shared-slice-read-low : tie.Need-shared-slice-read-low
-shared-slice-read-low c = search needs
-
 cast-low : tie.Need-cast-low
 cast-low c = omega (arith, c .shared-slice-known .given (c .before .args .at))
-
-add-low : tie.Need-add-low
-add-low c = search needs
-
-shared-slice-read-low-2 : tie.Need-shared-slice-read-low-2
-shared-slice-read-low-2 c = search needs
 
 cast-low-2 : tie.Need-cast-low-2
 cast-low-2 c = omega (arith, c .shared-slice-known2 .given (c .before .before .args .at + 1))
@@ -28,20 +19,8 @@ mul-low c = omega (arith, c .shared-slice-known2 .given (c .before .before .args
 add-low-2 : tie.Need-add-low-2
 add-low-2 c = omega (arith, c .shared-slice-known2 .given (c .before .before .args .at + 1), c .before .shared-slice-known .given (c .before .before .args .at))
 
-add-high : tie.Need-add-high
-add-high c = search needs
-
-shared-slice-read-high : tie.Need-shared-slice-read-high
-shared-slice-read-high c = search needs
-
 cast-high : tie.Need-cast-high
 cast-high c = omega (arith, c .shared-slice-known3 .given (c .before .before .before .args .at + 2))
-
-add-high-2 : tie.Need-add-high-2
-add-high-2 c = search needs
-
-shared-slice-read-high-2 : tie.Need-shared-slice-read-high-2
-shared-slice-read-high-2 c = search needs
 
 cast-high-2 : tie.Need-cast-high-2
 cast-high-2 c = omega (arith, c .shared-slice-known4 .given (c .before .before .before .before .args .at + 3))
@@ -64,22 +43,5 @@ returns c = let a = c .before .before .before .before .args in omega (arith, fou
 pub word-at-spec : {M : Type 1} → statement M
 word-at-spec =
     tie.close
-    (tie.spec
-    shared-slice-read-low
-    cast-low
-    add-low
-    shared-slice-read-low-2
-    cast-low-2
-    mul-low
-    add-low-2
-    add-high
-    shared-slice-read-high
-    cast-high
-    add-high-2
-    shared-slice-read-high-2
-    cast-high-2
-    mul-high
-    add-high-3
-    mul-result
-    add-result
-    returns)
+    (tie.spec (search needs) cast-low (search needs) (search needs) cast-low-2 mul-low add-low-2 (search needs) (search needs)
+    cast-high (search needs) (search needs) cast-high-2 mul-high add-high-3 mul-result add-result returns)

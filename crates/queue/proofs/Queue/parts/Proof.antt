@@ -17,20 +17,11 @@ there c = sym (c .before .stands .ensures) ∙ c .if1 .taken
 well : (c : tie.After-first-part) → let a = c .before .before .before .args in (a .start + a .self .maximum ≤ a .places) × Suited (a .self) (a .self .maximum)
 well c = let a = c .before .before .before .args in stands-well (a .self) (a .start) (a .places) (there (c .before))
 
-stands-requires : tie.Need-stands-requires
-stands-requires c κs = search needs
-
-first-part-requires : tie.Need-first-part-requires
-first-part-requires c κs = search needs
-
 add-from : tie.Need-add-from
 add-from c = let w = well c in omega (arith, w .0, w .1 .within)
 
 add-t9 : tie.Need-add-t9
 add-t9 c = let w = well c in omega (arith, w .0, w .1 .within)
-
-sub-t10 : tie.Need-sub-t10
-sub-t10 c = search needs
 
 add-t11 : tie.Need-add-t11
 add-t11 c = let w = well c in omega (arith, w .0, w .1 .full)
@@ -49,14 +40,4 @@ returns-2 c =
     sym (parts-nowhere (a .self) (a .start) (a .places) (sym (c .before .stands .ensures) ∙ c .if1 .left))
 
 pub parts-spec : {M : Type 1} → statement M
-parts-spec =
-    tie.close
-    (tie.spec
-    stands-requires
-    first-part-requires
-    add-from
-    add-t9
-    sub-t10
-    add-t11
-    returns
-    returns-2)
+parts-spec = tie.close (tie.spec (search needs) (search needs) add-from add-t9 (search needs) add-t11 returns returns-2)

@@ -12,11 +12,8 @@ returns c = let a = c .before .args in sym (outside (a .self) (a .start) (a .pla
 returns-2 : tie.Need-returns-2
 returns-2 c = let a = c .before .before .before .args in sym (outside (a .self) (a .start) (a .places) (omega arith))
 
-suits-requires : tie.Need-suits-requires
-suits-requires c κs = search needs
-
 returns-3 : tie.Need-returns-3
 returns-3 c = let a = c .before .before .before .before .args in c .suits .ensures ∙ sym (inside (a .self) (a .start) (a .places) (omega arith))
 
 pub stands-spec : {M : Type 1} → statement M
-stands-spec = tie.close (tie.spec returns returns-2 suits-requires returns-3)
+stands-spec = tie.close (tie.spec returns returns-2 (search needs) returns-3)
