@@ -15,12 +15,6 @@ use borrow.Author.Needs.{needs}
 use Rattle.exports_gate.proofs.gated_energy_of.Statement.{statement}
 use Rattle.exports_gate.proofs.gated_energy_of.Tie as tie
 
-first-of-requires : tie.Need-first-of-requires
-first-of-requires c κs = search needs
-
-gated-energy-of-history-requires : tie.Need-gated-energy-of-history-requires
-gated-energy-of-history-requires c κs = search needs
-
 returns : tie.Need-returns
 returns c =
     let a = c .before .before .before .before .before .before .args in
@@ -30,12 +24,6 @@ returns c =
     ∙ ap (λ (entry : Entry). saidBy (gatedEnergyOf (alone entry counters energies))) (c .before .first-of .ensures)
     ∙ ap saidBy (energy-of-one (now (a .entries)) counters energies (c .before .before .if1 .taken))
 
-entries-of-requires : tie.Need-entries-of-requires
-entries-of-requires c κs = search needs
-
-gated-energy-requires : tie.Need-gated-energy-requires
-gated-energy-requires c κs = search needs
-
 returns-2 : tie.Need-returns-2
 returns-2 c =
     let a = c .before .before .before .before .before .before .args in
@@ -43,6 +31,4 @@ returns-2 c =
     ∙ ap (λ (entries : List Entry). saidBy (gatedEnergyOf (histories entries (length (now (a .entries)) / numbersAnEntry) (now (a .counters)) (now (a .energies))))) (c .before .entries-of .ensures)
 
 pub gated-energy-of-spec : {M : Type 1} → statement M
-gated-energy-of-spec =
-    tie.close
-    (tie.spec first-of-requires gated-energy-of-history-requires returns entries-of-requires gated-energy-requires returns-2)
+gated-energy-of-spec = tie.close (tie.spec (search needs) (search needs) returns (search needs) (search needs) returns-2)

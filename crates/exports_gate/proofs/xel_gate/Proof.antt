@@ -25,15 +25,6 @@ returns c =
     no-totals-told question (now (a .blocks)) (now (a .sum)) 7
     (ap saidBy (sym (asked-part gateOf (now (a .entries)) (now (a .counters)) (now (a .energies)) (c .if1 .taken))))
 
-gate-of-requires : tie.Need-gate-of-requires
-gate-of-requires c κs = search needs
-
-enum-known-above : tie.Need-enum-known-above
-enum-known-above c = search needs
-
-enum-known-number : tie.Need-enum-known-number
-enum-known-number c = search needs
-
 returns-2 : tie.Need-returns-2
 returns-2 c =
     let a = c .before .before .before .before .before .before .before .before .args in
@@ -49,12 +40,4 @@ returns-3 c =
     no-totals-told question (now (a .blocks)) (now (a .sum)) (given .0 .0) (ap said (sym (given .1)) ∙ asked-says (c .before .before .before))
 
 pub xel-gate-spec : {M : Type 1} → statement M
-xel-gate-spec =
-    tie.close
-    (tie.spec
-    returns
-    gate-of-requires
-    enum-known-above
-    enum-known-number
-    returns-2
-    returns-3)
+xel-gate-spec = tie.close (tie.spec returns (search needs) (search needs) (search needs) returns-2 returns-3)

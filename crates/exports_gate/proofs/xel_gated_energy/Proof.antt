@@ -24,15 +24,6 @@ returns c =
     refusal-told (asked gatedEnergyOf (now (a .entries)) (now (a .counters)) (now (a .energies))) (now (a .energy)) 7
     (ap saidBy (sym (asked-part gatedEnergyOf (now (a .entries)) (now (a .counters)) (now (a .energies)) (c .if1 .taken))))
 
-gated-energy-of-requires : tie.Need-gated-energy-of-requires
-gated-energy-of-requires c κs = search needs
-
-enum-known-mean : tie.Need-enum-known-mean
-enum-known-mean c = search needs
-
-enum-known-number : tie.Need-enum-known-number
-enum-known-number c = search needs
-
 returns-2 : tie.Need-returns-2
 returns-2 c =
     let a = c .before .before .before .before .before .before .before .before .args in
@@ -48,12 +39,4 @@ returns-3 c =
     (ap said (sym (given .1)) ∙ asked-says (c .before .before .before))
 
 pub xel-gated-energy-spec : {M : Type 1} → statement M
-xel-gated-energy-spec =
-    tie.close
-    (tie.spec
-    returns
-    gated-energy-of-requires
-    enum-known-mean
-    enum-known-number
-    returns-2
-    returns-3)
+xel-gated-energy-spec = tie.close (tie.spec returns (search needs) (search needs) (search needs) returns-2 returns-3)

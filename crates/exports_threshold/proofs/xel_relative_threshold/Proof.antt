@@ -27,21 +27,6 @@ returns c =
     no-level-told (askedAlone relativeOf (now (a .entry)) (now (a .counters)) (now (a .energies))) (now (a .value)) 7
     (ap saidBy (sym (alone-part relativeOf (now (a .entry)) (now (a .counters)) (now (a .energies)) (c .if1 .taken))))
 
-first-of-requires : tie.Need-first-of-requires
-first-of-requires c κs = search needs
-
-relative-threshold-requires : tie.Need-relative-threshold-requires
-relative-threshold-requires c κs = search needs
-
-enum-known-loudness : tie.Need-enum-known-loudness
-enum-known-loudness c = search needs
-
-enum-known-energy : tie.Need-enum-known-energy
-enum-known-energy c = search needs
-
-enum-known-number : tie.Need-enum-known-number
-enum-known-number c = search needs
-
 returns-2 : tie.Need-returns-2
 returns-2 c =
     let a = c .before .before .before .before .before .before .before .before .before .args in
@@ -66,13 +51,4 @@ returns-4 c =
 pub xel-relative-threshold-spec : {M : Type 1} → statement M
 xel-relative-threshold-spec =
     tie.close
-    (tie.spec
-    returns
-    first-of-requires
-    relative-threshold-requires
-    enum-known-loudness
-    enum-known-energy
-    enum-known-number
-    returns-2
-    returns-3
-    returns-4)
+    (tie.spec returns (search needs) (search needs) (search needs) (search needs) (search needs) returns-2 returns-3 returns-4)

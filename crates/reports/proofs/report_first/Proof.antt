@@ -11,32 +11,7 @@ slice-aggregate-of-record c =
     let a = c .before .before .before .args in
     sym (length-take-le (a .size) (now (a .input)) (c .before .if1 .taken))
 
-of-record-requires : tie.Need-of-record-requires
-of-record-requires c κs = search needs
-
-print-requires : tie.Need-print-requires
-print-requires c κs = search needs
-
-slice-aggregate-write-all : tie.Need-slice-aggregate-write-all
-slice-aggregate-write-all c = search needs
-
-write-all-requires : tie.Need-write-all-requires
-write-all-requires c κs = search needs
-
-returns : tie.Need-returns
-returns c = search needs
-
-returns-2 : tie.Need-returns-2
-returns-2 c = search needs
-
 pub report-first-spec : {M : Type 1} → statement M
 report-first-spec =
     tie.close
-    (tie.spec
-    slice-aggregate-of-record
-    of-record-requires
-    print-requires
-    slice-aggregate-write-all
-    write-all-requires
-    returns
-    returns-2)
+    (tie.spec slice-aggregate-of-record (search needs) (search needs) (search needs) (search needs) (search needs) (search needs))

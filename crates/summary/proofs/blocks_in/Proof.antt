@@ -20,15 +20,6 @@ abbrev μ-loop : tie.MeasureT-loop
 loop-holds : tie.Need-loop-holds Inv-loop μ-loop
 loop-holds c = (omega arith, blocks-none (now (c .before .args .counters)))
 
-mul-wide : tie.Need-mul-wide Inv-loop μ-loop
-mul-wide c = search needs
-
-shared-slice-read-wide : tie.Need-shared-slice-read-wide Inv-loop μ-loop
-shared-slice-read-wide c = search needs
-
-wide-requires : tie.Need-wide-requires Inv-loop μ-loop
-wide-requires c κs = search needs
-
 add-blocks : tie.Need-add-blocks Inv-loop μ-loop
 add-blocks c =
     let l = c .before .before .before in
@@ -41,12 +32,6 @@ add-blocks c =
       c .wide .ensures,
       given (l .loop .bin),
     )
-
-add-bin : tie.Need-add-bin Inv-loop μ-loop
-add-bin c = search needs
-
-loop-less : tie.Need-loop-less Inv-loop μ-loop
-loop-less c = search needs
 
 loop-again : tie.Need-loop-again Inv-loop μ-loop
 loop-again c =
@@ -61,4 +46,6 @@ returns c =
 
 pub blocks-in-spec : {M : Type 1} → statement M
 blocks-in-spec =
-    tie.close (tie.spec Inv-loop μ-loop loop-holds mul-wide shared-slice-read-wide wide-requires add-blocks add-bin loop-less loop-again returns)
+    tie.close
+    (tie.spec Inv-loop μ-loop loop-holds (search needs) (search needs) (search needs) add-blocks (search needs) (search needs)
+    loop-again returns)

@@ -14,24 +14,6 @@ use Rattle.summary.proofs.Ranges.{read-figures, unread-figures}
 use Rattle.summary.proofs.of_record.Statement.{statement}
 use Rattle.summary.proofs.of_record.Tie as tie
 
-slice-aggregate-read-histogram : tie.Need-slice-aggregate-read-histogram
-slice-aggregate-read-histogram c = search needs
-
-read-histogram-requires : tie.Need-read-histogram-requires
-read-histogram-requires c κs = search needs
-
-enum-told : tie.Need-enum-told
-enum-told c = search needs
-
-slice-aggregate-figures : tie.Need-slice-aggregate-figures
-slice-aggregate-figures c = search needs
-
-figures-requires : tie.Need-figures-requires
-figures-requires c κs = search needs
-
-enum-known-number : tie.Need-enum-known-number
-enum-known-number c = search needs
-
 -- what the reading says, and what stands in the counters then
 answered : (c : tie.After-read-histogram) → said (c .read-histogram .result) ≡ saidBy (readHistogram (now (c .before .before .before .args .bytes)) empty)
 answered c = c .read-histogram .ensures .0 ∙ ap (λ (l : List ℕ). saidBy (readHistogram (now (c .before .before .before .args .bytes)) l)) empty-is
@@ -58,12 +40,4 @@ returns-2 c =
 pub of-record-spec : {M : Type 1} → statement M
 of-record-spec =
     tie.close
-    (tie.spec
-    slice-aggregate-read-histogram
-    read-histogram-requires
-    enum-told
-    slice-aggregate-figures
-    figures-requires
-    enum-known-number
-    returns
-    returns-2)
+    (tie.spec (search needs) (search needs) (search needs) (search needs) (search needs) (search needs) returns returns-2)

@@ -30,19 +30,8 @@ no-digits pattern h = rw (eq-eqb (digits pattern) 0 h) (and-false (eqb (field pa
 float-from-bits-result : tie.Need-float-from-bits-result
 float-from-bits-result c = other-field (c .before .args .pattern) (c .if1 .taken)
 
-returns : tie.Need-returns
-returns c = search needs
-
 float-from-bits-result-2 : tie.Need-float-from-bits-result-2
 float-from-bits-result-2 c = no-digits (c .before .before .args .pattern) (c .if2 .taken)
 
-returns-2 : tie.Need-returns-2
-returns-2 c = search needs
-
-returns-3 : tie.Need-returns-3
-returns-3 c = search needs
-
 pub float-of-spec : {M : Type 1} → statement M
-float-of-spec =
-    tie.close
-    (tie.spec float-from-bits-result returns float-from-bits-result-2 returns-2 returns-3)
+float-of-spec = tie.close (tie.spec float-from-bits-result (search needs) float-from-bits-result-2 (search needs) (search needs))

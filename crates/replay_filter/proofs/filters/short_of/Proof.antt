@@ -18,25 +18,10 @@ from-least-fits n h = go (ltb n 32768)
     go true = record { sfits = omega arith }
     go false = record { sfits = omega arith }
 
-cast-result : tie.Need-cast-result
-cast-result c = search needs
-
-returns : tie.Need-returns
-returns c = search needs
-
-cast-result-2 : tie.Need-cast-result-2
-cast-result-2 c = search needs
-
 add-result : tie.Need-add-result
 add-result c =
     let n = c .before .before .args .number - 32768 in
     rw (toZ-pos w16 n (omega arith)) (from-least-fits n (omega arith))
 
-returns-2 : tie.Need-returns-2
-returns-2 c = search needs
-
-returns-3 : tie.Need-returns-3
-returns-3 c = search needs
-
 pub short-of-spec : {M : Type 1} → statement M
-short-of-spec = tie.close (tie.spec cast-result returns cast-result-2 add-result returns-2 returns-3)
+short-of-spec = tie.close (tie.spec (search needs) (search needs) (search needs) add-result (search needs) (search needs))
