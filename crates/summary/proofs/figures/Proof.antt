@@ -5,49 +5,16 @@ use borrow.Author.Needs.{needs}
 use denote.Ref.{now}
 use Rattle.refusals.specs.Outcome.{saidBy}
 use Rattle.histogram_range.specs.Counted.{blocksIn}
-use Rattle.range.specs.Range.{rangeOf, said}
+use Rattle.range.specs.Range.{found, nothing, notANumber, rangeOf, said}
 use Rattle.summary.specs.Summary.{alone, figuresOf}
-use Rattle.summary.proofs.Ranges.{found-figures, nothing-figures, nan-figures, refused-figures}
+use Rattle.summary.proofs.Ranges.{span-figures, refused-figures}
 use Rattle.summary.proofs.figures.Statement.{statement}
 use Rattle.summary.proofs.figures.Tie as tie
-
-blocks-in-requires : tie.Need-blocks-in-requires
-blocks-in-requires c κs = search needs
-
-slice-aggregate-loudness-range : tie.Need-slice-aggregate-loudness-range
-slice-aggregate-loudness-range c = search needs
-
-slice-aggregate-loudness-range-2 : tie.Need-slice-aggregate-loudness-range-2
-slice-aggregate-loudness-range-2 c = search needs
-
-loudness-range-requires : tie.Need-loudness-range-requires
-loudness-range-requires c κs = search needs
 
 -- the question is the definition's
 asked : (c : tie.After-work2) → said (c .before .loudness-range .result) ≡ saidBy (rangeOf (alone (now (c .before .before .before .before .before .before .args .counters))) [])
 unfolding alone
 asked c = c .before .loudness-range .ensures .0
-
-enum-known-low : tie.Need-enum-known-low
-enum-known-low c = search needs
-
-find-histogram-index-requires : tie.Need-find-histogram-index-requires
-find-histogram-index-requires c κs = search needs
-
-find-histogram-index-requires-2 : tie.Need-find-histogram-index-requires-2
-find-histogram-index-requires-2 c κs = search needs
-
-between-requires : tie.Need-between-requires
-between-requires c κs = search needs
-
-enum-told : tie.Need-enum-told
-enum-told c = search needs
-
-enum-told-2 : tie.Need-enum-told-2
-enum-told-2 c = search needs
-
-enum-known-number : tie.Need-enum-known-number
-enum-known-number c = search needs
 
 returns : tie.Need-returns
 unfolding figuresOf
@@ -58,7 +25,7 @@ returns c =
     let low = f .low .given .0 .0 in
     let high = f .low .given .0 .1 .0 in
     rw (c .between .ensures, c .before .before .find-histogram-index .ensures, c .before .find-histogram-index2 .ensures, w .before .before .before .before .blocks-in .ensures)
-    (sym (found-figures (blocksIn counters) (rangeOf (alone counters) []) low high (sym (ap said (f .low .given .1)) ∙ asked w)))
+    (sym (span-figures (blocksIn counters) (rangeOf (alone counters) []) (found low high) (sym (ap said (f .low .given .1)) ∙ asked w)))
 
 returns-2 : tie.Need-returns-2
 unfolding figuresOf
@@ -66,7 +33,7 @@ returns-2 c =
     let w = c .before .before in
     let counters = now (w .before .before .before .before .before .before .args .counters) in
     rw (w .before .before .before .before .blocks-in .ensures)
-    (sym (nothing-figures (blocksIn counters) (rangeOf (alone counters) []) (sym (ap said (c .enum-told .given .1)) ∙ asked w)))
+    (sym (span-figures (blocksIn counters) (rangeOf (alone counters) []) nothing (sym (ap said (c .enum-told .given .1)) ∙ asked w)))
 
 returns-3 : tie.Need-returns-3
 unfolding figuresOf
@@ -74,7 +41,7 @@ returns-3 c =
     let w = c .before .before in
     let counters = now (w .before .before .before .before .before .before .args .counters) in
     rw (w .before .before .before .before .blocks-in .ensures)
-    (sym (nan-figures (blocksIn counters) (rangeOf (alone counters) []) (sym (ap said (c .enum-told2 .given .1)) ∙ asked w)))
+    (sym (span-figures (blocksIn counters) (rangeOf (alone counters) []) notANumber (sym (ap said (c .enum-told2 .given .1)) ∙ asked w)))
 
 returns-4 : tie.Need-returns-4
 unfolding figuresOf
@@ -88,19 +55,5 @@ returns-4 c =
 pub figures-spec : {M : Type 1} → statement M
 figures-spec =
     tie.close
-    (tie.spec
-    blocks-in-requires
-    slice-aggregate-loudness-range
-    slice-aggregate-loudness-range-2
-    loudness-range-requires
-    enum-known-low
-    find-histogram-index-requires
-    find-histogram-index-requires-2
-    between-requires
-    enum-told
-    enum-told-2
-    enum-known-number
-    returns
-    returns-2
-    returns-3
-    returns-4)
+    (tie.spec (search needs) (search needs) (search needs) (search needs) (search needs) (search needs) (search needs)
+    (search needs) (search needs) (search needs) (search needs) returns returns-2 returns-3 returns-4)
