@@ -20,12 +20,6 @@ as-asked : (s : tie.Start) → length (now (s .args .entries)) % numbersAnEntry 
 as-asked s whole =
     sym (asked-whole (λ (h : Histories). rangeOf h (now (s .args .work))) (now (s .args .entries)) (now (s .args .counters)) (now (s .args .energies)) whole)
 
-of-one-requires : tie.Need-of-one-requires
-of-one-requires c κs = search needs
-
-same-length : tie.Need-same-length
-same-length c = search needs
-
 returns : tie.Need-returns
 returns c =
     let call = c .before .before in
@@ -40,12 +34,6 @@ returns-2 c =
     let same = sym (asked-part (λ (h : Histories). rangeOf h (now (a .work))) (now (a .entries)) (now (a .counters)) (now (a .energies)) (c .if2 .taken)) in
     (ap saidBy same, ap (keptBy (now (a .work))) same)
 
-of-set-requires : tie.Need-of-set-requires
-of-set-requires c κs = search needs
-
-same-length-2 : tie.Need-same-length-2
-same-length-2 c = search needs
-
 returns-3 : tie.Need-returns-3
 returns-3 c =
     let call = c .before .before in
@@ -55,13 +43,4 @@ returns-3 c =
     (call .of-set .ensures .0 ∙ ap saidBy same, call .of-set .ensures .1 ∙ ap (keptBy (now (a .args .work))) same)
 
 pub asked-spec : {M : Type 1} → statement M
-asked-spec =
-    tie.close
-    (tie.spec
-    of-one-requires
-    same-length
-    returns
-    returns-2
-    of-set-requires
-    same-length-2
-    returns-3)
+asked-spec = tie.close (tie.spec (search needs) (search needs) returns returns-2 (search needs) (search needs) returns-3)

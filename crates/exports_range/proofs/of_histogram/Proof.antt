@@ -13,17 +13,11 @@ use Rattle.exports_range.proofs.of_histogram.Tie as tie
 returns : tie.Need-returns
 returns c = let a = c .before .before .args in rw (lt-ltb (length (now (a .counters))) (a .start + bins) (omega arith)) refl
 
-sub-if2 : tie.Need-sub-if2
-sub-if2 c = search needs
-
 returns-2 : tie.Need-returns-2
 returns-2 c = let a = c .before .before .before .args in rw (lt-ltb (length (now (a .counters))) (a .start + bins) (omega arith)) refl
-
-of-counters-requires : tie.Need-of-counters-requires
-of-counters-requires c κs = search needs
 
 returns-3 : tie.Need-returns-3
 returns-3 c = let a = c .before .before .before .before .args in rw (le-ltb (length (now (a .counters))) (a .start + bins) (omega arith)) (c .of-counters .ensures)
 
 pub of-histogram-spec : {M : Type 1} → statement M
-of-histogram-spec = tie.close (tie.spec returns sub-if2 returns-2 of-counters-requires returns-3)
+of-histogram-spec = tie.close (tie.spec returns (search needs) returns-2 (search needs) returns-3)

@@ -13,15 +13,6 @@ use borrow.Author.Needs.{needs}
 use Rattle.exports_range.proofs.of_set.Statement.{statement}
 use Rattle.exports_range.proofs.of_set.Tie as tie
 
-entries-of-requires : tie.Need-entries-of-requires
-entries-of-requires c κs = search needs
-
-loudness-range-requires : tie.Need-loudness-range-requires
-loudness-range-requires c κs = search needs
-
-same-length : tie.Need-same-length
-same-length c = search needs
-
 returns : tie.Need-returns
 returns c =
     let call = c .before .before in
@@ -33,4 +24,4 @@ returns c =
     (call .loudness-range .ensures .0 ∙ ap saidBy same, call .loudness-range .ensures .1 ∙ ap (keptBy (now (a .work))) same)
 
 pub of-set-spec : {M : Type 1} → statement M
-of-set-spec = tie.close (tie.spec entries-of-requires loudness-range-requires same-length returns)
+of-set-spec = tie.close (tie.spec (search needs) (search needs) (search needs) returns)
