@@ -44,12 +44,6 @@ ok c =
     let s = c .before .before .before .before .before .before in
     processes _ (s .args .map .now) (sym (numbered (c .before)) ∙ c .if1 .left)
 
-size-of-requires : tie.Need-size-of-requires
-size-of-requires c κs = search needs
-
-refused-process-requires : tie.Need-refused-process-requires
-refused-process-requires c κs = search needs
-
 returns : tie.Need-returns
 unfolding weighed
 returns c =
@@ -78,9 +72,6 @@ weigh-all-requires c κs =
       record { few = k .few; bytes = ok e .seed .bytes; parts = d .parts; fits = rw (n .ensures) (d .fits) },
     )
 
-same-length : tie.Need-same-length
-same-length c = search needs
-
 returns-2 : tie.Need-returns-2
 unfolding weighed
 returns-2 c =
@@ -105,11 +96,11 @@ pub process-lent-spec : {M : Type 1} → statement M
 process-lent-spec =
     tie.close
     (tie.spec
-    size-of-requires
-    refused-process-requires
+    (λ c κs. search needs)
+    (λ c κs. search needs)
     returns
     div-frames
     div-part
     weigh-all-requires
-    same-length
+    (λ c. search needs)
     returns-2)

@@ -6,24 +6,6 @@ use Rattle.recurrence.specs.Recurrence.{head, output, shift, next, out}
 use Rattle.weighting.proofs.channels.frame.Statement.{statement}
 use Rattle.weighting.proofs.channels.frame.Tie as tie
 
-head-of-requires : tie.Need-head-of-requires
-head-of-requires c κs = search needs
-
-output-of-requires : tie.Need-output-of-requires
-output-of-requires c κs = search needs
-
-mul-dest : tie.Need-mul-dest
-mul-dest c = search needs
-
-slice-write-dest : tie.Need-slice-write-dest
-slice-write-dest c = search needs
-
-shifted-requires : tie.Need-shifted-requires
-shifted-requires c κs = search needs
-
-same-length : tie.Need-same-length
-same-length c = search needs
-
 returns : tie.Need-returns
 unfolding next out
 returns c =
@@ -38,10 +20,10 @@ pub frame-spec : {M : Type 1} → statement M
 frame-spec =
     tie.close
     (tie.spec
-    head-of-requires
-    output-of-requires
-    mul-dest
-    slice-write-dest
-    shifted-requires
-    same-length
+    (λ c κs. search needs)
+    (λ c κs. search needs)
+    (λ c. search needs)
+    (λ c. search needs)
+    (λ c κs. search needs)
+    (λ c. search needs)
     returns)

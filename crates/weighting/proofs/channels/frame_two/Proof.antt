@@ -23,42 +23,6 @@ add-sample-at c =
 sample-at-requires-2 : tie.Need-sample-at-requires-2
 sample-at-requires-2 c κs = c .before .before .before .before .before .before .before .pre .0
 
-head-of-requires : tie.Need-head-of-requires
-head-of-requires c κs = search needs
-
-head-of-requires-2 : tie.Need-head-of-requires-2
-head-of-requires-2 c κs = search needs
-
-output-of-requires : tie.Need-output-of-requires
-output-of-requires c κs = search needs
-
-output-of-requires-2 : tie.Need-output-of-requires-2
-output-of-requires-2 c κs = search needs
-
-mul-dest : tie.Need-mul-dest
-mul-dest c = search needs
-
-slice-write-dest : tie.Need-slice-write-dest
-slice-write-dest c = search needs
-
-add-dest : tie.Need-add-dest
-add-dest c = search needs
-
-mul-dest-2 : tie.Need-mul-dest-2
-mul-dest-2 c = search needs
-
-slice-write-dest-2 : tie.Need-slice-write-dest-2
-slice-write-dest-2 c = search needs
-
-shifted-requires : tie.Need-shifted-requires
-shifted-requires c κs = search needs
-
-shifted-requires-2 : tie.Need-shifted-requires-2
-shifted-requires-2 c κs = search needs
-
-same-length : tie.Need-same-length
-same-length c = search needs
-
 returns : tie.Need-returns
 unfolding next out
 returns c =
@@ -85,16 +49,16 @@ frame-two-spec =
     sample-at-requires
     add-sample-at
     sample-at-requires-2
-    head-of-requires
-    head-of-requires-2
-    output-of-requires
-    output-of-requires-2
-    mul-dest
-    slice-write-dest
-    add-dest
-    mul-dest-2
-    slice-write-dest-2
-    shifted-requires
-    shifted-requires-2
-    same-length
+    (λ c κs. search needs)
+    (λ c κs. search needs)
+    (λ c κs. search needs)
+    (λ c κs. search needs)
+    (λ c. search needs)
+    (λ c. search needs)
+    (λ c. search needs)
+    (λ c. search needs)
+    (λ c. search needs)
+    (λ c κs. search needs)
+    (λ c κs. search needs)
+    (λ c. search needs)
     returns)

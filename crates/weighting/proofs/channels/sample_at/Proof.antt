@@ -31,9 +31,6 @@ mul-f32-to-f64 c = omega (arith, of-floats c)
 shared-slice-read-f32-to-f64 : tie.Need-shared-slice-read-f32-to-f64
 shared-slice-read-f32-to-f64 c = of-floats (c .before)
 
-f32-to-f64-requires : tie.Need-f32-to-f64-requires
-f32-to-f64-requires c κs = search needs
-
 returns : tie.Need-returns
 returns c =
     let q = c .before .before in
@@ -47,9 +44,6 @@ mul-i16-to-f64 c = omega (arith, of-ints c)
 
 shared-slice-copy-out-i16-to-f64 : tie.Need-shared-slice-copy-out-i16-to-f64
 shared-slice-copy-out-i16-to-f64 c = of-ints c
-
-i16-to-f64-requires : tie.Need-i16-to-f64-requires
-i16-to-f64-requires c κs = search needs
 
 returns-2 : tie.Need-returns-2
 returns-2 c =
@@ -67,9 +61,9 @@ sample-at-spec =
     (tie.spec
     mul-f32-to-f64
     shared-slice-read-f32-to-f64
-    f32-to-f64-requires
+    (λ c κs. search needs)
     returns
     mul-i16-to-f64
     shared-slice-copy-out-i16-to-f64
-    i16-to-f64-requires
+    (λ c κs. search needs)
     returns-2)

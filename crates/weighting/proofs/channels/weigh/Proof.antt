@@ -91,12 +91,6 @@ add-j-2 c =
     let q = c .before .before .before .before .before .before .before .before .before .before in
     omega (arith, second q .1 .0, q .before .before .before .before .before .before .before .good)
 
-sub-left : tie.Need-sub-left Inv-loop μ-loop
-sub-left c = search needs
-
-loop-less : tie.Need-loop-less Inv-loop μ-loop
-loop-less c = search needs
-
 loop-again : tie.Need-loop-again Inv-loop μ-loop
 loop-again c =
     let two = c .before .before in
@@ -122,9 +116,6 @@ sample-at-requires-3 c κs = here (c .before .before .loop .inv .1) (c .if1 .tak
 frame-requires-3 : tie.Need-frame-requires-3 Inv-loop μ-loop
 frame-requires-3 c κs = let q = c .before .before in here (q .before .before .loop .inv .1) (q .if1 .taken) .1
 
-same-length : tie.Need-same-length Inv-loop μ-loop
-same-length c = search needs
-
 returns : tie.Need-returns Inv-loop μ-loop
 returns c =
     let t = c .before .before in
@@ -139,9 +130,6 @@ returns c =
     (e .0 ∙ ap (next (g .a) (l .w)) (x .sample-at3 .ensures))
     (e .1 ∙ ap (λ (v : Float). set (l .dest) (l .j) (out (g .a) (g .b) (l .w) v)) (x .sample-at3 .ensures)))
     z
-
-same-length-2 : tie.Need-same-length-2 Inv-loop μ-loop
-same-length-2 c = search needs
 
 returns-2 : tie.Need-returns-2 Inv-loop μ-loop
 returns-2 c =
@@ -167,12 +155,12 @@ weigh-spec =
     add-i
     add-i-2
     add-j-2
-    sub-left
-    loop-less
+    (λ c. search needs)
+    (λ c. search needs)
     loop-again
     sample-at-requires-3
     frame-requires-3
-    same-length
+    (λ c. search needs)
     returns
-    same-length-2
+    (λ c. search needs)
     returns-2)

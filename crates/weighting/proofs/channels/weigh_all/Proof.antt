@@ -81,9 +81,6 @@ loop-again-2 c =
     let f = w .weigh-next .ensures in
     (f .0 .1, (long w, f .1 ∙ l .loop .inv .1 .1))
 
-flush-used-requires : tie.Need-flush-used-requires Inv-loop μ-loop
-flush-used-requires c κs = search needs
-
 same-length : tie.Need-same-length Inv-loop μ-loop
 same-length c = c .before .before .before .loop .inv .1 .0
 
@@ -117,6 +114,6 @@ weigh-all-spec =
     loop-again
     loop-less-2
     loop-again-2
-    flush-used-requires
+    (λ c κs. search needs)
     same-length
     returns)

@@ -13,18 +13,6 @@ use Rattle.weighting.proofs.channels.weigh_channel.Tie as tie
 returns : tie.Need-returns
 returns c = simp (eq-eqb _ _ (c .if1 .taken)) refl
 
-load-requires : tie.Need-load-requires
-load-requires c κs = search needs
-
-weigh-requires : tie.Need-weigh-requires
-weigh-requires c κs = search needs
-
-store-requires : tie.Need-store-requires
-store-requires c κs = search needs
-
-same-length : tie.Need-same-length
-same-length c = search needs
-
 returns-2 : tie.Need-returns-2
 returns-2 c =
     let w = c .before .before .before .before in
@@ -36,4 +24,4 @@ returns-2 c =
     rw (ne-eqb (a .byte) 0 (q .if1 .left)) (λ i. keptOf (e i) (f i))
 
 pub weigh-channel-spec : {M : Type 1} → statement M
-weigh-channel-spec = tie.close (tie.spec returns load-requires weigh-requires store-requires same-length returns-2)
+weigh-channel-spec = tie.close (tie.spec returns (λ c κs. search needs) (λ c κs. search needs) (λ c κs. search needs) (λ c. search needs) returns-2)

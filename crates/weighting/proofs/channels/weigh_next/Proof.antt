@@ -25,9 +25,6 @@ pairs : (c : tie.Then1) → let a = c .before .before .before .before .before .a
     (a .k + 1 < length (a .map .now)) × ((used (getD (a .map .now) (a .k) 0) ≡ true) × (used (getD (a .map .now) (a .k + 1) 0) ≡ true))
 pairs c = c .before .both-used .ensures (c .if1 .taken)
 
-both-used-requires : tie.Need-both-used-requires
-both-used-requires c κs = search needs
-
 weigh-pair-requires : tie.Need-weigh-pair-requires
 weigh-pair-requires c κs =
     let q = c .before .before in
@@ -42,12 +39,6 @@ weigh-pair-requires c κs =
       ),
     )
 
-add-result : tie.Need-add-result
-add-result c = search needs
-
-same-length : tie.Need-same-length
-same-length c = search needs
-
 returns : tie.Need-returns
 returns c =
     let w = c .before .before in
@@ -59,20 +50,11 @@ returns c =
       each-two (weighOne (a .work) (sourceOf (a .ints .now) (a .floats .now))) (a .map .now) (a .k) (keptOf (a .state .now) (a .dest .now)) _ (u .0) (u .1 .0) (u .1 .1) (w .weigh-pair .ensures),
     )
 
-shared-slice-read-weigh-channel : tie.Need-shared-slice-read-weigh-channel
-shared-slice-read-weigh-channel c = search needs
-
 weigh-channel-requires : tie.Need-weigh-channel-requires
 weigh-channel-requires c κs =
     let s = c .before .before .before .before .before .before .before .before in
     let p = s .pre in
     (reach-start _ _ _ _ (p .0) (p .1 .1 .few) (p .1 .0), inside s (s .args .k) (p .0))
-
-add-result-2 : tie.Need-add-result-2
-add-result-2 c = search needs
-
-same-length-2 : tie.Need-same-length-2
-same-length-2 c = search needs
 
 returns-2 : tie.Need-returns-2
 returns-2 c =
@@ -87,13 +69,13 @@ pub weigh-next-spec : {M : Type 1} → statement M
 weigh-next-spec =
     tie.close
     (tie.spec
-    both-used-requires
+    (λ c κs. search needs)
     weigh-pair-requires
-    add-result
-    same-length
+    (λ c. search needs)
+    (λ c. search needs)
     returns
-    shared-slice-read-weigh-channel
+    (λ c. search needs)
     weigh-channel-requires
-    add-result-2
-    same-length-2
+    (λ c. search needs)
+    (λ c. search needs)
     returns-2)

@@ -11,32 +11,11 @@ use Rattle.weighting.proofs.Pairs.{pair-is}
 use Rattle.weighting.proofs.channels.weigh_pair.Statement.{statement}
 use Rattle.weighting.proofs.channels.weigh_pair.Tie as tie
 
-load-requires : tie.Need-load-requires
-load-requires c κs = search needs
-
-add-load : tie.Need-add-load
-add-load c = search needs
-
-load-requires-2 : tie.Need-load-requires-2
-load-requires-2 c κs = search needs
-
-weigh-two-requires : tie.Need-weigh-two-requires
-weigh-two-requires c κs = search needs
-
-store-requires : tie.Need-store-requires
-store-requires c κs = search needs
-
 add-store : tie.Need-add-store
 add-store c =
     let w = c .before .before .before .before .before .before .before in
     let s = w .before .before .before .before .before .before .before .before in
     omega (arith, s .pre .0)
-
-store-requires-2 : tie.Need-store-requires-2
-store-requires-2 c κs = search needs
-
-same-length : tie.Need-same-length
-same-length c = search needs
 
 returns : tie.Need-returns
 returns c =
@@ -59,12 +38,12 @@ pub weigh-pair-spec : {M : Type 1} → statement M
 weigh-pair-spec =
     tie.close
     (tie.spec
-    load-requires
-    add-load
-    load-requires-2
-    weigh-two-requires
-    store-requires
+    (λ c κs. search needs)
+    (λ c. search needs)
+    (λ c κs. search needs)
+    (λ c κs. search needs)
+    (λ c κs. search needs)
     add-store
-    store-requires-2
-    same-length
+    (λ c κs. search needs)
+    (λ c. search needs)
     returns)

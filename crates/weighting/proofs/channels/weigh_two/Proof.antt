@@ -84,12 +84,6 @@ add-j-2 c =
     let q = c .before .before .before .before .before .before .before .before in
     omega (arith, second q .1 .0, q .before .before .before .before .before .before .good)
 
-sub-left : tie.Need-sub-left Inv-loop μ-loop
-sub-left c = search needs
-
-loop-less : tie.Need-loop-less Inv-loop μ-loop
-loop-less c = search needs
-
 loop-again : tie.Need-loop-again Inv-loop μ-loop
 loop-again c =
     let two = c .before .before in
@@ -105,9 +99,6 @@ loop-again c =
 frame-two-requires-3 : tie.Need-frame-two-requires-3 Inv-loop μ-loop
 frame-two-requires-3 c κs = let q = c .before in both-here (q .before .before .loop .inv .1) (q .if1 .taken)
 
-same-length : tie.Need-same-length Inv-loop μ-loop
-same-length c = search needs
-
 returns : tie.Need-returns Inv-loop μ-loop
 returns c =
     let t = c .before .before in
@@ -117,9 +108,6 @@ returns c =
     let z : l .left - 1 ≡ 0 = omega (arith, q .before .loop-test .left, q .if1 .taken) in
     let f = both-end (both-turn (l .inv .1) _ _ _ (q .if1 .taken) (e .0 .0) (e .0 .1) (e .1)) z in
     ((f .0, f .1 .0), f .1 .1)
-
-same-length-2 : tie.Need-same-length-2 Inv-loop μ-loop
-same-length-2 c = search needs
 
 returns-2 : tie.Need-returns-2 Inv-loop μ-loop
 returns-2 c =
@@ -144,11 +132,11 @@ weigh-two-spec =
     add-i
     add-i-2
     add-j-2
-    sub-left
-    loop-less
+    (λ c. search needs)
+    (λ c. search needs)
     loop-again
     frame-two-requires-3
-    same-length
+    (λ c. search needs)
     returns
-    same-length-2
+    (λ c. search needs)
     returns-2)
