@@ -2,9 +2,8 @@
 ghost use mathlib.Core.Path.{_≡_};
 ghost use Rattle.samples.specs.Kinds.{i16s, f32s};
 ghost use Rattle.codes.specs.Codes.{code};
-ghost use Rattle.true_peak_state.specs.declared.TruePeak.{TruePeak};
-ghost use Rattle.filter.specs.Filter.{noPeaks, resting, moved};
-ghost use Rattle.filter.specs.Call.{Call, seedOf, kept};
+ghost use Rattle.filter.specs.Filter.{noPeaks, resting, withArrays};
+ghost use Rattle.filter.specs.Call.{Call, seedOf, standing, kept};
 ghost use Rattle.filter.specs.Process.{processed};
 ghost use Rattle.filter.specs.Seed.{seeded};
 ghost use Rattle.exports_filter.specs.Switches.{switchesOf};
@@ -38,15 +37,10 @@ pub extern "C" fn xel_process_i16(
     start: usize,
 ) -> u8
     ensures { λ r. ⌜ (let rest = resting channels rate (switchesOf on) (record { a = now (a .entry); b = now (b .entry) }) in
-        let trues : TruePeak = record { memory = now (memory .entry); peaks = now («true_peaks» .entry) } in
-        let filter = moved rest (record { values = now (state .entry) }) (record { values = now (peaks .entry) }) trues in
+        let filter = withArrays rest (record { state = now (state .entry); peaks = now (peaks .entry); memory = now (memory .entry); truePeaks = now («true_peaks» .entry) }) in
+        let left = standing rest (record { state = now (state .exit); peaks = now (peaks .exit); memory = now (memory .exit); truePeaks = now («true_peaks» .exit) }) (now (dest .exit)) in
         let call : Call = record { filter = filter; samples = i16s (now («data» .entry)); map = now (map .entry); dest = now (dest .entry); start = start } in
-        (r ≡ code (processed call))
-        × (now (state .exit) ≡ kept processed call .filter .state .values)
-        × (now (peaks .exit) ≡ kept processed call .filter .peaks .values)
-        × (now (memory .exit) ≡ kept processed call .filter .«true_peak» .memory)
-        × (now («true_peaks» .exit) ≡ kept processed call .filter .«true_peak» .peaks)
-        × (now (dest .exit) ≡ kept processed call .dest)) ⌝ }
+        (r ≡ code (processed call)) × (left ≡ kept processed call)) ⌝ }
 {
     let none: [f32; 0] = [];
     let answer = filter_process::process_lent(
@@ -85,15 +79,10 @@ pub extern "C" fn xel_process_f32(
     start: usize,
 ) -> u8
     ensures { λ r. ⌜ (let rest = resting channels rate (switchesOf on) (record { a = now (a .entry); b = now (b .entry) }) in
-        let trues : TruePeak = record { memory = now (memory .entry); peaks = now («true_peaks» .entry) } in
-        let filter = moved rest (record { values = now (state .entry) }) (record { values = now (peaks .entry) }) trues in
+        let filter = withArrays rest (record { state = now (state .entry); peaks = now (peaks .entry); memory = now (memory .entry); truePeaks = now («true_peaks» .entry) }) in
+        let left = standing rest (record { state = now (state .exit); peaks = now (peaks .exit); memory = now (memory .exit); truePeaks = now («true_peaks» .exit) }) (now (dest .exit)) in
         let call : Call = record { filter = filter; samples = f32s (now («data» .entry)); map = now (map .entry); dest = now (dest .entry); start = start } in
-        (r ≡ code (processed call))
-        × (now (state .exit) ≡ kept processed call .filter .state .values)
-        × (now (peaks .exit) ≡ kept processed call .filter .peaks .values)
-        × (now (memory .exit) ≡ kept processed call .filter .«true_peak» .memory)
-        × (now («true_peaks» .exit) ≡ kept processed call .filter .«true_peak» .peaks)
-        × (now (dest .exit) ≡ kept processed call .dest)) ⌝ }
+        (r ≡ code (processed call)) × (left ≡ kept processed call)) ⌝ }
 {
     let none: [i16; 0] = [];
     let answer = filter_process::process_lent(
@@ -128,12 +117,10 @@ pub extern "C" fn xel_seed_i16(
     map: &[u8],
 ) -> u8
     ensures { λ r. ⌜ (let rest = resting channels rate (switchesOf on) (record { a = now (a .entry); b = now (a .entry) }) in
-        let trues : TruePeak = record { memory = now (memory .entry); peaks = noPeaks } in
-        let filter = moved rest (record { values = now (state .entry) }) (record { values = noPeaks }) trues in
+        let filter = withArrays rest (record { state = now (state .entry); peaks = noPeaks; memory = now (memory .entry); truePeaks = noPeaks }) in
+        let left = withArrays rest (record { state = now (state .exit); peaks = noPeaks; memory = now (memory .exit); truePeaks = noPeaks }) in
         let call = seedOf filter (i16s (now («data» .entry))) (now (map .entry)) in
-        (r ≡ code (seeded call))
-        × (now (state .exit) ≡ kept seeded call .filter .state .values)
-        × (now (memory .exit) ≡ kept seeded call .filter .«true_peak» .memory)) ⌝ }
+        (r ≡ code (seeded call)) × (left ≡ kept seeded call .filter)) ⌝ }
 {
     let no_peaks: [f64; 8] = [0.0; 8];
     let no_true_peaks: [f32; 8] = [0.0; 8];
@@ -167,12 +154,10 @@ pub extern "C" fn xel_seed_f32(
     map: &[u8],
 ) -> u8
     ensures { λ r. ⌜ (let rest = resting channels rate (switchesOf on) (record { a = now (a .entry); b = now (a .entry) }) in
-        let trues : TruePeak = record { memory = now (memory .entry); peaks = noPeaks } in
-        let filter = moved rest (record { values = now (state .entry) }) (record { values = noPeaks }) trues in
+        let filter = withArrays rest (record { state = now (state .entry); peaks = noPeaks; memory = now (memory .entry); truePeaks = noPeaks }) in
+        let left = withArrays rest (record { state = now (state .exit); peaks = noPeaks; memory = now (memory .exit); truePeaks = noPeaks }) in
         let call = seedOf filter (f32s (now («data» .entry))) (now (map .entry)) in
-        (r ≡ code (seeded call))
-        × (now (state .exit) ≡ kept seeded call .filter .state .values)
-        × (now (memory .exit) ≡ kept seeded call .filter .«true_peak» .memory)) ⌝ }
+        (r ≡ code (seeded call)) × (left ≡ kept seeded call .filter)) ⌝ }
 {
     let no_peaks: [f64; 8] = [0.0; 8];
     let no_true_peaks: [f32; 8] = [0.0; 8];

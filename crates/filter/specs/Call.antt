@@ -9,6 +9,7 @@ use Rattle.states.specs.declared.State.{State}
 use Rattle.states.specs.Channels as recurrence
 use Rattle.true_peak_state.specs.TruePeak.{Block}
 use Rattle.filter.specs.declared.Filter.{Filter}
+use Rattle.filter.specs.Filter.{Arrays, withArrays}
 
 -- the samples are interleaved; `start` is the index in each channel's part of the destination that the outputs go to from
 pub record Call : Type 0 where
@@ -37,6 +38,10 @@ pub record Kept : Type 0 where
 
 abbrev pub given : Call → Kept
 given call = record { filter = call .filter; dest = call .dest }
+
+-- what stands in the arrays that a call was lent
+abbrev pub standing : Filter → Arrays → List Float → Kept
+standing filter arrays dest = record { filter = withArrays filter arrays; dest = dest }
 
 -- what stands after a call: what it leaves, and what it was given where it is refused
 abbrev pub kept : (Call → Outcome Kept NoValues) → Call → Kept

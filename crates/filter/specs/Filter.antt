@@ -34,6 +34,13 @@ resting channels rate switches coefficients =
       «true_peak» = silent;
     }
 
+-- what a call moves of a filter, as arrays that are lent each by itself
+pub record Arrays : Type 0 where
+  pub state : List Float
+  pub peaks : List Float
+  pub memory : List Float
+  pub truePeaks : List Float
+
 -- the filter with another state, other peaks and other true peaks
 abbrev pub moved : Filter → State → Peaks → TruePeak → Filter
 moved filter state peaks trues =
@@ -46,3 +53,7 @@ moved filter state peaks trues =
       peaks = peaks;
       «true_peak» = trues;
     }
+
+abbrev pub withArrays : Filter → Arrays → Filter
+withArrays filter arrays =
+    moved filter (record { values = arrays .state }) (record { values = arrays .peaks }) (record { memory = arrays .memory; peaks = arrays .truePeaks })

@@ -22,10 +22,8 @@ use Rattle.true_peak_state.specs.declared.TruePeak.{TruePeak}
 use Rattle.true_peak_state.specs.TruePeak.{measured}
 use Rattle.true_peak.specs.TruePeak as trues
 use Rattle.filter.specs.declared.Filter.{Filter}
-use Rattle.filter.specs.Filter.{moved}
-use Rattle.filter.specs.Call.{Call, kept, weighing, hearing, weighedState}
-use Rattle.filter.specs.Process.{weighedDest, measuredPeaks, measuredTruePeaks, processRows, processed}
-use Rattle.filter.proofs.Moving.{left-moved}
+use Rattle.filter.specs.Call.{Call, weighing, hearing, weighedState}
+use Rattle.filter.specs.Process.{weighedDest, measuredPeaks, measuredTruePeaks, processRows}
 
 -- ---- the weighting
 
@@ -84,14 +82,3 @@ module _ (call : Call) (ok : numberOf (processRows call) ≡ 0) where
 
   pub dest-is : cond (f .switches .loudness) (weighting.kept (weighing call) (call .dest) (call .start) .dest) (call .dest) ≡ weighedDest call
   dest-is = on-dest (weighing call) (call .dest) (call .start) (f .switches .loudness) weighs
-
--- ---- the filter
-
-pub moved-to : (call : Call) {state peaks memory truePeaks : List Float}
-    → state ≡ kept processed call .filter .state .values
-    → peaks ≡ kept processed call .filter .peaks .values
-    → memory ≡ kept processed call .filter .«true_peak» .memory
-    → truePeaks ≡ kept processed call .filter .«true_peak» .peaks
-    → moved (call .filter) (record { values = state }) (record { values = peaks }) (record { memory = memory; peaks = truePeaks }) ≡ kept processed call .filter
-unfolding processed
-moved-to call = left-moved (processRows call) call (weighedState call) (measuredPeaks call) (measuredTruePeaks call) (weighedDest call)

@@ -12,8 +12,8 @@ ghost use Rattle.sample_peak.specs.Peak.{raised};
 ghost use Rattle.true_peak_state.specs.declared.TruePeak.{TruePeak};
 ghost use Rattle.true_peak_state.specs.TruePeak.{Block};
 ghost use Rattle.true_peak.specs.TruePeak as trues;
-ghost use Rattle.filter.specs.Filter.{resting, moved};
-ghost use Rattle.filter.specs.Call.{Call, kept};
+ghost use Rattle.filter.specs.Filter.{resting, withArrays};
+ghost use Rattle.filter.specs.Call.{Call, standing, kept};
 ghost use Rattle.filter.specs.Process.{processed};
 use calls::Sizes;
 use filter::Filter;
@@ -111,16 +111,11 @@ pub fn process_lent(
     start: usize,
 ) -> Answer
     ensures { λ r. ⌜ (let rest = resting channels rate switches (record { a = now (a .entry); b = now (b .entry) }) in
-        let trues : TruePeak = record { memory = now (memory .entry); peaks = now («true_peaks» .entry) } in
-        let filter = moved rest (record { values = now (state .entry) }) (record { values = now (peaks .entry) }) trues in
+        let filter = withArrays rest (record { state = now (state .entry); peaks = now (peaks .entry); memory = now (memory .entry); truePeaks = now («true_peaks» .entry) }) in
+        let left = standing rest (record { state = now (state .exit); peaks = now (peaks .exit); memory = now (memory .exit); truePeaks = now («true_peaks» .exit) }) (now (dest .exit)) in
         let samples = lent (now (ints .entry)) (now (floats .entry)) in
         let call : Call = record { filter = filter; samples = samples; map = now (map .entry); dest = now (dest .entry); start = start } in
-        (said r ≡ saidBy (processed call))
-        × (now (state .exit) ≡ kept processed call .filter .state .values)
-        × (now (peaks .exit) ≡ kept processed call .filter .peaks .values)
-        × (now (memory .exit) ≡ kept processed call .filter .«true_peak» .memory)
-        × (now («true_peaks» .exit) ≡ kept processed call .filter .«true_peak» .peaks)
-        × (now (dest .exit) ≡ kept processed call .dest)) ⌝ }
+        (said r ≡ saidBy (processed call)) × (left ≡ kept processed call)) ⌝ }
 {
     let loudness = switches.loudness;
     let samples = sources::size_of(ints, floats);

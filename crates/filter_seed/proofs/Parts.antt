@@ -7,7 +7,7 @@ use lib.ListN.{length}
 use lib.Ieee.{Float}
 use Rattle.refusals.specs.Outcome.{Outcome, keptBy, went, NoValues, done}
 use Rattle.refusals.specs.Rows.{numberOf}
-use Rattle.refusals.proofs.Rows.{goes, either-way}
+use Rattle.refusals.proofs.Rows.{goes}
 use Rattle.samples.specs.Kinds.{sizeOf, asF64}
 use Rattle.samples.proofs.ByKind.{size-f64, size-f32}
 use Rattle.states.specs.declared.State.{State}
@@ -20,10 +20,8 @@ use Rattle.true_peak_state.specs.declared.TruePeak.{TruePeak}
 use Rattle.true_peak_state.specs.TruePeak.{measured}
 use Rattle.true_peak.specs.TruePeak as trues
 use Rattle.filter.specs.declared.Filter.{Filter}
-use Rattle.filter.specs.Filter.{moved}
-use Rattle.filter.specs.Call.{Call, Kept, given, kept, weighing, hearing, weighedState}
-use Rattle.filter.proofs.Moving.{left-moved}
-use Rattle.filter.specs.Seed.{rememberedTruePeaks, seedRows, seeded}
+use Rattle.filter.specs.Call.{Call, weighing, hearing, weighedState}
+use Rattle.filter.specs.Seed.{rememberedTruePeaks, seedRows}
 
 module _ (call : Call) (ok : numberOf (seedRows call) ≡ 0) where
   abbrev f : Filter
@@ -46,31 +44,7 @@ module _ (call : Call) (ok : numberOf (seedRows call) ≡ 0) where
       (goes (went (record { values = recurrence.stateAfter (weighing call) }) done) (calls.seedRows (f .channels) (length (asF64 (call .samples))) (call .map))
       (ap (λ (n : ℕ). numberOf (calls.seedRows (f .channels) n (call .map))) (size-f64 (call .samples)) ∙ ok))
 
--- ---- the filter, of which a seed call moves no peak
-
-same-peaks : (on : Bool) (t : TruePeak) (memory : List Float) → t .peaks ≡ cond on (record { memory = memory; peaks = t .peaks }) t .peaks
+-- a seed call moves no peak
+pub same-peaks : (on : Bool) (t : TruePeak) (memory : List Float) → t .peaks ≡ cond on (record { memory = memory; peaks = t .peaks }) t .peaks
 same-peaks true t memory = refl
 same-peaks false t memory = refl
-
-module _ (call : Call) where
-  abbrev leaves : Outcome Kept NoValues
-  leaves = went (record { filter = moved (call .filter) (weighedState call) (call .filter .peaks) (rememberedTruePeaks call); dest = call .dest }) done
-
-  peaks-stay : call .filter .peaks .values ≡ kept seeded call .filter .peaks .values
-  unfolding seeded
-  peaks-stay = either-way leaves (λ (o : Outcome Kept NoValues). call .filter .peaks .values ≡ keptBy (given call) o .filter .peaks .values) (seedRows call) (λ r. refl) refl
-
-  true-peaks-stay : call .filter .«true_peak» .peaks ≡ kept seeded call .filter .«true_peak» .peaks
-  unfolding seeded
-  true-peaks-stay =
-      either-way leaves (λ (o : Outcome Kept NoValues). call .filter .«true_peak» .peaks ≡ keptBy (given call) o .filter .«true_peak» .peaks) (seedRows call) (λ r. refl)
-      (same-peaks (call .filter .switches .«true_peak») (call .filter .«true_peak») _)
-
-pub seeded-to : (call : Call) {state memory : List Float}
-    → state ≡ kept seeded call .filter .state .values
-    → memory ≡ kept seeded call .filter .«true_peak» .memory
-    → moved (call .filter) (record { values = state }) (call .filter .peaks) (record { memory = memory; peaks = call .filter .«true_peak» .peaks }) ≡ kept seeded call .filter
-unfolding seeded
-seeded-to call s m =
-    left-moved (seedRows call) call (weighedState call) (call .filter .peaks) (rememberedTruePeaks call) (call .dest)
-    s (peaks-stay call) m (true-peaks-stay call)

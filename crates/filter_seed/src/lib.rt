@@ -10,7 +10,7 @@ ghost use Rattle.seeding.specs.Seeding as seeding;
 ghost use Rattle.true_peak_state.specs.declared.TruePeak.{TruePeak};
 ghost use Rattle.true_peak_state.specs.TruePeak.{Block};
 ghost use Rattle.true_peak.specs.TruePeak as trues;
-ghost use Rattle.filter.specs.Filter.{resting, moved};
+ghost use Rattle.filter.specs.Filter.{resting, withArrays};
 ghost use Rattle.filter.specs.Call.{seedOf, kept};
 ghost use Rattle.filter.specs.Seed.{seeded};
 use filter::Filter;
@@ -91,12 +91,10 @@ pub fn seed_lent(
     map: &[u8],
 ) -> Answer
     ensures { λ r. ⌜ (let rest = resting channels rate switches (record { a = now (a .entry); b = now (b .entry) }) in
-        let trues : TruePeak = record { memory = now (memory .entry); peaks = now («true_peaks» .entry) } in
-        let filter = moved rest (record { values = now (state .entry) }) (record { values = now (peaks .entry) }) trues in
+        let filter = withArrays rest (record { state = now (state .entry); peaks = now (peaks .entry); memory = now (memory .entry); truePeaks = now («true_peaks» .entry) }) in
+        let left = withArrays rest (record { state = now (state .exit); peaks = now (peaks .entry); memory = now (memory .exit); truePeaks = now («true_peaks» .entry) }) in
         let call = seedOf filter (lent (now (ints .entry)) (now (floats .entry))) (now (map .entry)) in
-        (said r ≡ saidBy (seeded call))
-        × (now (state .exit) ≡ kept seeded call .filter .state .values)
-        × (now (memory .exit) ≡ kept seeded call .filter .«true_peak» .memory)) ⌝ }
+        (said r ≡ saidBy (seeded call)) × (left ≡ kept seeded call .filter)) ⌝ }
 {
     let samples = sources::size_of(ints, floats);
     let number = calls::refused_seed(channels, samples, map);

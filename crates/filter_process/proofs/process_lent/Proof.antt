@@ -12,27 +12,23 @@ use Rattle.samples.specs.Kinds.{lent}
 use Rattle.states.specs.declared.State.{State}
 use Rattle.sample_peak.specs.declared.Peaks.{Peaks}
 use Rattle.true_peak_state.specs.declared.TruePeak.{TruePeak}
-use Rattle.filter.specs.Filter.{resting, moved}
-use Rattle.filter.specs.Call.{Call, Kept, given, weighedState}
+use Rattle.filter.specs.Filter.{Arrays, resting, moved, withArrays}
+use Rattle.filter.specs.Call.{Call, Kept, given, standing, weighedState}
 use Rattle.filter.proofs.Lent.{lent-size}
 use Rattle.filter.specs.Process.{weighedDest, measuredPeaks, measuredTruePeaks, processRows, processed}
 use Rattle.filter_process.proofs.Parts.{peaks-are, trues-are, state-is, dest-is}
 use Rattle.filter_process.proofs.process_lent.Statement.{statement}
 use Rattle.filter_process.proofs.process_lent.Tie as tie
 
--- the call of the definitions
+-- the arrays that are lent, and the call of the definitions
+abbrev arrays : tie.Start → Arrays
+arrays s = let a = s .args in record { state = now (a .state); peaks = now (a .peaks); memory = now (a .memory); truePeaks = now (a .true-peaks) }
+
 abbrev call : tie.Start → Call
 call s =
     let a = s .args in
-    record {
-      filter =
-          moved (resting (a .channels) (a .rate) (a .switches) (record { a = now (a .a); b = now (a .b) }))
-          (record { values = now (a .state) }) (record { values = now (a .peaks) }) (record { memory = now (a .memory); peaks = now (a .true-peaks) });
-      samples = lent (now (a .ints)) (now (a .floats));
-      map = now (a .map);
-      dest = now (a .dest);
-      start = a .start;
-    }
+    let filter = withArrays (resting (a .channels) (a .rate) (a .switches) (record { a = now (a .a); b = now (a .b) })) (arrays s) in
+    record { filter = filter; samples = lent (now (a .ints)) (now (a .floats)); map = now (a .map); dest = now (a .dest); start = a .start }
 
 abbrev leaves : tie.Start → Outcome Kept NoValues
 leaves s = let k = call s in went (record { filter = moved (k .filter) (weighedState k) (measuredPeaks k) (measuredTruePeaks k); dest = weighedDest k }) done
@@ -48,20 +44,13 @@ size-of-requires c κs = search needs
 refused-process-requires : tie.Need-refused-process-requires
 refused-process-requires c κs = search needs
 
--- what is kept of each array by an equation of what is kept of all
 returns : tie.Need-returns
 unfolding processed
 returns c =
     let r = c .before in
     let s = r .before .before .before .before .before in
-    let f = stopped (leaves s) (processRows (call s)) (given (call s)) (r .refused-process .result) (numbered r) (c .if1 .taken) in (
-      f .says,
-      ap (λ (k : Kept). k .filter .state .values) (f .keeps),
-      ap (λ (k : Kept). k .filter .peaks .values) (f .keeps),
-      ap (λ (k : Kept). k .filter .«true_peak» .memory) (f .keeps),
-      ap (λ (k : Kept). k .filter .«true_peak» .peaks) (f .keeps),
-      ap (λ (k : Kept). k .dest) (f .keeps),
-    )
+    let f = stopped (leaves s) (processRows (call s)) (given (call s)) (r .refused-process .result) (numbered r) (c .if1 .taken) in
+    (f .says, f .keeps)
 
 raise-requires : tie.Need-raise-requires
 raise-requires c κs = search needs
@@ -86,25 +75,13 @@ returns-2 c =
     let s = r .before .before .before .before .before in
     let k = call s in
     let ok = sym (numbered r) ∙ e .if1 .left in
-    let trues = trues-are k ok in
-    let z = sym (goes (leaves s) (processRows k) ok) in (
-      ap saidBy z,
-      w .weigh .ensures .0
-          ∙ ap (λ (x : State). x .values) (state-is k ok)
-          ∙ ap (λ (o : Outcome Kept NoValues). keptBy (given k) o .filter .state .values) z,
-      p .raise .ensures
-          ∙ ap (λ (x : Peaks). x .values) (peaks-are k ok)
-          ∙ ap (λ (o : Outcome Kept NoValues). keptBy (given k) o .filter .peaks .values) z,
-      l .listen .ensures .0
-          ∙ ap (λ (x : TruePeak). x .memory) trues
-          ∙ ap (λ (o : Outcome Kept NoValues). keptBy (given k) o .filter .«true_peak» .memory) z,
-      l .listen .ensures .1
-          ∙ ap (λ (x : TruePeak). x .peaks) trues
-          ∙ ap (λ (o : Outcome Kept NoValues). keptBy (given k) o .filter .«true_peak» .peaks) z,
-      w .weigh .ensures .1
-          ∙ dest-is k ok
-          ∙ ap (λ (o : Outcome Kept NoValues). keptBy (given k) o .dest) z,
-    )
+    let state = w .weigh .ensures .0 ∙ ap (λ (x : State). x .values) (state-is k ok) in
+    let peaks = p .raise .ensures ∙ ap (λ (x : Peaks). x .values) (peaks-are k ok) in
+    let memory = l .listen .ensures .0 ∙ ap (λ (x : TruePeak). x .memory) (trues-are k ok) in
+    let trues = l .listen .ensures .1 ∙ ap (λ (x : TruePeak). x .peaks) (trues-are k ok) in
+    let dest = w .weigh .ensures .1 ∙ dest-is k ok in
+    let z = sym (goes (leaves s) (processRows k) ok) in
+    (ap saidBy z, (λ i. standing (k .filter) (record { state = state i; peaks = peaks i; memory = memory i; truePeaks = trues i }) (dest i)) ∙ ap (keptBy (given k)) z)
 
 pub process-lent-spec : {M : Type 1} → statement M
 process-lent-spec =

@@ -10,22 +10,23 @@ use Rattle.calls.specs.Calls as calls
 use Rattle.samples.specs.Kinds.{lent}
 use Rattle.states.specs.declared.State.{State}
 use Rattle.true_peak_state.specs.declared.TruePeak.{TruePeak}
-use Rattle.filter.specs.Filter.{resting, moved}
+use Rattle.filter.specs.Filter.{Arrays, resting, moved, withArrays}
 use Rattle.filter.specs.Call.{Call, Kept, seedOf, given, weighedState}
 use Rattle.filter.proofs.Lent.{lent-size}
 use Rattle.filter.specs.Seed.{rememberedTruePeaks, seedRows, seeded}
-use Rattle.filter_seed.proofs.Parts.{memory-is, state-is}
+use Rattle.filter_seed.proofs.Parts.{memory-is, state-is, same-peaks}
 use Rattle.filter_seed.proofs.seed_lent.Statement.{statement}
 use Rattle.filter_seed.proofs.seed_lent.Tie as tie
 
--- the call of the definitions
+-- the arrays that are lent, and the call of the definitions
+abbrev arrays : tie.Start → Arrays
+arrays s = let a = s .args in record { state = now (a .state); peaks = now (a .peaks); memory = now (a .memory); truePeaks = now (a .true-peaks) }
+
 abbrev call : tie.Start → Call
 call s =
     let a = s .args in
-    seedOf
-    (moved (resting (a .channels) (a .rate) (a .switches) (record { a = now (a .a); b = now (a .b) }))
-    (record { values = now (a .state) }) (record { values = now (a .peaks) }) (record { memory = now (a .memory); peaks = now (a .true-peaks) }))
-    (lent (now (a .ints)) (now (a .floats))) (now (a .map))
+    let filter = withArrays (resting (a .channels) (a .rate) (a .switches) (record { a = now (a .a); b = now (a .b) })) (arrays s) in
+    seedOf filter (lent (now (a .ints)) (now (a .floats))) (now (a .map))
 
 abbrev leaves : tie.Start → Outcome Kept NoValues
 leaves s = let k = call s in went (record { filter = moved (k .filter) (weighedState k) (k .filter .peaks) (rememberedTruePeaks k); dest = k .dest }) done
@@ -47,7 +48,7 @@ returns c =
     let r = c .before in
     let s = r .before .before .before .before in
     let f = stopped (leaves s) (seedRows (call s)) (given (call s)) (r .refused-seed .result) (numbered r) (c .if1 .taken) in
-    (f .says, ap (λ (k : Kept). k .filter .state .values) (f .keeps), ap (λ (k : Kept). k .filter .«true_peak» .memory) (f .keeps))
+    (f .says, ap (λ (k : Kept). k .filter) (f .keeps))
 
 remember-requires : tie.Need-remember-requires
 remember-requires c κs = search needs
@@ -64,14 +65,13 @@ returns-2 c =
     let s = r .before .before .before .before in
     let k = call s in
     let ok = sym (numbered r) ∙ e .if1 .left in
+    let state = c .advance .ensures ∙ ap (λ (x : State). x .values) (state-is k ok) in
+    let memory = l .remember .ensures ∙ ap (λ (x : TruePeak). x .memory) (memory-is k ok) in
+    let trues = same-peaks (k .filter .switches .«true_peak») (k .filter .«true_peak») _ in
     let z = sym (goes (leaves s) (seedRows k) ok) in (
       ap saidBy z,
-      c .advance .ensures
-          ∙ ap (λ (x : State). x .values) (state-is k ok)
-          ∙ ap (λ (o : Outcome Kept NoValues). keptBy (given k) o .filter .state .values) z,
-      l .remember .ensures
-          ∙ ap (λ (x : TruePeak). x .memory) (memory-is k ok)
-          ∙ ap (λ (o : Outcome Kept NoValues). keptBy (given k) o .filter .«true_peak» .memory) z,
+      (λ i. withArrays (k .filter) (record { state = state i; peaks = arrays s .peaks; memory = memory i; truePeaks = trues i }))
+          ∙ ap (λ (o : Outcome Kept NoValues). keptBy (given k) o .filter) z,
     )
 
 pub seed-lent-spec : {M : Type 1} → statement M
