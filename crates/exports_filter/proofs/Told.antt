@@ -1,74 +1,31 @@
--- A call of the filter as the C interface tells it: the code of what it says, and each array of what it keeps. Assumes nothing.
+-- A call of the filter as the C interface tells it: the code of what it says, and what it keeps. Assumes nothing.
 use mathlib.Core.Path.{_≡_, ap, _∙_}
 use mathlib.Core.List.{List, []}
 use Prim.Native.Nat.{ℕ}
 use lib.IntN.{ℤ}
-use lib.Ieee.{Float}
 use Rattle.refusals.specs.Answer.{said}
-use Rattle.refusals.specs.Outcome.{Outcome, saidBy, keptBy, NoValues}
+use Rattle.refusals.specs.Outcome.{Outcome, saidBy, NoValues}
 use Rattle.refusals.specs.declared.Answer.{Answer}
 use Rattle.samples.specs.Kinds.{Samples, i16s, f32s, lent}
-use Rattle.samples.proofs.ByKind.{only-i16, only-f32}
+use Rattle.samples.proofs.ByKind.{only-i16}
 use Rattle.codes.specs.Codes.{code, numberSaid}
 use Rattle.codes.proofs.Told.{answer-told}
-use Rattle.filter.specs.declared.Switches.{Switches}
-use Rattle.filter.specs.Call.{Call, Kept, given, kept}
-use Rattle.filter.specs.Process.{processed}
-use Rattle.filter.specs.Seed.{seeded}
+use Rattle.filter.specs.Call.{Call, Kept, kept}
 
--- what is asked of the switches of a number and of samples of one kind
-module _ {Asked : Type 0} (asked : Switches → Samples → Asked) (s s′ : Switches) (e : s ≡ s′) where
-  pub on-ints : asked s′ (f32s []) ≡ asked s′ (i16s []) → (ints : List ℤ) → asked s (lent ints []) ≡ asked s′ (i16s ints)
-  on-ints none ints = ap (λ (w : Switches). asked w (lent ints [])) e ∙ only-i16 (asked s′) none ints
+module _ (operation : Call → Outcome Kept NoValues) {Left : Type 0} (part : Kept → Left) (asked : Samples → Call) where
+  -- the code, and what is left
+  abbrev tells : Samples → ℕ × Left
+  tells samples = (code (operation (asked samples)), part (kept operation (asked samples)))
 
-  pub on-floats : (floats : List Float) → asked s (lent [] floats) ≡ asked s′ (f32s floats)
-  on-floats floats = ap (λ (w : Switches). asked w (lent [] floats)) e ∙ ap (asked s′) (only-f32 floats)
+  module _ (answer : Answer) {n : ℕ} {left : Left} (number : n ≡ numberSaid answer) where
+    pub told : (samples : Samples) → (said answer ≡ saidBy (operation (asked samples))) × (left ≡ part (kept operation (asked samples)))
+        → (n ≡ tells samples .0) × (left ≡ tells samples .1)
+    told samples h = (number ∙ answer-told (operation (asked samples)) answer (h .0), h .1)
 
-module _ (operation : Call → Outcome Kept NoValues) (call call′ : Call) (comes : operation call ≡ operation call′) (has : given call ≡ given call′) where
-  leaves : kept operation call ≡ kept operation call′
-  leaves = ap (λ (g : Kept). keptBy g (operation call)) has ∙ ap (keptBy (given call′)) comes
-
-  code-told : (answer : Answer) (n : ℕ) → said answer ≡ saidBy (operation call) → n ≡ numberSaid answer → n ≡ code (operation call′)
-  code-told answer n h number = number ∙ answer-told (operation call) answer h ∙ ap (λ (o : Outcome Kept NoValues). code o) comes
-
-  left-told : {A : Type 0} (part : Kept → A) {x : A} → x ≡ part (kept operation call) → x ≡ part (kept operation call′)
-  left-told part h = h ∙ ap part leaves
-
-pub processed-told : (call call′ : Call) → processed call ≡ processed call′ → given call ≡ given call′
-    → (answer : Answer) (state peaks memory truePeaks dest : List Float) (n : ℕ)
-    → (said answer ≡ saidBy (processed call))
-    × (state ≡ kept processed call .filter .state .values)
-    × (peaks ≡ kept processed call .filter .peaks .values)
-    × (memory ≡ kept processed call .filter .«true_peak» .memory)
-    × (truePeaks ≡ kept processed call .filter .«true_peak» .peaks)
-    × (dest ≡ kept processed call .dest)
-    → n ≡ numberSaid answer
-    → (n ≡ code (processed call′))
-    × (state ≡ kept processed call′ .filter .state .values)
-    × (peaks ≡ kept processed call′ .filter .peaks .values)
-    × (memory ≡ kept processed call′ .filter .«true_peak» .memory)
-    × (truePeaks ≡ kept processed call′ .filter .«true_peak» .peaks)
-    × (dest ≡ kept processed call′ .dest)
-processed-told call call′ comes has answer state peaks memory truePeaks dest n told number = (
-  code-told processed call call′ comes has answer n (told .0) number,
-  left-told processed call call′ comes has (λ k. k .filter .state .values) (told .1),
-  left-told processed call call′ comes has (λ k. k .filter .peaks .values) (told .2),
-  left-told processed call call′ comes has (λ k. k .filter .«true_peak» .memory) (told .3),
-  left-told processed call call′ comes has (λ k. k .filter .«true_peak» .peaks) (told .4),
-  left-told processed call call′ comes has (λ k. k .dest) (told .5),
-)
-
-pub seeded-told : (call call′ : Call) → seeded call ≡ seeded call′ → given call ≡ given call′
-    → (answer : Answer) (state memory : List Float) (n : ℕ)
-    → (said answer ≡ saidBy (seeded call))
-    × (state ≡ kept seeded call .filter .state .values)
-    × (memory ≡ kept seeded call .filter .«true_peak» .memory)
-    → n ≡ numberSaid answer
-    → (n ≡ code (seeded call′))
-    × (state ≡ kept seeded call′ .filter .state .values)
-    × (memory ≡ kept seeded call′ .filter .«true_peak» .memory)
-seeded-told call call′ comes has answer state memory n told number = (
-  code-told seeded call call′ comes has answer n (told .0) number,
-  left-told seeded call call′ comes has (λ k. k .filter .state .values) (told .1),
-  left-told seeded call call′ comes has (λ k. k .filter .«true_peak» .memory) (told .2),
-)
+    pub ints-told : tells (f32s []) ≡ tells (i16s []) → (ints : List ℤ)
+        → (said answer ≡ saidBy (operation (asked (lent ints [])))) × (left ≡ part (kept operation (asked (lent ints []))))
+        → (n ≡ tells (i16s ints) .0) × (left ≡ tells (i16s ints) .1)
+    ints-told none ints h =
+        let t = told (lent ints []) h in
+        let same = only-i16 tells none ints in
+        (t .0 ∙ ap (λ (p : ℕ × Left). p .0) same, t .1 ∙ ap (λ (p : ℕ × Left). p .1) same)

@@ -14,22 +14,10 @@ Inv-loop map i₀ i = (i ≤ length map) × (allAdmitted (drop i map) ≡ allAdm
 abbrev μ-loop : tie.MeasureT-loop
 μ-loop map i₀ i = length map - i
 
-loop-holds : tie.Need-loop-holds Inv-loop μ-loop
-loop-holds c = search needs
-
-shared-slice-read-if1 : tie.Need-shared-slice-read-if1 Inv-loop μ-loop
-shared-slice-read-if1 c = search needs
-
 returns : tie.Need-returns Inv-loop μ-loop
 returns c =
     let q = c .before .before in
     sym (admitted-not _ _ (q .loop-test .taken) (c .if1 .taken)) ∙ q .before .loop .inv .1
-
-add-i : tie.Need-add-i Inv-loop μ-loop
-add-i c = search needs
-
-loop-less : tie.Need-loop-less Inv-loop μ-loop
-loop-less c = search needs
 
 loop-again : tie.Need-loop-again Inv-loop μ-loop
 loop-again c =
@@ -42,4 +30,4 @@ returns-2 c = ap allAdmitted (sym (drop-of-length-le (c .before .before .args .m
 
 pub all-admitted-spec : {M : Type 1} → statement M
 all-admitted-spec =
-    tie.close (tie.spec Inv-loop μ-loop loop-holds shared-slice-read-if1 returns add-i loop-less loop-again returns-2)
+    tie.close (tie.spec Inv-loop μ-loop (λ c. search needs) (λ c. search needs) returns (λ c. search needs) (λ c. search needs) loop-again returns-2)

@@ -16,21 +16,12 @@ returns-2 c =
     let on = c .before .before in
     simp (not-false (on .before .args .loudness) (on .if1 .left), eq-eqb _ _ (c .if2 .taken))
 
-rem-if3 : tie.Need-rem-if3
-rem-if3 c = search needs
-
 returns-3 : tie.Need-returns-3
 unfolding destRows
 returns-3 c =
     let some = c .before .before in
     let on = some .before .before in
     simp (not-false (on .before .args .loudness) (on .if1 .left), ne-eqb _ _ (some .if2 .left), ne-eqb _ _ (c .if3 .taken))
-
-div-frames : tie.Need-div-frames
-div-frames c = search needs
-
-div-part : tie.Need-div-part
-div-part c = search needs
 
 returns-4 : tie.Need-returns-4
 unfolding destRows
@@ -74,4 +65,15 @@ returns-6 c =
     )
 
 pub refused-dest-spec : {M : Type 1} → statement M
-refused-dest-spec = tie.close (tie.spec returns returns-2 rem-if3 returns-3 div-frames div-part returns-4 returns-5 returns-6)
+refused-dest-spec =
+    tie.close
+    (tie.spec
+    returns
+    returns-2
+    (λ c. search needs)
+    returns-3
+    (λ c. search needs)
+    (λ c. search needs)
+    returns-4
+    returns-5
+    returns-6)

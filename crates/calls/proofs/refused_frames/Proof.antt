@@ -13,9 +13,6 @@ returns-2 : tie.Need-returns-2
 unfolding frameRows
 returns-2 c = simp (ne-eqb _ _ (c .before .if1 .left), lt-ltb _ _ (c .if2 .taken))
 
-rem-if3 : tie.Need-rem-if3
-rem-if3 c = search needs
-
 returns-3 : tie.Need-returns-3
 unfolding frameRows
 returns-3 c = simp (ne-eqb _ _ (c .before .before .if1 .left), le-ltb _ _ (c .before .if2 .left), ne-eqb _ _ (c .if3 .taken))
@@ -25,4 +22,4 @@ unfolding frameRows
 returns-4 c = simp (ne-eqb _ _ (c .before .before .if1 .left), le-ltb _ _ (c .before .if2 .left), eq-eqb _ _ (c .if3 .left))
 
 pub refused-frames-spec : {M : Type 1} → statement M
-refused-frames-spec = tie.close (tie.spec returns returns-2 rem-if3 returns-3 returns-4)
+refused-frames-spec = tie.close (tie.spec returns returns-2 (λ c. search needs) returns-3 returns-4)

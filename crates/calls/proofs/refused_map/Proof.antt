@@ -10,9 +10,6 @@ returns : tie.Need-returns
 unfolding mapRows
 returns c = simp (ne-eqb _ _ (c .if1 .taken))
 
-all-admitted-requires : tie.Need-all-admitted-requires
-all-admitted-requires c κs = search needs
-
 returns-2 : tie.Need-returns-2
 unfolding mapRows
 returns-2 c = simp (eq-eqb _ _ (c .before .before .if1 .left), sym (c .before .all-admitted .ensures) ∙ not-true _ (c .if2 .taken))
@@ -22,4 +19,4 @@ unfolding mapRows
 returns-3 c = simp (eq-eqb _ _ (c .before .before .if1 .left), sym (c .before .all-admitted .ensures) ∙ not-false _ (c .if2 .left))
 
 pub refused-map-spec : {M : Type 1} → statement M
-refused-map-spec = tie.close (tie.spec returns all-admitted-requires returns-2 returns-3)
+refused-map-spec = tie.close (tie.spec returns (λ c κs. search needs) returns-2 returns-3)

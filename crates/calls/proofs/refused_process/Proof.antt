@@ -7,9 +7,6 @@ use Rattle.calls.specs.Calls.{seedRows, destRows}
 use Rattle.calls.proofs.refused_process.Statement.{statement}
 use Rattle.calls.proofs.refused_process.Tie as tie
 
-refused-seed-requires : tie.Need-refused-seed-requires
-refused-seed-requires c κs = search needs
-
 returns : tie.Need-returns
 returns c =
     let f = c .before in
@@ -31,4 +28,4 @@ returns-2 c =
     number-next (seedRows (s .channels) (s .samples) (a .map .now)) (destRows (a .loudness) s) (c .refused-dest .result) (sym (f .refused-seed .ensures) ∙ c .before .if1 .left) (c .refused-dest .ensures)
 
 pub refused-process-spec : {M : Type 1} → statement M
-refused-process-spec = tie.close (tie.spec refused-seed-requires returns refused-dest-requires returns-2)
+refused-process-spec = tie.close (tie.spec (λ c κs. search needs) returns refused-dest-requires returns-2)

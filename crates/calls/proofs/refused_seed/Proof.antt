@@ -6,17 +6,11 @@ use Rattle.calls.specs.Calls.{frameRows, mapRows}
 use Rattle.calls.proofs.refused_seed.Statement.{statement}
 use Rattle.calls.proofs.refused_seed.Tie as tie
 
-refused-frames-requires : tie.Need-refused-frames-requires
-refused-frames-requires c κs = search needs
-
 returns : tie.Need-returns
 returns c =
     let f = c .before in
     let a = f .before .before .args in
     number-first (frameRows (a .channels) (a .samples)) (mapRows (a .channels) (a .map .now)) (f .refused-frames .result) (f .refused-frames .ensures) (c .if1 .taken)
-
-refused-map-requires : tie.Need-refused-map-requires
-refused-map-requires c κs = search needs
 
 returns-2 : tie.Need-returns-2
 returns-2 c =
@@ -25,4 +19,4 @@ returns-2 c =
     number-next (frameRows (a .channels) (a .samples)) (mapRows (a .channels) (a .map .now)) (c .refused-map .result) (sym (f .refused-frames .ensures) ∙ c .before .if1 .left) (c .refused-map .ensures)
 
 pub refused-seed-spec : {M : Type 1} → statement M
-refused-seed-spec = tie.close (tie.spec refused-frames-requires returns refused-map-requires returns-2)
+refused-seed-spec = tie.close (tie.spec (λ c κs. search needs) returns (λ c κs. search needs) returns-2)

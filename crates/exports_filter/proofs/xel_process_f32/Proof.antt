@@ -1,14 +1,12 @@
 -- `exports_filter::xel_process_f32` meets its contract: the filter is that of the numbers and arrays, its samples are those of this kind, and what the call comes to is told. Assumes nothing.
 use denote.Ref.{now}
 use borrow.Author.Needs.{needs}
-use mathlib.Core.List.{[]}
 use Rattle.samples.specs.Kinds.{Samples, f32s, lent}
-use Rattle.filter.specs.declared.Switches.{Switches}
-use Rattle.filter.specs.Filter.{resting, moved}
-use Rattle.filter.specs.Call.{Call, given}
+use Rattle.filter.specs.Filter.{resting, withArrays}
+use Rattle.filter.specs.Call.{Call, Kept}
 use Rattle.filter.specs.Process.{processed}
 use Rattle.exports_filter.specs.Switches.{switchesOf}
-use Rattle.exports_filter.proofs.Told.{on-floats, processed-told}
+use Rattle.exports_filter.proofs.Told.{told}
 use Rattle.exports_filter.proofs.xel_process_f32.Statement.{statement}
 use Rattle.exports_filter.proofs.xel_process_f32.Tie as tie
 
@@ -28,25 +26,22 @@ same-length : tie.Need-same-length
 same-length c = search needs
 
 returns : tie.Need-returns
+unfolding lent
 returns c =
     let called = c .before .before .before in
     let on = called .before .before .before .before .before .before .before in
     let a = on .before .before .before .before .args in
-    let call = called .process-lent in
-    let asked : Switches → Samples → Call = λ on x. record {
+    let asked : Samples → Call = λ x. record {
       filter =
-          moved (resting (a .channels) (a .rate) on (record { a = now (a .a); b = now (a .b) }))
-          (record { values = now (a .state) }) (record { values = now (a .peaks) }) (record { memory = now (a .memory); peaks = now (a .true-peaks) });
+          withArrays (resting (a .channels) (a .rate) (switchesOf (a .on)) (record { a = now (a .a); b = now (a .b) }))
+          (record { state = now (a .state); peaks = now (a .peaks); memory = now (a .memory); truePeaks = now (a .true-peaks) });
       samples = x;
       map = now (a .map);
       dest = now (a .dest);
       start = a .start;
     } in
-    let s = on .switches-of in
-    processed-told (asked (s .result) (lent [] (now (a .«data»)))) (asked (switchesOf (a .on)) (f32s (now (a .«data»))))
-    (on-floats (λ w x. processed (asked w x)) (s .result) (switchesOf (a .on)) (s .ensures) (now (a .«data»)))
-    (on-floats (λ w x. given (asked w x)) (s .result) (switchesOf (a .on)) (s .ensures) (now (a .«data»)))
-    (call .result) _ _ _ _ _ _ (call .ensures) (c .number-of .ensures)
+    let h = rw (on .switches-of .ensures) at (called .process-lent .ensures) in
+    told processed (λ (k : Kept). k) asked (called .process-lent .result) (c .number-of .ensures) (f32s (now (a .«data»))) h
 
 pub xel-process-f32-spec : {M : Type 1} → statement M
 xel-process-f32-spec = tie.close (tie.spec switches-of-requires slice-aggregate-process-lent process-lent-requires number-of-requires same-length returns)

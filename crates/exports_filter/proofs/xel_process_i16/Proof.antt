@@ -1,15 +1,13 @@
 -- `exports_filter::xel_process_i16` meets its contract: the filter is that of the numbers and arrays, its samples are those of this kind, and what the call comes to is told. Assumes nothing.
 use denote.Ref.{now}
 use borrow.Author.Needs.{needs}
-use mathlib.Core.List.{[]}
 use mathlib.Core.Path.{refl}
-use Rattle.samples.specs.Kinds.{Samples, i16s, sizeOf, asF64, asF32, lent}
-use Rattle.filter.specs.declared.Switches.{Switches}
-use Rattle.filter.specs.Filter.{resting, moved}
-use Rattle.filter.specs.Call.{Call, given}
+use Rattle.samples.specs.Kinds.{Samples, sizeOf, asF64, asF32}
+use Rattle.filter.specs.Filter.{resting, withArrays}
+use Rattle.filter.specs.Call.{Call, Kept}
 use Rattle.filter.specs.Process.{processed}
 use Rattle.exports_filter.specs.Switches.{switchesOf}
-use Rattle.exports_filter.proofs.Told.{on-ints, processed-told}
+use Rattle.exports_filter.proofs.Told.{ints-told}
 use Rattle.exports_filter.proofs.xel_process_i16.Statement.{statement}
 use Rattle.exports_filter.proofs.xel_process_i16.Tie as tie
 
@@ -34,21 +32,17 @@ returns c =
     let called = c .before .before .before in
     let on = called .before .before .before .before .before .before .before in
     let a = on .before .before .before .args in
-    let call = called .process-lent in
-    let asked : Switches → Samples → Call = λ on x. record {
+    let asked : Samples → Call = λ x. record {
       filter =
-          moved (resting (a .channels) (a .rate) on (record { a = now (a .a); b = now (a .b) }))
-          (record { values = now (a .state) }) (record { values = now (a .peaks) }) (record { memory = now (a .memory); peaks = now (a .true-peaks) });
+          withArrays (resting (a .channels) (a .rate) (switchesOf (a .on)) (record { a = now (a .a); b = now (a .b) }))
+          (record { state = now (a .state); peaks = now (a .peaks); memory = now (a .memory); truePeaks = now (a .true-peaks) });
       samples = x;
       map = now (a .map);
       dest = now (a .dest);
       start = a .start;
     } in
-    let s = on .switches-of in
-    processed-told (asked (s .result) (lent (now (a .«data»)) [])) (asked (switchesOf (a .on)) (i16s (now (a .«data»))))
-    (on-ints (λ w x. processed (asked w x)) (s .result) (switchesOf (a .on)) (s .ensures) refl (now (a .«data»)))
-    (on-ints (λ w x. given (asked w x)) (s .result) (switchesOf (a .on)) (s .ensures) refl (now (a .«data»)))
-    (call .result) _ _ _ _ _ _ (call .ensures) (c .number-of .ensures)
+    let h = rw (on .switches-of .ensures) at (called .process-lent .ensures) in
+    ints-told processed (λ (k : Kept). k) asked (called .process-lent .result) (c .number-of .ensures) refl (now (a .«data»)) h
 
 pub xel-process-i16-spec : {M : Type 1} → statement M
 xel-process-i16-spec = tie.close (tie.spec switches-of-requires slice-aggregate-process-lent process-lent-requires number-of-requires same-length returns)

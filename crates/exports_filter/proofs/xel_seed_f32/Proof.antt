@@ -1,15 +1,13 @@
 -- `exports_filter::xel_seed_f32` meets its contract: the filter is that of the numbers and arrays, with peaks of 0, its samples are those of this kind, and what the call comes to is told. Assumes nothing.
 use denote.Ref.{now}
 use borrow.Author.Needs.{needs}
-use mathlib.Core.List.{[]}
 use lib.Ieee.{ofBits}
 use Rattle.samples.specs.Kinds.{Samples, f32s, lent}
-use Rattle.filter.specs.declared.Switches.{Switches}
-use Rattle.filter.specs.Filter.{noPeaks, resting, moved}
-use Rattle.filter.specs.Call.{Call, seedOf, given}
+use Rattle.filter.specs.Filter.{noPeaks, resting, withArrays}
+use Rattle.filter.specs.Call.{Call, seedOf, Kept}
 use Rattle.filter.specs.Seed.{seeded}
 use Rattle.exports_filter.specs.Switches.{switchesOf}
-use Rattle.exports_filter.proofs.Told.{on-floats, seeded-told}
+use Rattle.exports_filter.proofs.Told.{told}
 use Rattle.exports_filter.proofs.xel_seed_f32.Statement.{statement}
 use Rattle.exports_filter.proofs.xel_seed_f32.Tie as tie
 
@@ -26,20 +24,16 @@ number-of-requires : tie.Need-number-of-requires
 number-of-requires c κs = search needs
 
 returns : tie.Need-returns
-unfolding ofBits
+unfolding ofBits lent
 returns c =
     let called = c .before in
     let on = called .before .before .before .before .before .before in
     let a = on .before .before .before .args in
-    let call = called .seed-lent in
-    let asked : Switches → Samples → Call = λ on x. seedOf
-    (moved (resting (a .channels) (a .rate) on (record { a = now (a .a); b = now (a .a) })) (record { values = now (a .state) }) (record { values = noPeaks }) (record { memory = now (a .memory); peaks = noPeaks }))
+    let asked : Samples → Call = λ x. seedOf
+    (withArrays (resting (a .channels) (a .rate) (switchesOf (a .on)) (record { a = now (a .a); b = now (a .a) })) (record { state = now (a .state); peaks = noPeaks; memory = now (a .memory); truePeaks = noPeaks }))
     x (now (a .map)) in
-    let s = on .switches-of in
-    seeded-told (asked (s .result) (lent [] (now (a .«data»)))) (asked (switchesOf (a .on)) (f32s (now (a .«data»))))
-    (on-floats (λ w x. seeded (asked w x)) (s .result) (switchesOf (a .on)) (s .ensures) (now (a .«data»)))
-    (on-floats (λ w x. given (asked w x)) (s .result) (switchesOf (a .on)) (s .ensures) (now (a .«data»)))
-    (call .result) _ _ _ (call .ensures) (c .number-of .ensures)
+    let h = rw (on .switches-of .ensures) at (called .seed-lent .ensures) in
+    told seeded (λ (k : Kept). k .filter) asked (called .seed-lent .result) (c .number-of .ensures) (f32s (now (a .«data»))) h
 
 pub xel-seed-f32-spec : {M : Type 1} → statement M
 xel-seed-f32-spec = tie.close (tie.spec switches-of-requires slice-aggregate-seed-lent seed-lent-requires number-of-requires returns)

@@ -10,18 +10,6 @@ use Rattle.exports_interleaved.proofs.Told.{at-told, past-told, none-to
 use Rattle.exports_interleaved.proofs.xel_interleaved_sample_f32.Statement.{statement}
 use Rattle.exports_interleaved.proofs.xel_interleaved_sample_f32.Tie as tie
 
-sample-requires : tie.Need-sample-requires
-sample-requires c κs = search needs
-
-enum-known-x : tie.Need-enum-known-x
-enum-known-x c = search needs
-
-enum-told : tie.Need-enum-told
-enum-told c = search needs
-
-enum-known-number : tie.Need-enum-known-number
-enum-known-number c = search needs
-
 returns : tie.Need-returns
 returns c =
     let f = c .before .before .before in
@@ -46,4 +34,13 @@ returns-3 c =
     none-told o (now (a .sample)) (given .0 .0) (_∙_ {c = saidBy o} (ap sampleSaid (sym (given .1))) (f .sample .ensures))
 
 pub xel-interleaved-sample-f32-spec : {M : Type 1} → statement M
-xel-interleaved-sample-f32-spec = tie.close (tie.spec sample-requires enum-known-x enum-told enum-known-number returns returns-2 returns-3)
+xel-interleaved-sample-f32-spec =
+    tie.close
+    (tie.spec
+    (λ c κs. search needs)
+    (λ c. search needs)
+    (λ c. search needs)
+    (λ c. search needs)
+    returns
+    returns-2
+    returns-3)

@@ -26,9 +26,6 @@ both c =
     let r = min-le-right (length (a .block .now)) (length (a .from .now)) in
     (omega (arith, c .before .loop .inv .0), omega (arith, c .before .loop .inv .0))
 
-shorter-requires : tie.Need-shorter-requires Inv-loop μ-loop
-shorter-requires c κs = search needs
-
 loop-holds : tie.Need-loop-holds Inv-loop μ-loop
 loop-holds c = (c .shorter .ensures, starts sampleOfF32 (c .before .before .before .args .from .now) (c .before .before .before .args .block .now))
 
@@ -38,20 +35,11 @@ mul-f32-to-f64 c = omega (arith, both c)
 shared-slice-read-f32-to-f64 : tie.Need-shared-slice-read-f32-to-f64 Inv-loop μ-loop
 shared-slice-read-f32-to-f64 c = both (c .before) .1
 
-f32-to-f64-requires : tie.Need-f32-to-f64-requires Inv-loop μ-loop
-f32-to-f64-requires c κs = search needs
-
 mul-block : tie.Need-mul-block Inv-loop μ-loop
 mul-block c = omega (arith, both (c .before .before))
 
 slice-write-block : tie.Need-slice-write-block Inv-loop μ-loop
 slice-write-block c = let l = c .before .before .before .loop in omega (arith, both (c .before .before), l .inv .1 .same)
-
-add-i : tie.Need-add-i Inv-loop μ-loop
-add-i c = search needs
-
-loop-less : tie.Need-loop-less Inv-loop μ-loop
-loop-less c = search needs
 
 loop-again : tie.Need-loop-again Inv-loop μ-loop
 loop-again c =
@@ -80,15 +68,15 @@ fill-f64-f32-spec =
     (tie.spec
     Inv-loop
     μ-loop
-    shorter-requires
+    (λ c κs. search needs)
     loop-holds
     mul-f32-to-f64
     shared-slice-read-f32-to-f64
-    f32-to-f64-requires
+    (λ c κs. search needs)
     mul-block
     slice-write-block
-    add-i
-    loop-less
+    (λ c. search needs)
+    (λ c. search needs)
     loop-again
     same-length
     returns)

@@ -7,9 +7,6 @@ use Rattle.filter.specs.Filter.{atRest, noPeaks}
 use Rattle.filter.proofs.new.Statement.{statement}
 use Rattle.filter.proofs.new.Tie as tie
 
-new-requires : tie.Need-new-requires
-new-requires c κs = search needs
-
 returns : tie.Need-returns
 unfolding ofBits
 returns c =
@@ -17,4 +14,4 @@ returns c =
     ap (λ (t : TruePeak). record { channels = a .channels; rate = a .rate; switches = a .switches; coefficients = a .coefficients; state = atRest; peaks = record { values = noPeaks }; «true_peak» = t }) (c .new .ensures)
 
 pub new-spec : {M : Type 1} → statement M
-new-spec = tie.close (tie.spec new-requires returns)
+new-spec = tie.close (tie.spec (λ c κs. search needs) returns)

@@ -4,12 +4,9 @@ use lib.Ieee.{ofBits}
 use Rattle.filter.proofs.reset_peaks.Statement.{statement}
 use Rattle.filter.proofs.reset_peaks.Tie as tie
 
-with-requires : tie.Need-with-requires
-with-requires c κs = search needs
-
 returns : tie.Need-returns
 unfolding ofBits
 returns c = c .with .ensures
 
 pub reset-peaks-spec : {M : Type 1} → statement M
-reset-peaks-spec = tie.close (tie.spec with-requires returns)
+reset-peaks-spec = tie.close (tie.spec (λ c κs. search needs) returns)

@@ -14,9 +14,6 @@ use Rattle.filter_process.proofs.listen.Tie as tie
 returns : tie.Need-returns
 returns c = rw (not-true (c .before .before .args .on) (c .if1 .taken)) (refl, refl)
 
-process-requires : tie.Need-process-requires
-process-requires c κs = search needs
-
 returns-2 : tie.Need-returns-2
 returns-2 c =
     let m = c .before .before in
@@ -29,4 +26,4 @@ returns-2 c =
     rw (not-false (a .on) (q .if1 .left)) (ap (λ (t : TruePeak). t .memory) e, ap (λ (t : TruePeak). t .peaks) e)
 
 pub listen-spec : {M : Type 1} → statement M
-listen-spec = tie.close (tie.spec returns process-requires returns-2)
+listen-spec = tie.close (tie.spec returns (λ c κs. search needs) returns-2)

@@ -4,18 +4,9 @@ use Rattle.samples.specs.Kinds.{lent}
 use Rattle.filter_process.proofs.process_f32.Statement.{statement}
 use Rattle.filter_process.proofs.process_f32.Tie as tie
 
-slice-aggregate-process : tie.Need-slice-aggregate-process
-slice-aggregate-process c = search needs
-
-process-requires : tie.Need-process-requires
-process-requires c κs = search needs
-
-same-length : tie.Need-same-length
-same-length c = search needs
-
 returns : tie.Need-returns
 unfolding lent
 returns c = c .before .before .process .ensures
 
 pub process-f32-spec : {M : Type 1} → statement M
-process-f32-spec = tie.close (tie.spec slice-aggregate-process process-requires same-length returns)
+process-f32-spec = tie.close (tie.spec (λ c. search needs) (λ c κs. search needs) (λ c. search needs) returns)

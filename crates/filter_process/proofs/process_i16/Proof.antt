@@ -9,15 +9,6 @@ use Rattle.filter.specs.Process.{processed}
 use Rattle.filter_process.proofs.process_i16.Statement.{statement}
 use Rattle.filter_process.proofs.process_i16.Tie as tie
 
-slice-aggregate-process : tie.Need-slice-aggregate-process
-slice-aggregate-process c = search needs
-
-process-requires : tie.Need-process-requires
-process-requires c κs = search needs
-
-same-length : tie.Need-same-length
-same-length c = search needs
-
 returns : tie.Need-returns
 unfolding processed sizeOf asF64 asF32
 returns c =
@@ -31,4 +22,4 @@ returns c =
     )
 
 pub process-i16-spec : {M : Type 1} → statement M
-process-i16-spec = tie.close (tie.spec slice-aggregate-process process-requires same-length returns)
+process-i16-spec = tie.close (tie.spec (λ c. search needs) (λ c κs. search needs) (λ c. search needs) returns)

@@ -38,12 +38,6 @@ numbered c =
     let a = c .before .before .before .before .before .args in
     c .refused-process .ensures ∙ ap (λ (n : ℕ). numberOf (calls.processRows (a .switches .loudness) (calls.sizes (a .channels) n (length (now (a .dest))) (a .start)) (now (a .map)))) (c .before .size-of .ensures ∙ lent-size (now (a .ints)) (now (a .floats)))
 
-size-of-requires : tie.Need-size-of-requires
-size-of-requires c κs = search needs
-
-refused-process-requires : tie.Need-refused-process-requires
-refused-process-requires c κs = search needs
-
 returns : tie.Need-returns
 unfolding processed
 returns c =
@@ -51,18 +45,6 @@ returns c =
     let s = r .before .before .before .before .before in
     let f = stopped (leaves s) (processRows (call s)) (given (call s)) (r .refused-process .result) (numbered r) (c .if1 .taken) in
     (f .says, f .keeps)
-
-raise-requires : tie.Need-raise-requires
-raise-requires c κs = search needs
-
-listen-requires : tie.Need-listen-requires
-listen-requires c κs = search needs
-
-weigh-requires : tie.Need-weigh-requires
-weigh-requires c κs = search needs
-
-same-length : tie.Need-same-length
-same-length c = search needs
 
 returns-2 : tie.Need-returns-2
 unfolding processed
@@ -85,4 +67,13 @@ returns-2 c =
 
 pub process-lent-spec : {M : Type 1} → statement M
 process-lent-spec =
-    tie.close (tie.spec size-of-requires refused-process-requires returns raise-requires listen-requires weigh-requires same-length returns-2)
+    tie.close
+    (tie.spec
+    (λ c κs. search needs)
+    (λ c κs. search needs)
+    returns
+    (λ c κs. search needs)
+    (λ c κs. search needs)
+    (λ c κs. search needs)
+    (λ c. search needs)
+    returns-2)

@@ -14,9 +14,6 @@ use Rattle.filter_process.proofs.raise.Tie as tie
 returns : tie.Need-returns
 returns c = rw (not-true (c .before .before .args .on) (c .if1 .taken))
 
-process-requires : tie.Need-process-requires
-process-requires c κs = search needs
-
 returns-2 : tie.Need-returns-2
 returns-2 c =
     let q = c .before .before .before in
@@ -27,4 +24,4 @@ returns-2 c =
     ∙ ap (λ (x : List Float). keptBy stored (raised (a .channels) x stored) .values) (lent-f64 (a .ints .now) (a .floats .now)))
 
 pub raise-spec : {M : Type 1} → statement M
-raise-spec = tie.close (tie.spec returns process-requires returns-2)
+raise-spec = tie.close (tie.spec returns (λ c κs. search needs) returns-2)

@@ -13,12 +13,6 @@ use Rattle.filter_process.proofs.weigh.Tie as tie
 returns : tie.Need-returns
 returns c = rw (not-true (c .before .before .before .before .args .on) (c .if1 .taken)) (refl, refl)
 
-process-lent-requires : tie.Need-process-lent-requires
-process-lent-requires c κs = search needs
-
-same-length : tie.Need-same-length
-same-length c = search needs
-
 returns-2 : tie.Need-returns-2
 returns-2 c =
     let w = c .before .before in
@@ -29,4 +23,4 @@ returns-2 c =
     rw (not-false (a .on) (q .if1 .left)) (e .1 ∙ ap (λ (k : Kept). k .state .values) same, e .2 ∙ ap (λ (k : Kept). k .dest) same)
 
 pub weigh-spec : {M : Type 1} → statement M
-weigh-spec = tie.close (tie.spec returns process-lent-requires same-length returns-2)
+weigh-spec = tie.close (tie.spec returns (λ c κs. search needs) (λ c. search needs) returns-2)

@@ -15,9 +15,6 @@ use Rattle.filter_seed.proofs.advance.Tie as tie
 returns : tie.Need-returns
 returns c = rw (not-true (c .before .before .before .args .on) (c .if1 .taken))
 
-seed-requires : tie.Need-seed-requires
-seed-requires c κs = search needs
-
 returns-2 : tie.Need-returns-2
 returns-2 c =
     let q = c .before .before .before .before .before in
@@ -28,4 +25,4 @@ returns-2 c =
     ∙ ap (λ (x : List Float). keptBy stored (moved (callOf (record { a = a .a .now; b = a .b .now }) stored (a .channels) x (a .map .now))) .values) (lent-f64 (a .ints .now) (a .floats .now)))
 
 pub advance-spec : {M : Type 1} → statement M
-advance-spec = tie.close (tie.spec returns seed-requires returns-2)
+advance-spec = tie.close (tie.spec returns (λ c κs. search needs) returns-2)

@@ -14,9 +14,6 @@ use Rattle.filter_seed.proofs.remember.Tie as tie
 returns : tie.Need-returns
 returns c = rw (not-true (c .before .before .args .on) (c .if1 .taken))
 
-seed-requires : tie.Need-seed-requires
-seed-requires c κs = search needs
-
 returns-2 : tie.Need-returns-2
 returns-2 c =
     let q = c .before .before .before .before in
@@ -27,4 +24,4 @@ returns-2 c =
     ∙ ap (λ (x : List Float). keptBy stored (seeded (a .rate) (record { channels = a .channels; samples = x }) stored) .memory) (lent-f32 (a .ints .now) (a .floats .now)))
 
 pub remember-spec : {M : Type 1} → statement M
-remember-spec = tie.close (tie.spec returns seed-requires returns-2)
+remember-spec = tie.close (tie.spec returns (λ c κs. search needs) returns-2)

@@ -4,14 +4,8 @@ use mathlib.Core.Path.{_∙_}
 use Rattle.filter_seed.proofs.seed.Statement.{statement}
 use Rattle.filter_seed.proofs.seed.Tie as tie
 
-seed-lent-requires : tie.Need-seed-lent-requires
-seed-lent-requires c κs = search needs
-
-with-requires : tie.Need-with-requires
-with-requires c κs = search needs
-
 returns : tie.Need-returns
 returns c = let e = c .before .seed-lent .ensures in (e .0, c .with .ensures ∙ e .1)
 
 pub seed-spec : {M : Type 1} → statement M
-seed-spec = tie.close (tie.spec seed-lent-requires with-requires returns)
+seed-spec = tie.close (tie.spec (λ c κs. search needs) (λ c κs. search needs) returns)

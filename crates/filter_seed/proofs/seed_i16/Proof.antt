@@ -9,12 +9,6 @@ use Rattle.filter.specs.Seed.{seeded}
 use Rattle.filter_seed.proofs.seed_i16.Statement.{statement}
 use Rattle.filter_seed.proofs.seed_i16.Tie as tie
 
-slice-aggregate-seed : tie.Need-slice-aggregate-seed
-slice-aggregate-seed c = search needs
-
-seed-requires : tie.Need-seed-requires
-seed-requires c κs = search needs
-
 returns : tie.Need-returns
 unfolding seeded sizeOf asF64 asF32
 returns c =
@@ -25,4 +19,4 @@ returns c =
     )
 
 pub seed-i16-spec : {M : Type 1} → statement M
-seed-i16-spec = tie.close (tie.spec slice-aggregate-seed seed-requires returns)
+seed-i16-spec = tie.close (tie.spec (λ c. search needs) (λ c κs. search needs) returns)

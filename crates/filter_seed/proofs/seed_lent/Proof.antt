@@ -36,12 +36,6 @@ numbered c =
     let a = c .before .before .before .before .args in
     c .refused-seed .ensures ∙ ap (λ (n : ℕ). numberOf (calls.seedRows (a .channels) n (now (a .map)))) (c .before .size-of .ensures ∙ lent-size (now (a .ints)) (now (a .floats)))
 
-size-of-requires : tie.Need-size-of-requires
-size-of-requires c κs = search needs
-
-refused-seed-requires : tie.Need-refused-seed-requires
-refused-seed-requires c κs = search needs
-
 returns : tie.Need-returns
 unfolding seeded
 returns c =
@@ -49,12 +43,6 @@ returns c =
     let s = r .before .before .before .before in
     let f = stopped (leaves s) (seedRows (call s)) (given (call s)) (r .refused-seed .result) (numbered r) (c .if1 .taken) in
     (f .says, ap (λ (k : Kept). k .filter) (f .keeps))
-
-remember-requires : tie.Need-remember-requires
-remember-requires c κs = search needs
-
-advance-requires : tie.Need-advance-requires
-advance-requires c κs = search needs
 
 returns-2 : tie.Need-returns-2
 unfolding seeded
@@ -75,4 +63,4 @@ returns-2 c =
     )
 
 pub seed-lent-spec : {M : Type 1} → statement M
-seed-lent-spec = tie.close (tie.spec size-of-requires refused-seed-requires returns remember-requires advance-requires returns-2)
+seed-lent-spec = tie.close (tie.spec (λ c κs. search needs) (λ c κs. search needs) returns (λ c κs. search needs) (λ c κs. search needs) returns-2)

@@ -4,21 +4,6 @@ use Rattle.recurrence.specs.Recurrence.{flushed}
 use Rattle.flushing.proofs.flush_all.Statement.{statement}
 use Rattle.flushing.proofs.flush_all.Tie as tie
 
-flush-one-requires : tie.Need-flush-one-requires
-flush-one-requires c κs = search needs
-
-flush-one-requires-2 : tie.Need-flush-one-requires-2
-flush-one-requires-2 c κs = search needs
-
-flush-one-requires-3 : tie.Need-flush-one-requires-3
-flush-one-requires-3 c κs = search needs
-
-flush-one-requires-4 : tie.Need-flush-one-requires-4
-flush-one-requires-4 c κs = search needs
-
-flush-one-requires-5 : tie.Need-flush-one-requires-5
-flush-one-requires-5 c κs = search needs
-
 returns : tie.Need-returns
 unfolding flushed
 returns c =
@@ -35,4 +20,4 @@ returns c =
 
 pub flush-all-spec : {M : Type 1} → statement M
 flush-all-spec =
-    tie.close (tie.spec flush-one-requires flush-one-requires-2 flush-one-requires-3 flush-one-requires-4 flush-one-requires-5 returns)
+    tie.close (tie.spec (λ c κs. search needs) (λ c κs. search needs) (λ c κs. search needs) (λ c κs. search needs) (λ c κs. search needs) returns)

@@ -10,15 +10,6 @@ use Rattle.flushing.proofs.flush_channel.Tie as tie
 returns : tie.Need-returns
 returns c = simp (eq-eqb _ _ (c .if1 .taken)) refl
 
-load-requires : tie.Need-load-requires
-load-requires c κs = search needs
-
-flush-all-requires : tie.Need-flush-all-requires
-flush-all-requires c κs = search needs
-
-store-requires : tie.Need-store-requires
-store-requires c κs = search needs
-
 returns-2 : tie.Need-returns-2
 returns-2 c =
     let f = c .before in
@@ -29,4 +20,4 @@ returns-2 c =
 
 pub flush-channel-spec : {M : Type 1} → statement M
 flush-channel-spec =
-    tie.close (tie.spec returns load-requires flush-all-requires store-requires returns-2)
+    tie.close (tie.spec returns (λ c κs. search needs) (λ c κs. search needs) (λ c κs. search needs) returns-2)

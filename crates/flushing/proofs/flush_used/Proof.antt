@@ -22,21 +22,6 @@ Inv-loop state₀ map k₀ state k = (k ≤ length map) × (eachUsed flushes (dr
 abbrev μ-loop : tie.MeasureT-loop
 μ-loop state₀ map k₀ state k = length map - k
 
-loop-holds : tie.Need-loop-holds Inv-loop μ-loop
-loop-holds c = search needs
-
-shared-slice-read-flush-channel : tie.Need-shared-slice-read-flush-channel Inv-loop μ-loop
-shared-slice-read-flush-channel c = search needs
-
-flush-channel-requires : tie.Need-flush-channel-requires Inv-loop μ-loop
-flush-channel-requires c κs = search needs
-
-add-k : tie.Need-add-k Inv-loop μ-loop
-add-k c = search needs
-
-loop-less : tie.Need-loop-less Inv-loop μ-loop
-loop-less c = search needs
-
 loop-again : tie.Need-loop-again Inv-loop μ-loop
 loop-again c =
     let q = c .before .before .before in
@@ -56,10 +41,10 @@ flush-used-spec =
     (tie.spec
     Inv-loop
     μ-loop
-    loop-holds
-    shared-slice-read-flush-channel
-    flush-channel-requires
-    add-k
-    loop-less
+    (λ c. search needs)
+    (λ c. search needs)
+    (λ c κs. search needs)
+    (λ c. search needs)
+    (λ c. search needs)
     loop-again
     returns)

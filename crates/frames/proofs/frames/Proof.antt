@@ -7,11 +7,8 @@ use Rattle.frames.proofs.frames.Tie as tie
 returns : tie.Need-returns
 returns c = simp (eq-eqb _ _ (c .if1 .taken))
 
-div-result : tie.Need-div-result
-div-result c = search needs
-
 returns-2 : tie.Need-returns-2
 returns-2 c = simp (ne-eqb _ _ (c .if1 .left))
 
 pub frames-spec : {M : Type 1} → statement M
-frames-spec = tie.close (tie.spec returns div-result returns-2)
+frames-spec = tie.close (tie.spec returns (λ c. search needs) returns-2)

@@ -15,9 +15,6 @@ returns : tie.Need-returns
 unfolding ofBits
 returns c = let a = c .before .before .args in sym (no-channel (a .channels) (map sampleOfF32 (a .samples .now)) (a .channel) (a .frame) (c .if1 .taken))
 
-div-if2 : tie.Need-div-if2
-div-if2 c = search needs
-
 returns-2 : tie.Need-returns-2
 unfolding ofBits
 returns-2 c =
@@ -40,9 +37,6 @@ mul-f32-to-f64-2 c = omega (arith, at c)
 shared-slice-read-f32-to-f64 : tie.Need-shared-slice-read-f32-to-f64
 shared-slice-read-f32-to-f64 c = at (c .before)
 
-f32-to-f64-requires : tie.Need-f32-to-f64-requires
-f32-to-f64-requires c κs = search needs
-
 returns-3 : tie.Need-returns-3
 returns-3 c =
     let q = c .before .before in
@@ -51,4 +45,15 @@ returns-3 c =
     ∙ sym (sample-of sampleOfF32 (a .samples .now) (a .channels) (a .channel) (a .frame) nan (q .before .if1 .left) (q .if2 .left))
 
 pub sample-f32-spec : {M : Type 1} → statement M
-sample-f32-spec = tie.close (tie.spec returns div-if2 returns-2 mul-f32-to-f64 add-f32-to-f64 mul-f32-to-f64-2 shared-slice-read-f32-to-f64 f32-to-f64-requires returns-3)
+sample-f32-spec =
+    tie.close
+    (tie.spec
+    returns
+    (λ c. search needs)
+    returns-2
+    mul-f32-to-f64
+    add-f32-to-f64
+    mul-f32-to-f64-2
+    shared-slice-read-f32-to-f64
+    (λ c κs. search needs)
+    returns-3)

@@ -18,9 +18,6 @@ returns : tie.Need-returns
 unfolding ofBits
 returns c = let a = c .before .args in sym (no-channel (a .channels) (map sampleOf16 (a .samples .now)) (a .channel) (a .frame) (c .if1 .taken))
 
-div-if2 : tie.Need-div-if2
-div-if2 c = search needs
-
 returns-2 : tie.Need-returns-2
 unfolding ofBits
 returns-2 c =
@@ -43,9 +40,6 @@ mul-i16-to-f64-2 c = omega (arith, at c)
 shared-slice-copy-out-i16-to-f64 : tie.Need-shared-slice-copy-out-i16-to-f64
 shared-slice-copy-out-i16-to-f64 c = at c
 
-i16-to-f64-requires : tie.Need-i16-to-f64-requires
-i16-to-f64-requires c κs = search needs
-
 returns-3 : tie.Need-returns-3
 returns-3 c =
     let q = c .before .before in
@@ -56,4 +50,15 @@ returns-3 c =
     ∙ sym (sample-of sampleOf16 (a .samples .now) (a .channels) (a .channel) (a .frame) (pos 0) (q .before .if1 .left) (q .if2 .left))
 
 pub sample-i16-spec : {M : Type 1} → statement M
-sample-i16-spec = tie.close (tie.spec returns div-if2 returns-2 mul-i16-to-f64 add-i16-to-f64 mul-i16-to-f64-2 shared-slice-copy-out-i16-to-f64 i16-to-f64-requires returns-3)
+sample-i16-spec =
+    tie.close
+    (tie.spec
+    returns
+    (λ c. search needs)
+    returns-2
+    mul-i16-to-f64
+    add-i16-to-f64
+    mul-i16-to-f64-2
+    shared-slice-copy-out-i16-to-f64
+    (λ c κs. search needs)
+    returns-3)

@@ -7,17 +7,8 @@ use Rattle.interleaved_filter.specs.Said.{asTaken}
 use Rattle.interleaved_filter.proofs.taken_of.Statement.{statement}
 use Rattle.interleaved_filter.proofs.taken_of.Tie as tie
 
-enum-told : tie.Need-enum-told
-enum-told c = search needs
-
-enum-known-answer : tie.Need-enum-known-answer
-enum-known-answer c = search needs
-
-returns : tie.Need-returns
-returns c = search needs
-
 returns-2 : tie.Need-returns-2
 returns-2 c = ap (λ (a : Answer). asTaken (said a)) (sym (c .before .answer .given .1))
 
 pub taken-of-spec : {M : Type 1} → statement M
-taken-of-spec = tie.close (tie.spec enum-told enum-known-answer returns returns-2)
+taken-of-spec = tie.close (tie.spec (λ c. search needs) (λ c. search needs) (λ c. search needs) returns-2)

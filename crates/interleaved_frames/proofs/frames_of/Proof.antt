@@ -6,17 +6,11 @@ use Rattle.interleaved_frames.proofs.Checking.{goes, stops}
 use Rattle.interleaved_frames.proofs.frames_of.Statement.{statement}
 use Rattle.interleaved_frames.proofs.frames_of.Tie as tie
 
-refused-frames-requires : tie.Need-refused-frames-requires
-refused-frames-requires c κs = search needs
-
 returns : tie.Need-returns
 returns c = stops _ _ _ _ (c .before .refused-frames .ensures) (c .if1 .taken)
-
-frames-requires : tie.Need-frames-requires
-frames-requires c κs = search needs
 
 returns-2 : tie.Need-returns-2
 returns-2 c = ap says (c .frames .ensures) ∙ goes _ _ _ _ (c .before .before .refused-frames .ensures) (c .before .if1 .left)
 
 pub frames-of-spec : {M : Type 1} → statement M
-frames-of-spec = tie.close (tie.spec refused-frames-requires returns frames-requires returns-2)
+frames-of-spec = tie.close (tie.spec (λ c κs. search needs) returns (λ c κs. search needs) returns-2)

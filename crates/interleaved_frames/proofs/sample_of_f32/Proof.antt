@@ -5,16 +5,10 @@ use Rattle.interleaved_frames.proofs.Checking.{handed}
 use Rattle.interleaved_frames.proofs.sample_of_f32.Statement.{statement}
 use Rattle.interleaved_frames.proofs.sample_of_f32.Tie as tie
 
-sample-f32-requires : tie.Need-sample-f32-requires
-sample-f32-requires c κs = search needs
-
-sample-or-requires : tie.Need-sample-or-requires
-sample-or-requires c κs = search needs
-
 returns : tie.Need-returns
 returns c =
     let a = c .before .before .before .args in
     handed sampleOfF32 (a .samples .now) (a .channels) (a .channel) (a .frame) _ _ (c .before .sample-f32 .ensures) (c .sample-or .ensures)
 
 pub sample-of-f32-spec : {M : Type 1} → statement M
-sample-of-f32-spec = tie.close (tie.spec sample-f32-requires sample-or-requires returns)
+sample-of-f32-spec = tie.close (tie.spec (λ c κs. search needs) (λ c κs. search needs) returns)

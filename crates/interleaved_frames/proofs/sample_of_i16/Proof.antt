@@ -5,16 +5,10 @@ use Rattle.interleaved_frames.proofs.Checking.{handed}
 use Rattle.interleaved_frames.proofs.sample_of_i16.Statement.{statement}
 use Rattle.interleaved_frames.proofs.sample_of_i16.Tie as tie
 
-sample-i16-requires : tie.Need-sample-i16-requires
-sample-i16-requires c κs = search needs
-
-sample-or-requires : tie.Need-sample-or-requires
-sample-or-requires c κs = search needs
-
 returns : tie.Need-returns
 returns c =
     let a = c .before .before .args in
     handed sampleOf16 (a .samples .now) (a .channels) (a .channel) (a .frame) _ _ (c .before .sample-i16 .ensures) (c .sample-or .ensures)
 
 pub sample-of-i16-spec : {M : Type 1} → statement M
-sample-of-i16-spec = tie.close (tie.spec sample-i16-requires sample-or-requires returns)
+sample-of-i16-spec = tie.close (tie.spec (λ c κs. search needs) (λ c κs. search needs) returns)

@@ -8,9 +8,6 @@ use Rattle.interleaved_frames.proofs.Checking.{goes, stops, no-channel,
 use Rattle.interleaved_frames.proofs.sample_or.Statement.{statement}
 use Rattle.interleaved_frames.proofs.sample_or.Tie as tie
 
-refused-frames-requires : tie.Need-refused-frames-requires
-refused-frames-requires c κs = search needs
-
 returns : tie.Need-returns
 returns c = stops _ _ _ _ (c .before .refused-frames .ensures) (c .if1 .taken)
 
@@ -19,9 +16,6 @@ returns-2 c =
     let a = c .before .before .before .args in
     ap says (sym (no-channel (a .channels) (framesOf (a .channels) (a .samples)) (a .channel) (a .frame) (a .sample) (c .if2 .taken)))
     ∙ goes _ _ _ _ (c .before .before .refused-frames .ensures) (c .before .if1 .left)
-
-frames-requires : tie.Need-frames-requires
-frames-requires c κs = search needs
 
 returns-3 : tie.Need-returns-3
 returns-3 c =
@@ -40,4 +34,4 @@ returns-4 c =
     ∙ goes _ _ _ _ (k .before .refused-frames .ensures) (k .if1 .left)
 
 pub sample-or-spec : {M : Type 1} → statement M
-sample-or-spec = tie.close (tie.spec refused-frames-requires returns returns-2 frames-requires returns-3 returns-4)
+sample-or-spec = tie.close (tie.spec (λ c κs. search needs) returns returns-2 (λ c κs. search needs) returns-3 returns-4)

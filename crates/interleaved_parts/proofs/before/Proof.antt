@@ -10,9 +10,6 @@ use Rattle.interleaved_parts.proofs.before.Tie as tie
 returns : tie.Need-returns
 returns c = let a = c .before .args in subst (λ (n : ℕ). 0 ≡ min (a .frame * n) (a .samples)) (sym (c .if1 .taken)) (at-none (a .frame) (a .samples))
 
-div-if2 : tie.Need-div-if2
-div-if2 c = search needs
-
 returns-2 : tie.Need-returns-2
 returns-2 c = let a = c .before .before .args in past (a .channels) (a .frame) (a .samples) (search needs) (c .if2 .taken)
 
@@ -23,4 +20,4 @@ returns-3 : tie.Need-returns-3
 returns-3 c = let a = c .before .before .args in within (a .channels) (a .frame) (a .samples) (c .if2 .left)
 
 pub before-spec : {M : Type 1} → statement M
-before-spec = tie.close (tie.spec returns div-if2 returns-2 mul-result returns-3)
+before-spec = tie.close (tie.spec returns (λ c. search needs) returns-2 mul-result returns-3)

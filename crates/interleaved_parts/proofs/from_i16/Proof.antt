@@ -4,23 +4,8 @@ use Rattle.interleaved_parts.proofs.Splitting.{back}
 use Rattle.interleaved_parts.proofs.from_i16.Statement.{statement}
 use Rattle.interleaved_parts.proofs.from_i16.Tie as tie
 
-before-requires : tie.Need-before-requires
-before-requires c κs = search needs
-
-mul-result : tie.Need-mul-result
-mul-result c = search needs
-
-sub-result : tie.Need-sub-result
-sub-result c = search needs
-
-part-result-start : tie.Need-part-result-start
-part-result-start c = search needs
-
-part-result-end : tie.Need-part-result-end
-part-result-end c = search needs
-
 returns : tie.Need-returns
 returns c = let a = c .before .before .args in back (a .samples .now) (a .channels) (a .frame) _ (c .before .before2 .ensures)
 
 pub from-i16-spec : {M : Type 1} → statement M
-from-i16-spec = tie.close (tie.spec before-requires mul-result sub-result part-result-start part-result-end returns)
+from-i16-spec = tie.close (tie.spec (λ c κs. search needs) (λ c. search needs) (λ c. search needs) (λ c. search needs) (λ c. search needs) returns)

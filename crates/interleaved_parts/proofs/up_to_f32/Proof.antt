@@ -4,9 +4,6 @@ use Rattle.interleaved_parts.proofs.Splitting.{front-length, front}
 use Rattle.interleaved_parts.proofs.up_to_f32.Statement.{statement}
 use Rattle.interleaved_parts.proofs.up_to_f32.Tie as tie
 
-before-requires : tie.Need-before-requires
-before-requires c κs = search needs
-
 slice-aggregate-result : tie.Need-slice-aggregate-result
 slice-aggregate-result c = let a = c .before .before .before .args in front-length (a .samples .now) (a .channels) (a .frame) _ (c .before .before2 .ensures)
 
@@ -14,4 +11,4 @@ returns : tie.Need-returns
 returns c = let a = c .before .before .before .args in front (a .samples .now) (a .channels) (a .frame) _ (c .before .before2 .ensures)
 
 pub up-to-f32-spec : {M : Type 1} → statement M
-up-to-f32-spec = tie.close (tie.spec before-requires slice-aggregate-result returns)
+up-to-f32-spec = tie.close (tie.spec (λ c κs. search needs) slice-aggregate-result returns)

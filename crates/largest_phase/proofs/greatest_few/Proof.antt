@@ -24,33 +24,6 @@ abbrev μ-loop : tie.MeasureT-loop
 loop-holds : tie.Need-loop-holds Inv-loop μ-loop
 loop-holds c = (search needs, (refl, (refl, (refl, refl))))
 
-greater-at-requires : tie.Need-greater-at-requires Inv-loop μ-loop
-greater-at-requires c κs = search needs
-
-add-greater-at : tie.Need-add-greater-at Inv-loop μ-loop
-add-greater-at c = search needs
-
-greater-at-requires-2 : tie.Need-greater-at-requires-2 Inv-loop μ-loop
-greater-at-requires-2 c κs = search needs
-
-add-greater-at-2 : tie.Need-add-greater-at-2 Inv-loop μ-loop
-add-greater-at-2 c = search needs
-
-greater-at-requires-3 : tie.Need-greater-at-requires-3 Inv-loop μ-loop
-greater-at-requires-3 c κs = search needs
-
-add-greater-at-3 : tie.Need-add-greater-at-3 Inv-loop μ-loop
-add-greater-at-3 c = search needs
-
-greater-at-requires-4 : tie.Need-greater-at-requires-4 Inv-loop μ-loop
-greater-at-requires-4 c κs = search needs
-
-add-k : tie.Need-add-k Inv-loop μ-loop
-add-k c = search needs
-
-loop-less : tie.Need-loop-less Inv-loop μ-loop
-loop-less c = search needs
-
 loop-again : tie.Need-loop-again Inv-loop μ-loop
 loop-again c =
     let l = c .before .before .before .before .before .loop in
@@ -68,15 +41,6 @@ loop-again c =
         ),
       ),
     )
-
-greater-requires : tie.Need-greater-requires Inv-loop μ-loop
-greater-requires c κs = search needs
-
-greater-requires-2 : tie.Need-greater-requires-2 Inv-loop μ-loop
-greater-requires-2 c κs = search needs
-
-greater-requires-3 : tie.Need-greater-requires-3 Inv-loop μ-loop
-greater-requires-3 c κs = search needs
 
 returns : tie.Need-returns Inv-loop μ-loop
 returns c =
@@ -98,17 +62,17 @@ greatest-few-spec =
     Inv-loop
     μ-loop
     loop-holds
-    greater-at-requires
-    add-greater-at
-    greater-at-requires-2
-    add-greater-at-2
-    greater-at-requires-3
-    add-greater-at-3
-    greater-at-requires-4
-    add-k
-    loop-less
+    (λ c κs. search needs)
+    (λ c. search needs)
+    (λ c κs. search needs)
+    (λ c. search needs)
+    (λ c κs. search needs)
+    (λ c. search needs)
+    (λ c κs. search needs)
+    (λ c. search needs)
+    (λ c. search needs)
     loop-again
-    greater-requires
-    greater-requires-2
-    greater-requires-3
+    (λ c κs. search needs)
+    (λ c κs. search needs)
+    (λ c κs. search needs)
     returns)

@@ -5,24 +5,6 @@ use Rattle.largest_phase.proofs.Pairs.{twice}
 use Rattle.largest_phase.proofs.greatest_of.Statement.{statement}
 use Rattle.largest_phase.proofs.greatest_of.Tie as tie
 
-slice-aggregate-neighbours : tie.Need-slice-aggregate-neighbours
-slice-aggregate-neighbours c = search needs
-
-neighbours-requires : tie.Need-neighbours-requires
-neighbours-requires c κs = search needs
-
-slice-aggregate-neighbours-2 : tie.Need-slice-aggregate-neighbours-2
-slice-aggregate-neighbours-2 c = search needs
-
-slice-aggregate-neighbours-3 : tie.Need-slice-aggregate-neighbours-3
-slice-aggregate-neighbours-3 c = search needs
-
-neighbours-requires-2 : tie.Need-neighbours-requires-2
-neighbours-requires-2 c κs = search needs
-
-greatest-few-requires : tie.Need-greatest-few-requires
-greatest-few-requires c κs = search needs
-
 returns : tie.Need-returns
 returns c =
     let n = c .before .before .before in
@@ -34,10 +16,10 @@ pub greatest-of-spec : {M : Type 1} → statement M
 greatest-of-spec =
     tie.close
     (tie.spec
-    slice-aggregate-neighbours
-    neighbours-requires
-    slice-aggregate-neighbours-2
-    slice-aggregate-neighbours-3
-    neighbours-requires-2
-    greatest-few-requires
+    (λ c. search needs)
+    (λ c κs. search needs)
+    (λ c. search needs)
+    (λ c. search needs)
+    (λ c κs. search needs)
+    (λ c κs. search needs)
     returns)

@@ -4,15 +4,9 @@ use Rattle.floats.specs.Largest.{greatest}
 use Rattle.largest_phase.proofs.largest_two.Statement.{statement}
 use Rattle.largest_phase.proofs.largest_two.Tie as tie
 
-raised-requires : tie.Need-raised-requires
-raised-requires c κs = search needs
-
-raised-requires-2 : tie.Need-raised-requires-2
-raised-requires-2 c κs = search needs
-
 returns : tie.Need-returns
 unfolding greatest
 returns c = cc
 
 pub largest-two-spec : {M : Type 1} → statement M
-largest-two-spec = tie.close (tie.spec raised-requires raised-requires-2 returns)
+largest-two-spec = tie.close (tie.spec (λ c κs. search needs) (λ c κs. search needs) returns)

@@ -6,9 +6,6 @@ use Rattle.largest_phase.proofs.Signs.{winner, raised-by}
 use Rattle.largest_phase.proofs.raised.Statement.{statement}
 use Rattle.largest_phase.proofs.raised.Tie as tie
 
-beats-requires : tie.Need-beats-requires
-beats-requires c κs = search needs
-
 magnitude-requires : tie.Need-magnitude-requires
 magnitude-requires c κs = let a = c .before .before .args in winner (a .peak) (a .x) (sym (c .before .beats .ensures) ∙ c .if1 .taken)
 
@@ -19,4 +16,4 @@ returns-2 : tie.Need-returns-2
 returns-2 c = let a = c .before .before .args in raised-by (a .peak) _ (a .x) false (sym (c .before .beats .ensures) ∙ c .if1 .left) refl
 
 pub raised-spec : {M : Type 1} → statement M
-raised-spec = tie.close (tie.spec beats-requires magnitude-requires returns returns-2)
+raised-spec = tie.close (tie.spec (λ c κs. search needs) magnitude-requires returns returns-2)

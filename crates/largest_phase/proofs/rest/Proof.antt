@@ -16,18 +16,6 @@ abbrev μ-loop : tie.MeasureT-loop
 loop-holds : tie.Need-loop-holds Inv-loop μ-loop
 loop-holds c = (search needs, filled-start (c .args .loud .now) (c .args .n) (c .args .peak) (c .pre))
 
-mul-loud : tie.Need-mul-loud Inv-loop μ-loop
-mul-loud c = search needs
-
-element-write-loud : tie.Need-element-write-loud Inv-loop μ-loop
-element-write-loud c = search needs
-
-add-k : tie.Need-add-k Inv-loop μ-loop
-add-k c = search needs
-
-loop-less : tie.Need-loop-less Inv-loop μ-loop
-loop-less c = search needs
-
 loop-again : tie.Need-loop-again Inv-loop μ-loop
 loop-again c =
     let l = c .before .loop in
@@ -46,9 +34,9 @@ rest-spec =
     Inv-loop
     μ-loop
     loop-holds
-    mul-loud
-    element-write-loud
-    add-k
-    loop-less
+    (λ c. search needs)
+    (λ c. search needs)
+    (λ c. search needs)
+    (λ c. search needs)
     loop-again
     returns)

@@ -12,9 +12,6 @@ use Rattle.largest_phase.proofs.Quarters.{scanned-some, all-raised}
 use Rattle.largest_phase.proofs.scan_fourfold.Statement.{statement}
 use Rattle.largest_phase.proofs.scan_fourfold.Tie as tie
 
-quarter-requires : tie.Need-quarter-requires
-quarter-requires c κs = search needs
-
 frames-fourfold-requires : tie.Need-frames-fourfold-requires
 frames-fourfold-requires c κs = (c .before .quarter .ensures .0, refl)
 
@@ -38,4 +35,4 @@ returns c =
     ∙ scanned-some (phasesBy (s .args .taps .now) fourfold) (s .args .line .now) (r .rest .last .0) (s .args .n) (s .args .peak) (raised r) (r .rest .ensures .1)
 
 pub scan-fourfold-spec : {M : Type 1} → statement M
-scan-fourfold-spec = tie.close (tie.spec quarter-requires frames-fourfold-requires rest-requires greatest-of-requires returns)
+scan-fourfold-spec = tie.close (tie.spec (λ c κs. search needs) frames-fourfold-requires rest-requires greatest-of-requires returns)

@@ -5,17 +5,8 @@ use lib.ListN.{set}
 use Rattle.largest_phase.proofs.store_four.Statement.{statement}
 use Rattle.largest_phase.proofs.store_four.Tie as tie
 
-largest-four-requires : tie.Need-largest-four-requires
-largest-four-requires c κs = search needs
-
-mul-loud : tie.Need-mul-loud
-mul-loud c = search needs
-
-element-write-loud : tie.Need-element-write-loud
-element-write-loud c = search needs
-
 returns : tie.Need-returns
 returns c = let a = c .before .args in ap (set (a .loud .now) (a .at)) (c .largest-four .ensures)
 
 pub store-four-spec : {M : Type 1} → statement M
-store-four-spec = tie.close (tie.spec largest-four-requires mul-loud element-write-loud returns)
+store-four-spec = tie.close (tie.spec (λ c κs. search needs) (λ c. search needs) (λ c. search needs) returns)

@@ -5,17 +5,8 @@ use lib.ListN.{set}
 use Rattle.largest_phase.proofs.store_two.Statement.{statement}
 use Rattle.largest_phase.proofs.store_two.Tie as tie
 
-largest-two-requires : tie.Need-largest-two-requires
-largest-two-requires c κs = search needs
-
-mul-loud : tie.Need-mul-loud
-mul-loud c = search needs
-
-element-write-loud : tie.Need-element-write-loud
-element-write-loud c = search needs
-
 returns : tie.Need-returns
 returns c = let a = c .before .args in ap (set (a .loud .now) (a .at)) (c .largest-two .ensures)
 
 pub store-two-spec : {M : Type 1} → statement M
-store-two-spec = tie.close (tie.spec largest-two-requires mul-loud element-write-loud returns)
+store-two-spec = tie.close (tie.spec (λ c κs. search needs) (λ c. search needs) (λ c. search needs) returns)

@@ -8,21 +8,6 @@ use Rattle.largest_phase.specs.Inner.{onFour}
 use Rattle.largest_phase.proofs.tap_four.Statement.{statement}
 use Rattle.largest_phase.proofs.tap_four.Tie as tie
 
-four-at-requires : tie.Need-four-at-requires
-four-at-requires c κs = search needs
-
-on-four-requires : tie.Need-on-four-requires
-on-four-requires c κs = search needs
-
-on-four-requires-2 : tie.Need-on-four-requires-2
-on-four-requires-2 c κs = search needs
-
-on-four-requires-3 : tie.Need-on-four-requires-3
-on-four-requires-3 c κs = search needs
-
-on-four-requires-4 : tie.Need-on-four-requires-4
-on-four-requires-4 c κs = search needs
-
 returns : tie.Need-returns
 returns c =
     let a = c .before .before .before .before .before .args in
@@ -35,4 +20,12 @@ returns c =
     }
 
 pub tap-four-spec : {M : Type 1} → statement M
-tap-four-spec = tie.close (tie.spec four-at-requires on-four-requires on-four-requires-2 on-four-requires-3 on-four-requires-4 returns)
+tap-four-spec =
+    tie.close
+    (tie.spec
+    (λ c κs. search needs)
+    (λ c κs. search needs)
+    (λ c κs. search needs)
+    (λ c κs. search needs)
+    (λ c κs. search needs)
+    returns)

@@ -8,21 +8,6 @@ use Rattle.largest_phase.specs.Inner.{onPair}
 use Rattle.largest_phase.proofs.tap_pair.Statement.{statement}
 use Rattle.largest_phase.proofs.tap_pair.Tie as tie
 
-four-at-requires : tie.Need-four-at-requires
-four-at-requires c κs = search needs
-
-on-pair-requires : tie.Need-on-pair-requires
-on-pair-requires c κs = search needs
-
-on-pair-requires-2 : tie.Need-on-pair-requires-2
-on-pair-requires-2 c κs = search needs
-
-on-pair-requires-3 : tie.Need-on-pair-requires-3
-on-pair-requires-3 c κs = search needs
-
-on-pair-requires-4 : tie.Need-on-pair-requires-4
-on-pair-requires-4 c κs = search needs
-
 returns : tie.Need-returns
 returns c =
     let a = c .before .before .before .before .before .args in
@@ -35,4 +20,12 @@ returns c =
     }
 
 pub tap-pair-spec : {M : Type 1} → statement M
-tap-pair-spec = tie.close (tie.spec four-at-requires on-pair-requires on-pair-requires-2 on-pair-requires-3 on-pair-requires-4 returns)
+tap-pair-spec =
+    tie.close
+    (tie.spec
+    (λ c κs. search needs)
+    (λ c κs. search needs)
+    (λ c κs. search needs)
+    (λ c κs. search needs)
+    (λ c κs. search needs)
+    returns)

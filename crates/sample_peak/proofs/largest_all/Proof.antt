@@ -36,25 +36,13 @@ loop-holds : tie.Need-loop-holds Inv-loop μ-loop
 unfolding ofBits
 loop-holds c = let s = c .before in (omega arith, (refl, (refl, λ k h. start-tops 8 _ (s .args .channels) k (omega (arith, h, s .pre .few)))))
 
-sub-shorter : tie.Need-sub-shorter Inv-loop μ-loop
-sub-shorter c = search needs
-
-shorter-requires : tie.Need-shorter-requires Inv-loop μ-loop
-shorter-requires c κs = search needs
-
 -- the frames of the stretch
 sizes : (c : tie.After-shorter Inv-loop μ-loop) → let s = c .before .before .before .before in
     Step blockPlaces (s .args .channels) (s .args .frames) (length (sourceOf (s .args .ints .now) (s .args .floats .now))) (c .before .before .loop .done) (c .shorter .result)
 sizes c = let s = c .before .before .before .before in step (omega arith) (s .pre) (c .before .loop-test .taken) (c .shorter .ensures)
 
-slice-aggregate-fill : tie.Need-slice-aggregate-fill Inv-loop μ-loop
-slice-aggregate-fill c = search needs
-
 mul-fill : tie.Need-mul-fill Inv-loop μ-loop
 mul-fill c = omega (arith, sizes (c .before) .samples-end, c .before .before .before .before .before .pre .small)
-
-fill-requires : tie.Need-fill-requires Inv-loop μ-loop
-fill-requires c κs = search needs
 
 size : (c : tie.After-fill Inv-loop μ-loop) → length (c .fill .last .0) ≡ blockPlaces
 size c = c .fill .kept .0 ∙ c .before .before .before .before .loop .inv .1 .0
@@ -125,11 +113,11 @@ largest-all-spec =
     μ-loop
     div-most
     loop-holds
-    sub-shorter
-    shorter-requires
-    slice-aggregate-fill
+    (λ c. search needs)
+    (λ c κs. search needs)
+    (λ c. search needs)
     mul-fill
-    fill-requires
+    (λ c κs. search needs)
     slice-aggregate-peak-stretch
     peak-stretch-requires
     add-done

@@ -40,12 +40,6 @@ fine c =
     let s = c .before .before .before .before in
     frames-fine (s .args .channels) (length (src s)) (sym (numbered (c .before)) ∙ c .if1 .left)
 
-size-of-requires : tie.Need-size-of-requires
-size-of-requires c κs = search needs
-
-refused-frames-requires : tie.Need-refused-frames-requires
-refused-frames-requires c κs = search needs
-
 returns : tie.Need-returns
 unfolding raised
 returns c =
@@ -85,4 +79,4 @@ returns-2 c =
 
 pub process-spec : {M : Type 1} → statement M
 process-spec =
-    tie.close (tie.spec size-of-requires refused-frames-requires returns div-frames largest-all-requires raise-peaks-requires returns-2)
+    tie.close (tie.spec (λ c κs. search needs) (λ c κs. search needs) returns div-frames largest-all-requires raise-peaks-requires returns-2)

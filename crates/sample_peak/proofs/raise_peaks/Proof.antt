@@ -28,33 +28,6 @@ loop-holds c =
     let e : a .channels - 0 ≡ a .channels = omega arith in
     (omega arith, ap (λ (n : ℕ). overChannels (raises (a .t2 .values)) n 0 (a .stored .values)) e)
 
-mul-peak : tie.Need-mul-peak Inv-loop μ-loop
-mul-peak c = search needs
-
-element-copy-out-peak : tie.Need-element-copy-out-peak Inv-loop μ-loop
-element-copy-out-peak c = search needs
-
-mul-top : tie.Need-mul-top Inv-loop μ-loop
-mul-top c = search needs
-
-element-copy-out-top : tie.Need-element-copy-out-top Inv-loop μ-loop
-element-copy-out-top c = search needs
-
-greater-of-requires : tie.Need-greater-of-requires Inv-loop μ-loop
-greater-of-requires c κs = search needs
-
-mul-w : tie.Need-mul-w Inv-loop μ-loop
-mul-w c = search needs
-
-element-write-w : tie.Need-element-write-w Inv-loop μ-loop
-element-write-w c = search needs
-
-add-k : tie.Need-add-k Inv-loop μ-loop
-add-k c = search needs
-
-loop-less : tie.Need-loop-less Inv-loop μ-loop
-loop-less c = search needs
-
 loop-again : tie.Need-loop-again Inv-loop μ-loop
 loop-again c =
     let q = c .before .before .before in
@@ -77,14 +50,14 @@ raise-peaks-spec =
     Inv-loop
     μ-loop
     loop-holds
-    mul-peak
-    element-copy-out-peak
-    mul-top
-    element-copy-out-top
-    greater-of-requires
-    mul-w
-    element-write-w
-    add-k
-    loop-less
+    (λ c. search needs)
+    (λ c. search needs)
+    (λ c. search needs)
+    (λ c. search needs)
+    (λ c κs. search needs)
+    (λ c. search needs)
+    (λ c. search needs)
+    (λ c. search needs)
+    (λ c. search needs)
     loop-again
     returns)

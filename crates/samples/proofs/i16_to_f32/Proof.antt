@@ -11,9 +11,6 @@ use Rattle.samples.proofs.Exact.{same-in-both, in-range}
 use Rattle.samples.proofs.i16_to_f32.Statement.{statement}
 use Rattle.samples.proofs.i16_to_f32.Tie as tie
 
-int-to-float-result : tie.Need-int-to-float-result
-int-to-float-result c = search needs
-
 returns : tie.Need-returns
 unfolding sampleIn ofInt ofBits
 returns c =
@@ -22,4 +19,4 @@ returns c =
     ap (λ (z : ℤ). sampleIn binary32 z) (toZ-ofZ w16 s fits) ∙ same-in-both s (in-range s (fits .sfits))
 
 pub i16-to-f32-spec : {M : Type 1} → statement M
-i16-to-f32-spec = tie.close (tie.spec int-to-float-result returns)
+i16-to-f32-spec = tie.close (tie.spec (λ c. search needs) returns)

@@ -8,12 +8,9 @@ use Rattle.samples.specs.Sample.{sampleIn, sampleOf16}
 use Rattle.samples.proofs.i16_to_f64.Statement.{statement}
 use Rattle.samples.proofs.i16_to_f64.Tie as tie
 
-int-to-float-result : tie.Need-int-to-float-result
-int-to-float-result c = search needs
-
 returns : tie.Need-returns
 unfolding sampleIn ofInt ofBits
 returns c = ap sampleOf16 (toZ-ofZ w16 (c .before .args .s) (record { sfits = c .before .good .0 }))
 
 pub i16-to-f64-spec : {M : Type 1} → statement M
-i16-to-f64-spec = tie.close (tie.spec int-to-float-result returns)
+i16-to-f64-spec = tie.close (tie.spec (λ c. search needs) returns)

@@ -41,12 +41,6 @@ ok c =
     let s = c .before .before .before .before .before in
     seeds (call s .channels) (length (call s .samples)) (call s .map) (sym (numbered (c .before)) ∙ c .if1 .left)
 
-size-of-requires : tie.Need-size-of-requires
-size-of-requires c κs = search needs
-
-refused-seed-requires : tie.Need-refused-seed-requires
-refused-seed-requires c κs = search needs
-
 returns : tie.Need-returns
 unfolding moved
 returns c =
@@ -82,4 +76,4 @@ returns-2 c =
 
 pub seed-spec : {M : Type 1} → statement M
 seed-spec =
-    tie.close (tie.spec size-of-requires refused-seed-requires returns div-frames advance-all-requires returns-2)
+    tie.close (tie.spec (λ c κs. search needs) (λ c κs. search needs) returns div-frames advance-all-requires returns-2)

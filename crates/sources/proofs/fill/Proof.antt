@@ -11,24 +11,6 @@ returns c =
     let a = c .before .before .before .before .args in
     sym (none-from sampleOfF32 (a .floats .now) (source-floats (a .ints .now) (a .floats .now) (c .before .if1 .taken)) (a .block .now) (a .at) (c .if2 .taken))
 
-mul-fill-f64-f32 : tie.Need-mul-fill-f64-f32
-mul-fill-f64-f32 c = search needs
-
-sub-fill-f64-f32 : tie.Need-sub-fill-f64-f32
-sub-fill-f64-f32 c = search needs
-
-part-fill-f64-f32-start : tie.Need-part-fill-f64-f32-start
-part-fill-f64-f32-start c = search needs
-
-part-fill-f64-f32-end : tie.Need-part-fill-f64-f32-end
-part-fill-f64-f32-end c = search needs
-
-fill-f64-f32-requires : tie.Need-fill-f64-f32-requires
-fill-f64-f32-requires c κs = search needs
-
-same-length : tie.Need-same-length
-same-length c = search needs
-
 returns-2 : tie.Need-returns-2
 returns-2 c =
     let a = c .before .before .before .before .before .before .before .before .before .args in
@@ -39,24 +21,6 @@ returns-3 : tie.Need-returns-3
 returns-3 c =
     let a = c .before .before .before .before .args in
     sym (none-from sampleOf16 (a .ints .now) (source-ints (a .ints .now) (a .floats .now) (c .before .if1 .left)) (a .block .now) (a .at) (c .if3 .taken))
-
-mul-fill-f64-i16 : tie.Need-mul-fill-f64-i16
-mul-fill-f64-i16 c = search needs
-
-sub-fill-f64-i16 : tie.Need-sub-fill-f64-i16
-sub-fill-f64-i16 c = search needs
-
-part-fill-f64-i16-start : tie.Need-part-fill-f64-i16-start
-part-fill-f64-i16-start c = search needs
-
-part-fill-f64-i16-end : tie.Need-part-fill-f64-i16-end
-part-fill-f64-i16-end c = search needs
-
-fill-f64-i16-requires : tie.Need-fill-f64-i16-requires
-fill-f64-i16-requires c κs = search needs
-
-same-length-2 : tie.Need-same-length-2
-same-length-2 c = search needs
 
 returns-4 : tie.Need-returns-4
 returns-4 c =
@@ -69,18 +33,18 @@ fill-spec =
     tie.close
     (tie.spec
     returns
-    mul-fill-f64-f32
-    sub-fill-f64-f32
-    part-fill-f64-f32-start
-    part-fill-f64-f32-end
-    fill-f64-f32-requires
-    same-length
+    (λ c. search needs)
+    (λ c. search needs)
+    (λ c. search needs)
+    (λ c. search needs)
+    (λ c κs. search needs)
+    (λ c. search needs)
     returns-2
     returns-3
-    mul-fill-f64-i16
-    sub-fill-f64-i16
-    part-fill-f64-i16-start
-    part-fill-f64-i16-end
-    fill-f64-i16-requires
-    same-length-2
+    (λ c. search needs)
+    (λ c. search needs)
+    (λ c. search needs)
+    (λ c. search needs)
+    (λ c κs. search needs)
+    (λ c. search needs)
     returns-4)

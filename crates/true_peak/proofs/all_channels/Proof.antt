@@ -17,12 +17,6 @@ Inv-loop i channels samples frames taps w₀ c₀ w c =
 abbrev μ-loop : tie.MeasureT-loop
 μ-loop i channels samples frames taps w₀ c₀ w c = channels - c
 
-div-frames : tie.Need-div-frames Inv-loop μ-loop
-div-frames c = search needs
-
-coefficients-requires : tie.Need-coefficients-requires Inv-loop μ-loop
-coefficients-requires c κs = search needs
-
 loop-holds : tie.Need-loop-holds Inv-loop μ-loop
 loop-holds c = let a = c .before .before .args in (search needs, channels-start (a .i) (record { channels = a .channels; samples = a .samples .now }) (a .channels) (a .t))
 
@@ -30,12 +24,6 @@ listen-requires : tie.Need-listen-requires Inv-loop μ-loop
 listen-requires c κs =
     let s = c .before .before .before .before .before in
     (s .pre .0, (c .before .before .before .coefficients .ensures, ((c .before .loop-test .taken, s .pre .1 .1), div-mul-le-self (length (s .args .samples .now)) (s .args .channels))))
-
-add-c : tie.Need-add-c Inv-loop μ-loop
-add-c c = search needs
-
-loop-less : tie.Need-loop-less Inv-loop μ-loop
-loop-less c = search needs
 
 loop-again : tie.Need-loop-again Inv-loop μ-loop
 loop-again c =
@@ -59,11 +47,11 @@ all-channels-spec =
     (tie.spec
     Inv-loop
     μ-loop
-    div-frames
-    coefficients-requires
+    (λ c. search needs)
+    (λ c κs. search needs)
     loop-holds
     listen-requires
-    add-c
-    loop-less
+    (λ c. search needs)
+    (λ c. search needs)
     loop-again
     returns)

@@ -27,9 +27,6 @@ loop-holds c =
     let a = c .before .args in
     (search needs, gathered-start (a .samples .now) (a .line .now) (a .first) (a .step) (a .n) (c .before .pre .1 .0))
 
-sub-if1 : tie.Need-sub-if1 Inv-loop μ-loop
-sub-if1 c = search needs
-
 -- in a turn there is a sample left
 inside : (c : tie.In-loop Inv-loop μ-loop) → c .before .loop .i < length (c .before .before .before .args .samples .now)
 inside c =
@@ -43,25 +40,10 @@ mul-line c = omega (arith, inside (c .before))
 shared-slice-read-line : tie.Need-shared-slice-read-line Inv-loop μ-loop
 shared-slice-read-line c = inside (c .before .before)
 
-add-line : tie.Need-add-line Inv-loop μ-loop
-add-line c = search needs
-
-mul-line-2 : tie.Need-mul-line-2 Inv-loop μ-loop
-mul-line-2 c = search needs
-
-element-write-line : tie.Need-element-write-line Inv-loop μ-loop
-element-write-line c = search needs
-
 add-i : tie.Need-add-i Inv-loop μ-loop
 add-i c =
     let t = c .before .before in
     omega (arith, inside t, t .before .before .before .pre)
-
-add-k : tie.Need-add-k Inv-loop μ-loop
-add-k c = search needs
-
-loop-less : tie.Need-loop-less Inv-loop μ-loop
-loop-less c = search needs
 
 loop-again : tie.Need-loop-again Inv-loop μ-loop
 loop-again c =
@@ -100,12 +82,6 @@ add-i-2 c =
     let e = c .before .before in
     omega (arith, four e, e .before .before .before .before .pre)
 
-add-k-2 : tie.Need-add-k-2 Inv-loop μ-loop
-add-k-2 c = search needs
-
-loop-less-2 : tie.Need-loop-less-2 Inv-loop μ-loop
-loop-less-2 c = search needs
-
 loop-again-2 : tie.Need-loop-again-2 Inv-loop μ-loop
 loop-again-2 c =
     let e = c .before .before in
@@ -136,20 +112,20 @@ gather-spec =
     Inv-loop
     μ-loop
     loop-holds
-    sub-if1
+    (λ c. search needs)
     mul-line
     shared-slice-read-line
-    add-line
-    mul-line-2
-    element-write-line
+    (λ c. search needs)
+    (λ c. search needs)
+    (λ c. search needs)
     add-i
-    add-k
-    loop-less
+    (λ c. search needs)
+    (λ c. search needs)
     loop-again
     gather-four-requires
     mul-i
     add-i-2
-    add-k-2
-    loop-less-2
+    (λ c. search needs)
+    (λ c. search needs)
     loop-again-2
     returns)

@@ -7,12 +7,6 @@ use Rattle.true_peak.proofs.Stretches.{stretch-heard, stored-length}
 use Rattle.true_peak.proofs.hear_stretch.Statement.{statement}
 use Rattle.true_peak.proofs.hear_stretch.Tie as tie
 
-gather-requires : tie.Need-gather-requires
-gather-requires c κs = search needs
-
-scan-requires : tie.Need-scan-requires
-scan-requires c κs = search needs
-
 carry-requires : tie.Need-carry-requires
 carry-requires c κs =
     let s = c .before .before .before .before .before .before in
@@ -34,4 +28,4 @@ returns c =
     )
 
 pub hear-stretch-spec : {M : Type 1} → statement M
-hear-stretch-spec = tie.close (tie.spec gather-requires scan-requires carry-requires returns)
+hear-stretch-spec = tie.close (tie.spec (λ c κs. search needs) (λ c κs. search needs) carry-requires returns)

@@ -18,36 +18,6 @@ abbrev μ-loop : tie.MeasureT-loop
 loop-holds : tie.Need-loop-holds Inv-loop μ-loop
 loop-holds c = (search needs, kept-start (c .args .memory .now) (c .args .line .now) (c .args .c * past))
 
-sub-memory : tie.Need-sub-memory Inv-loop μ-loop
-sub-memory c = search needs
-
-sub-memory-2 : tie.Need-sub-memory-2 Inv-loop μ-loop
-sub-memory-2 c = search needs
-
-mul-memory : tie.Need-mul-memory Inv-loop μ-loop
-mul-memory c = search needs
-
-element-copy-out-memory : tie.Need-element-copy-out-memory Inv-loop μ-loop
-element-copy-out-memory c = search needs
-
-mul-memory-2 : tie.Need-mul-memory-2 Inv-loop μ-loop
-mul-memory-2 c = search needs
-
-add-memory : tie.Need-add-memory Inv-loop μ-loop
-add-memory c = search needs
-
-mul-memory-3 : tie.Need-mul-memory-3 Inv-loop μ-loop
-mul-memory-3 c = search needs
-
-element-write-memory : tie.Need-element-write-memory Inv-loop μ-loop
-element-write-memory c = search needs
-
-add-k : tie.Need-add-k Inv-loop μ-loop
-add-k c = search needs
-
-loop-less : tie.Need-loop-less Inv-loop μ-loop
-loop-less c = search needs
-
 loop-again : tie.Need-loop-again Inv-loop μ-loop
 loop-again c =
     let l = c .before .before .loop in
@@ -67,15 +37,15 @@ keep-spec =
     Inv-loop
     μ-loop
     loop-holds
-    sub-memory
-    sub-memory-2
-    mul-memory
-    element-copy-out-memory
-    mul-memory-2
-    add-memory
-    mul-memory-3
-    element-write-memory
-    add-k
-    loop-less
+    (λ c. search needs)
+    (λ c. search needs)
+    (λ c. search needs)
+    (λ c. search needs)
+    (λ c. search needs)
+    (λ c. search needs)
+    (λ c. search needs)
+    (λ c. search needs)
+    (λ c. search needs)
+    (λ c. search needs)
     loop-again
     returns)

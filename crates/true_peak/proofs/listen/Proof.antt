@@ -8,20 +8,8 @@ use Rattle.true_peak_state.proofs.Channels.{put}
 use Rattle.true_peak.proofs.listen.Statement.{statement}
 use Rattle.true_peak.proofs.listen.Tie as tie
 
-mul-peak : tie.Need-mul-peak
-mul-peak c = search needs
-
-element-copy-out-peak : tie.Need-element-copy-out-peak
-element-copy-out-peak c = search needs
-
 one-channel-requires : tie.Need-one-channel-requires
 one-channel-requires c κs = (search needs, (search needs, (search needs, (search needs, length-unmapped Float (c .before .before .before .args .t .memory) 184 (c .before .before .before .good .1 .1 .0 .1 .1 .0 .1 .0 .1)))))
-
-mul-w : tie.Need-mul-w
-mul-w c = search needs
-
-element-write-w : tie.Need-element-write-w
-element-write-w c = search needs
 
 returns : tie.Need-returns
 returns c =
@@ -32,4 +20,4 @@ returns c =
 pub listen-spec : {M : Type 1} → statement M
 listen-spec =
     tie.close
-    (tie.spec mul-peak element-copy-out-peak one-channel-requires mul-w element-write-w returns)
+    (tie.spec (λ c. search needs) (λ c. search needs) one-channel-requires (λ c. search needs) (λ c. search needs) returns)

@@ -7,21 +7,12 @@ use Rattle.interp.proofs.Rates.{rate-known}
 use Rattle.true_peak.proofs.measure.Statement.{statement}
 use Rattle.true_peak.proofs.measure.Tie as tie
 
-of-rate-requires : tie.Need-of-rate-requires
-of-rate-requires c κs = search needs
-
-enum-known-i : tie.Need-enum-known-i
-enum-known-i c = search needs
-
 -- the interpolator is the rate's
 by-rate : (c : tie.After-known-told) → upsampled (c .before .i .given .0 .0) ≡ kindOf (c .before .before .before .before .before .args .rate)
 by-rate c = ap said (sym (c .before .i .given .1)) ∙ c .before .before .before .of-rate .ensures
 
 all-channels-requires : tie.Need-all-channels-requires
 all-channels-requires c κs = (rate-known (c .before .before .before .before .before .args .rate) (c .before .i .given .0 .0) (by-rate c), c .before .before .before .before .before .pre)
-
-enum-told : tie.Need-enum-told
-enum-told c = search needs
 
 returns : tie.Need-returns
 returns c =
@@ -37,4 +28,4 @@ returns-2 c =
 pub measure-spec : {M : Type 1} → statement M
 measure-spec =
     tie.close
-    (tie.spec of-rate-requires enum-known-i all-channels-requires enum-told returns returns-2)
+    (tie.spec (λ c κs. search needs) (λ c. search needs) all-channels-requires (λ c. search needs) returns returns-2)

@@ -31,9 +31,6 @@ Inv-loop i taps samples channels frames c memory peak line₀ loud₀ first₀ l
 abbrev μ-loop : tie.MeasureT-loop
 μ-loop i taps samples channels frames c memory peak line₀ loud₀ first₀ left₀ line loud first left = left
 
-recall-requires : tie.Need-recall-requires Inv-loop μ-loop
-recall-requires c κs = search needs
-
 loop-holds : tie.Need-loop-holds Inv-loop μ-loop
 loop-holds c =
     let s = c .before .before .before .before in
@@ -97,9 +94,6 @@ hear-stretch-requires-2 c κs =
     let s = c .before .before .before .before .before .before .before in
     (s .pre .0, (s .pre .1 .0, (omega (arith, c .before .loop-test .left), (l .inv .1 .0, (omega (arith, s .good, s .pre), l .inv .0)))))
 
-keep-requires : tie.Need-keep-requires Inv-loop μ-loop
-keep-requires c κs = search needs
-
 returns : tie.Need-returns Inv-loop μ-loop
 returns c =
     let h = c .before .before .before .hear-stretch2 in
@@ -114,7 +108,7 @@ one-channel-spec =
     (tie.spec
     Inv-loop
     μ-loop
-    recall-requires
+    (λ c κs. search needs)
     loop-holds
     hear-stretch-requires
     mul-first
@@ -123,5 +117,5 @@ one-channel-spec =
     loop-less
     loop-again
     hear-stretch-requires-2
-    keep-requires
+    (λ c κs. search needs)
     returns)

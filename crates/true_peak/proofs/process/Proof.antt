@@ -12,9 +12,6 @@ use Rattle.true_peak.specs.TruePeak.{peakRows}
 use Rattle.true_peak.proofs.process.Statement.{statement}
 use Rattle.true_peak.proofs.process.Tie as tie
 
-refused-frames-requires : tie.Need-refused-frames-requires
-refused-frames-requires c κs = search needs
-
 returns : tie.Need-returns
 returns c =
     let a = c .before .before .before .args in
@@ -38,4 +35,4 @@ returns-2 c =
     (ap saidBy (sym e), c .measure .ensures ∙ ap (keptBy (a .t)) (sym e))
 
 pub process-spec : {M : Type 1} → statement M
-process-spec = tie.close (tie.spec refused-frames-requires returns measure-requires returns-2)
+process-spec = tie.close (tie.spec (λ c κs. search needs) returns measure-requires returns-2)

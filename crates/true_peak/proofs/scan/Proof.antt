@@ -23,17 +23,11 @@ own-taps k i e taps line n peak r t h f =
     ∙ ap (λ (q : List Float). largest peak (phasesOver (phasesBy q k) line 0 n)) t
     ∙ ap (λ (j : Interp). largest peak (phasesOver (phasesBy (coefficients (i .factor)) j) line 0 n)) e
 
-scan-fourfold-requires : tie.Need-scan-fourfold-requires
-scan-fourfold-requires c κs = search needs
-
 returns : tie.Need-returns
 returns c =
     let s = c .before .before .before in
     let a = s .args in
     own-taps fourfold (a .i) (known-fourfold (a .i) (s .pre .0) (c .before .if1 .taken)) (a .taps .now) (a .line .now) (a .n) (a .peak) (c .scan-fourfold .result) (s .pre .1 .0) (s .pre .1 .1) (c .scan-fourfold .ensures)
-
-scan-twofold-requires : tie.Need-scan-twofold-requires
-scan-twofold-requires c κs = search needs
 
 returns-2 : tie.Need-returns-2
 returns-2 c =
@@ -42,4 +36,4 @@ returns-2 c =
     own-taps twofold (a .i) (known-twofold (a .i) (s .pre .0) (c .before .if1 .left)) (a .taps .now) (a .line .now) (a .n) (a .peak) (c .scan-twofold .result) (s .pre .1 .0) (s .pre .1 .1) (c .scan-twofold .ensures)
 
 pub scan-spec : {M : Type 1} → statement M
-scan-spec = tie.close (tie.spec scan-fourfold-requires returns scan-twofold-requires returns-2)
+scan-spec = tie.close (tie.spec (λ c κs. search needs) returns (λ c κs. search needs) returns-2)

@@ -34,17 +34,8 @@ add-end c = omega (arith, within c, c .before .before .good)
 mul-process : tie.Need-mul-process
 mul-process c = omega (arith, within c, c .before .before .good)
 
-sub-process : tie.Need-sub-process
-sub-process c = search needs
-
-part-process-start : tie.Need-part-process-start
-part-process-start c = search needs
-
 part-process-end : tie.Need-part-process-end
 part-process-end c = omega (arith, within c)
-
-process-requires : tie.Need-process-requires
-process-requires c κs = search needs
 
 returns : tie.Need-returns
 returns c =
@@ -79,10 +70,10 @@ hear-spec =
     (tie.spec
     add-end
     mul-process
-    sub-process
-    part-process-start
+    (λ c. search needs)
+    (λ c. search needs)
     part-process-end
-    process-requires
+    (λ c κs. search needs)
     returns
     hear-ints-requires
     returns-2)

@@ -21,32 +21,11 @@ long c =
     let s = c .before .before .before in
     length-take-le (s .args .size) (c .fill-f32-i16 .last .0) (omega (arith, c .fill-f32-i16 .kept .0, s .pre .1 .1))
 
-slice-aggregate-fill-f32-i16 : tie.Need-slice-aggregate-fill-f32-i16
-slice-aggregate-fill-f32-i16 c = search needs
-
-mul-fill-f32-i16 : tie.Need-mul-fill-f32-i16
-mul-fill-f32-i16 c = search needs
-
-sub-fill-f32-i16 : tie.Need-sub-fill-f32-i16
-sub-fill-f32-i16 c = search needs
-
-part-fill-f32-i16-start : tie.Need-part-fill-f32-i16-start
-part-fill-f32-i16-start c = search needs
-
-part-fill-f32-i16-end : tie.Need-part-fill-f32-i16-end
-part-fill-f32-i16-end c = search needs
-
-fill-f32-i16-requires : tie.Need-fill-f32-i16-requires
-fill-f32-i16-requires c κs = search needs
-
 array-share-prefix-block : tie.Need-array-share-prefix-block
 array-share-prefix-block c = let f = c .before in omega (arith, f .fill-f32-i16 .kept .0, f .before .before .before .pre .1 .1)
 
 slice-aggregate-process : tie.Need-slice-aggregate-process
 slice-aggregate-process c = sym (long (c .before .before))
-
-process-requires : tie.Need-process-requires
-process-requires c κs = search needs
 
 returns : tie.Need-returns
 returns c =
@@ -60,13 +39,13 @@ pub hear-ints-spec : {M : Type 1} → statement M
 hear-ints-spec =
     tie.close
     (tie.spec
-    slice-aggregate-fill-f32-i16
-    mul-fill-f32-i16
-    sub-fill-f32-i16
-    part-fill-f32-i16-start
-    part-fill-f32-i16-end
-    fill-f32-i16-requires
+    (λ c. search needs)
+    (λ c. search needs)
+    (λ c. search needs)
+    (λ c. search needs)
+    (λ c. search needs)
+    (λ c κs. search needs)
     array-share-prefix-block
     slice-aggregate-process
-    process-requires
+    (λ c κs. search needs)
     returns)

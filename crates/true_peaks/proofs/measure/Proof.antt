@@ -37,17 +37,11 @@ src s = sourceOf (s .args .ints .now) (s .args .floats .now)
 ok : (s : tie.Start Inv-loop μ-loop) → Framed (s .args .channels) (length (src s))
 ok s = frames-fine (s .args .channels) (length (src s)) (s .pre)
 
-size-of-requires : tie.Need-size-of-requires Inv-loop μ-loop
-size-of-requires c κs = search needs
-
 div-frames : tie.Need-div-frames Inv-loop μ-loop
 div-frames c = ok (c .before .before) .some
 
 most-requires : tie.Need-most-requires Inv-loop μ-loop
 most-requires c κs = let s = c .before .before in (ok s .some, ok s .few)
-
-state-of-requires : tie.Need-state-of-requires Inv-loop μ-loop
-state-of-requires c κs = search needs
 
 held : (c : tie.After-state-of Inv-loop μ-loop) → Sized (c .state-of .result)
 held c =
@@ -63,12 +57,6 @@ loop-holds c =
     let a = s .args in
     let z : 0 * a .channels ≡ 0 = zero-mul (a .channels) in
     (omega arith, (held c, ap (λ (n : ℕ). measured (kindOf (a .rate)) (record { channels = a .channels; samples = drop n (src s) }) (c .state-of .result)) z))
-
-sub-shorter : tie.Need-sub-shorter Inv-loop μ-loop
-sub-shorter c = search needs
-
-shorter-requires : tie.Need-shorter-requires Inv-loop μ-loop
-shorter-requires c κs = search needs
 
 -- whole frames
 whole-frames : (c : tie.After-state-of Inv-loop μ-loop) →
@@ -145,13 +133,13 @@ measure-spec =
     (tie.spec
     Inv-loop
     μ-loop
-    size-of-requires
+    (λ c κs. search needs)
     div-frames
     most-requires
-    state-of-requires
+    (λ c κs. search needs)
     loop-holds
-    sub-shorter
-    shorter-requires
+    (λ c. search needs)
+    (λ c κs. search needs)
     mul-hear
     mul-hear-2
     hear-requires

@@ -5,12 +5,6 @@ use Rattle.true_peaks.proofs.Turns.{some-runs, few-runs, runs-fit}
 use Rattle.true_peaks.proofs.most.Statement.{statement}
 use Rattle.true_peaks.proofs.most.Tie as tie
 
-mul-result : tie.Need-mul-result
-mul-result c = search needs
-
-div-result : tie.Need-div-result
-div-result c = search needs
-
 mul-result-2 : tie.Need-mul-result-2
 mul-result-2 c = omega (arith, few-runs (c .args .channels))
 
@@ -18,4 +12,4 @@ returns : tie.Need-returns
 returns c = (omega (arith, some-runs (c .args .channels) (c .pre .0) (c .pre .1)), runs-fit (c .args .channels))
 
 pub most-spec : {M : Type 1} → statement M
-most-spec = tie.close (tie.spec mul-result div-result mul-result-2 returns)
+most-spec = tie.close (tie.spec (λ c. search needs) (λ c. search needs) mul-result-2 returns)

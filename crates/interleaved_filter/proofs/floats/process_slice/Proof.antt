@@ -7,9 +7,6 @@ use Rattle.interleaved_filter.proofs.Counts.{said-on, filter-on, dest-o
 use Rattle.interleaved_filter.proofs.floats.process_slice.Statement.{statement}
 use Rattle.interleaved_filter.proofs.floats.process_slice.Tie as tie
 
-other-channels-requires : tie.Need-other-channels-requires
-other-channels-requires c κs = search needs
-
 returns : tie.Need-returns
 returns c =
     let a = c .before .before .before .before .before .before .args in
@@ -17,15 +14,6 @@ returns c =
     let h = c .before .if1 .taken in
     let o = c .other-channels .ensures in
     (said-off processed (a .channels) call h _ (o .0), filter-off processed (a .channels) call h _ (o .1), dest-off processed (a .channels) call h)
-
-process-f32-requires : tie.Need-process-f32-requires
-process-f32-requires c κs = search needs
-
-heard-of-requires : tie.Need-heard-of-requires
-heard-of-requires c κs = search needs
-
-same-length : tie.Need-same-length
-same-length c = search needs
 
 returns-2 : tie.Need-returns-2
 returns-2 c =
@@ -37,4 +25,4 @@ returns-2 c =
     (said-on processed (a .channels) call e _ _ (r .0) (p .0), filter-on processed (a .channels) call e _ _ (r .1) (p .1), dest-on processed (a .channels) call e _ (p .2))
 
 pub process-slice-spec : {M : Type 1} → statement M
-process-slice-spec = tie.close (tie.spec other-channels-requires returns process-f32-requires heard-of-requires same-length returns-2)
+process-slice-spec = tie.close (tie.spec (λ c κs. search needs) returns (λ c κs. search needs) (λ c κs. search needs) (λ c. search needs) returns-2)

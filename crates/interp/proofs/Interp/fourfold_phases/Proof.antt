@@ -10,18 +10,6 @@ use Rattle.interp.specs.Phase.{phasesBy}
 use Rattle.interp.proofs.Interp.fourfold_phases.Statement.{statement}
 use Rattle.interp.proofs.Interp.fourfold_phases.Tie as tie
 
-phase-requires : tie.Need-phase-requires
-phase-requires c κs = search needs
-
-phase-requires-2 : tie.Need-phase-requires-2
-phase-requires-2 c κs = search needs
-
-phase-requires-3 : tie.Need-phase-requires-3
-phase-requires-3 c κs = search needs
-
-phase-requires-4 : tie.Need-phase-requires-4
-phase-requires-4 c κs = search needs
-
 returns : tie.Need-returns
 unfolding phasesBy fourfold ofBits
 returns c =
@@ -31,4 +19,4 @@ returns c =
 
 pub fourfold-phases-spec : {M : Type 1} → statement M
 fourfold-phases-spec =
-    tie.close (tie.spec phase-requires phase-requires-2 phase-requires-3 phase-requires-4 returns)
+    tie.close (tie.spec (λ c κs. search needs) (λ c κs. search needs) (λ c κs. search needs) (λ c κs. search needs) returns)

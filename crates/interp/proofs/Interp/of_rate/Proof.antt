@@ -6,14 +6,8 @@ use Rattle.interp.specs.Interp.{upsampled}
 use Rattle.interp.proofs.Interp.of_rate.Statement.{statement}
 use Rattle.interp.proofs.Interp.of_rate.Tie as tie
 
-fourfold-requires : tie.Need-fourfold-requires
-fourfold-requires c κs = search needs
-
 returns : tie.Need-returns
 returns c = simp (lt-ltb _ _ (c .before .if1 .taken)) (ap upsampled (c .fourfold .ensures))
-
-twofold-requires : tie.Need-twofold-requires
-twofold-requires c κs = search needs
 
 returns-2 : tie.Need-returns-2
 returns-2 c = simp (le-ltb _ _ (c .before .before .if1 .left), lt-ltb _ _ (c .before .if2 .taken)) (ap upsampled (c .twofold .ensures))
@@ -22,4 +16,4 @@ returns-3 : tie.Need-returns-3
 returns-3 c = simp (le-ltb _ _ (c .before .if1 .left), le-ltb _ _ (c .if2 .left))
 
 pub of-rate-spec : {M : Type 1} → statement M
-of-rate-spec = tie.close (tie.spec fourfold-requires returns twofold-requires returns-2 returns-3)
+of-rate-spec = tie.close (tie.spec (λ c κs. search needs) returns (λ c κs. search needs) returns-2 returns-3)

@@ -10,12 +10,6 @@ use Rattle.interp.specs.Phase.{phasesBy}
 use Rattle.interp.proofs.Interp.twofold_phases.Statement.{statement}
 use Rattle.interp.proofs.Interp.twofold_phases.Tie as tie
 
-phase-requires : tie.Need-phase-requires
-phase-requires c κs = search needs
-
-phase-requires-2 : tie.Need-phase-requires-2
-phase-requires-2 c κs = search needs
-
 returns : tie.Need-returns
 unfolding phasesBy twofold ofBits
 returns c =
@@ -24,4 +18,4 @@ returns c =
     cc
 
 pub twofold-phases-spec : {M : Type 1} → statement M
-twofold-phases-spec = tie.close (tie.spec phase-requires phase-requires-2 returns)
+twofold-phases-spec = tie.close (tie.spec (λ c κs. search needs) (λ c κs. search needs) returns)

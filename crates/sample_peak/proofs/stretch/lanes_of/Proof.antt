@@ -21,11 +21,8 @@ returns c =
     let a = c .before .before .before .args in
     (c .raise-turns .ensures .0, subst (λ (n : ℕ). (j : ℕ) → j < n → getD (c .raise-turns .result .values) j nan ≡ largest plusZero (column (a .stretch .now) j n (a .turns))) (sym (c .before .if1 .taken)) (c .raise-turns .ensures .1))
 
-raise-turns-requires-2 : tie.Need-raise-turns-requires-2
-raise-turns-requires-2 c κs = search needs
-
 returns-2 : tie.Need-returns-2
 returns-2 c = c .raise-turns2 .ensures
 
 pub lanes-of-spec : {M : Type 1} → statement M
-lanes-of-spec = tie.close (tie.spec raise-turns-requires returns raise-turns-requires-2 returns-2)
+lanes-of-spec = tie.close (tie.spec raise-turns-requires returns (λ c κs. search needs) returns-2)

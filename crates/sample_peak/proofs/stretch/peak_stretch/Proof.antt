@@ -70,12 +70,6 @@ top-high c =
     let l = c .before .loop in
     ap (λ (x : Float). lt x plusZero) (l .inv .1 .1 (l .k) (omega arith)) ∙ c .before .before .before .before .before .pre .1 .1 (l .k) (c .loop-test .taken)
 
-mul-top : tie.Need-mul-top Inv-loop μ-loop
-mul-top c = search needs
-
-element-copy-out-top : tie.Need-element-copy-out-top Inv-loop μ-loop
-element-copy-out-top c = search needs
-
 slice-aggregate-largest-on : tie.Need-slice-aggregate-largest-on Inv-loop μ-loop
 slice-aggregate-largest-on c = sym (c .before .before .before .before .before .lanes-of .ensures .0)
 
@@ -103,18 +97,6 @@ largest-on-requires-2 c κs =
       ap (λ (x : Float). lt x plusZero) (c .largest-on .ensures) ∙ largest-high (getD (q .before .loop .w .values) (q .before .loop .k) nan) (column (q .before .before .before .lanes-of .result .values) (q .before .loop .k) (a .channels) (24 / a .channels)) (top-high q),
       reach-after _ _ (a .count) _ _ (reach-start _ _ _ _ h (s .pre .0 .1) (s .pre .1 .0)) (part s),
     )
-
-mul-w : tie.Need-mul-w Inv-loop μ-loop
-mul-w c = search needs
-
-element-write-w : tie.Need-element-write-w Inv-loop μ-loop
-element-write-w c = search needs
-
-add-k : tie.Need-add-k Inv-loop μ-loop
-add-k c = search needs
-
-loop-less : tie.Need-loop-less Inv-loop μ-loop
-loop-less c = search needs
 
 loop-again : tie.Need-loop-again Inv-loop μ-loop
 loop-again c =
@@ -154,17 +136,17 @@ peak-stretch-spec =
     mul-lanes-of
     lanes-of-requires
     loop-holds
-    mul-top
-    element-copy-out-top
+    (λ c. search needs)
+    (λ c. search needs)
     slice-aggregate-largest-on
     largest-on-requires
     mul-largest-on
     add-largest-on
     sub-largest-on
     largest-on-requires-2
-    mul-w
-    element-write-w
-    add-k
-    loop-less
+    (λ c. search needs)
+    (λ c. search needs)
+    (λ c. search needs)
+    (λ c. search needs)
     loop-again
     returns)

@@ -7,16 +7,10 @@ use Rattle.floats.proofs.Magnitude.{both-ways}
 use Rattle.sample_peak.proofs.stretch.raise.Statement.{statement}
 use Rattle.sample_peak.proofs.stretch.raise.Tie as tie
 
-greater-of-requires : tie.Need-greater-of-requires
-greater-of-requires c κs = search needs
-
-greater-of-requires-2 : tie.Need-greater-of-requires-2
-greater-of-requires-2 c κs = search needs
-
 returns : tie.Need-returns
 returns c =
     let s = c .before .before in
     c .greater-of2 .ensures ∙ ap (λ h. greater h (neg (s .args .x))) (c .before .greater-of .ensures) ∙ both-ways (s .args .top) (s .args .x) (s .pre)
 
 pub raise-spec : {M : Type 1} → statement M
-raise-spec = tie.close (tie.spec greater-of-requires greater-of-requires-2 returns)
+raise-spec = tie.close (tie.spec (λ c κs. search needs) (λ c κs. search needs) returns)

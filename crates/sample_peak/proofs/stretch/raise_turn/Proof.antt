@@ -28,39 +28,12 @@ loop-holds c =
     let e : a .lanes - 0 ≡ a .lanes = omega arith in
     (omega arith, (ap (λ (n : ℕ). overChannels (turn (a .stretch .now) (a .at)) n 0 (a .tops .values)) e, λ j h. refl))
 
-mul-top : tie.Need-mul-top Inv-loop μ-loop
-mul-top c = search needs
-
-element-copy-out-top : tie.Need-element-copy-out-top Inv-loop μ-loop
-element-copy-out-top c = search needs
-
-add-raise : tie.Need-add-raise Inv-loop μ-loop
-add-raise c = search needs
-
-mul-raise : tie.Need-mul-raise Inv-loop μ-loop
-mul-raise c = search needs
-
-shared-slice-read-raise : tie.Need-shared-slice-read-raise Inv-loop μ-loop
-shared-slice-read-raise c = search needs
-
 raise-requires : tie.Need-raise-requires Inv-loop μ-loop
 raise-requires c κs =
     let q = c .before .before in
     let l = q .before .loop in
     let p = q .before .before .before .pre in
     ap (λ (x : Float). lt x plusZero) (l .inv .1 .1 (l .j) (omega arith)) ∙ p .1 .1 (l .j) (q .loop-test .taken)
-
-mul-w : tie.Need-mul-w Inv-loop μ-loop
-mul-w c = search needs
-
-element-write-w : tie.Need-element-write-w Inv-loop μ-loop
-element-write-w c = search needs
-
-add-j : tie.Need-add-j Inv-loop μ-loop
-add-j c = search needs
-
-loop-less : tie.Need-loop-less Inv-loop μ-loop
-loop-less c = search needs
 
 loop-again : tie.Need-loop-again Inv-loop μ-loop
 loop-again c =
@@ -87,15 +60,15 @@ raise-turn-spec =
     Inv-loop
     μ-loop
     loop-holds
-    mul-top
-    element-copy-out-top
-    add-raise
-    mul-raise
-    shared-slice-read-raise
+    (λ c. search needs)
+    (λ c. search needs)
+    (λ c. search needs)
+    (λ c. search needs)
+    (λ c. search needs)
     raise-requires
-    mul-w
-    element-write-w
-    add-j
-    loop-less
+    (λ c. search needs)
+    (λ c. search needs)
+    (λ c. search needs)
+    (λ c. search needs)
     loop-again
     returns)

@@ -60,12 +60,6 @@ raise-turn-requires c κs =
 add-at : tie.Need-add-at Inv-loop μ-loop
 add-at c = omega (arith, fits (c .before), c .before .before .loop .inv .1 .0, c .before .before .before .before .good)
 
-add-done : tie.Need-add-done Inv-loop μ-loop
-add-done c = search needs
-
-loop-less : tie.Need-loop-less Inv-loop μ-loop
-loop-less c = search needs
-
 loop-again : tie.Need-loop-again Inv-loop μ-loop
 loop-again c =
     let q = c .before in
@@ -103,7 +97,7 @@ raise-turns-spec =
     loop-holds
     raise-turn-requires
     add-at
-    add-done
-    loop-less
+    (λ c. search needs)
+    (λ c. search needs)
     loop-again
     returns)

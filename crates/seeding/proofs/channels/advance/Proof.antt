@@ -32,12 +32,6 @@ mul-head-of c = let q = c in omega (arith, here q, q .before .before .before .go
 shared-slice-read-head-of : tie.Need-shared-slice-read-head-of Inv-loop μ-loop
 shared-slice-read-head-of c = here (c .before)
 
-head-of-requires : tie.Need-head-of-requires Inv-loop μ-loop
-head-of-requires c κs = search needs
-
-shifted-requires : tie.Need-shifted-requires Inv-loop μ-loop
-shifted-requires c κs = search needs
-
 add-i : tie.Need-add-i Inv-loop μ-loop
 add-i c =
     let q = c .before .before .before in
@@ -75,8 +69,8 @@ advance-spec =
     loop-holds
     mul-head-of
     shared-slice-read-head-of
-    head-of-requires
-    shifted-requires
+    (λ c κs. search needs)
+    (λ c κs. search needs)
     add-i
     sub-left
     loop-less

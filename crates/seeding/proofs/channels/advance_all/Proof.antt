@@ -32,12 +32,6 @@ loop-holds c =
     let a = c .before .before .before .before .args in
     (omega arith, (refl, sym (run-none (a .a) (sourceOf (a .ints .now) (a .floats .now)) (a .channels) (a .map .now) (a .state .now))))
 
-sub-shorter : tie.Need-sub-shorter Inv-loop μ-loop
-sub-shorter c = search needs
-
-shorter-requires : tie.Need-shorter-requires Inv-loop μ-loop
-shorter-requires c κs = search needs
-
 -- the places of the state
 places : (c : tie.At-loop Inv-loop μ-loop) → length (c .before .before .before .before .before .args .state .now) ≡ statePlaces
 places c = search needs
@@ -50,14 +44,8 @@ sizes c =
     let s = q .before .before .before .before .before .before in
     step (omega arith) (s .pre .0) (q .loop-test .taken) (c .shorter .ensures)
 
-slice-aggregate-fill : tie.Need-slice-aggregate-fill Inv-loop μ-loop
-slice-aggregate-fill c = search needs
-
 mul-fill : tie.Need-mul-fill Inv-loop μ-loop
 mul-fill c = omega (arith, sizes (c .before) .samples-end, c .before .before .before .before .before .before .before .before .pre .0 .small)
-
-fill-requires : tie.Need-fill-requires Inv-loop μ-loop
-fill-requires c κs = search needs
 
 size : (c : tie.After-fill Inv-loop μ-loop) → length (c .fill .last .0) ≡ runPlaces
 size c = c .fill .kept .0 ∙ c .before .before .before .before .loop .inv .1 .0
@@ -105,9 +93,6 @@ loop-again c =
       ),
     )
 
-flush-used-requires : tie.Need-flush-used-requires Inv-loop μ-loop
-flush-used-requires c κs = search needs
-
 returns : tie.Need-returns Inv-loop μ-loop
 returns c =
     let e = c .before .before in
@@ -128,15 +113,15 @@ advance-all-spec =
     μ-loop
     div-most
     loop-holds
-    sub-shorter
-    shorter-requires
-    slice-aggregate-fill
+    (λ c. search needs)
+    (λ c κs. search needs)
+    (λ c. search needs)
     mul-fill
-    fill-requires
+    (λ c κs. search needs)
     slice-aggregate-advance-run
     advance-run-requires
     add-done
     loop-less
     loop-again
-    flush-used-requires
+    (λ c κs. search needs)
     returns)

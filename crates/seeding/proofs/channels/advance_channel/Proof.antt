@@ -12,15 +12,6 @@ use Rattle.seeding.proofs.channels.advance_channel.Tie as tie
 returns : tie.Need-returns
 returns c = simp (eq-eqb _ _ (c .if1 .taken)) refl
 
-load-requires : tie.Need-load-requires
-load-requires c κs = search needs
-
-advance-requires : tie.Need-advance-requires
-advance-requires c κs = search needs
-
-store-requires : tie.Need-store-requires
-store-requires c κs = search needs
-
 returns-2 : tie.Need-returns-2
 returns-2 c =
     let v = c .before .before in
@@ -33,4 +24,4 @@ returns-2 c =
     (v .advance .ensures ∙ ap (λ (m : Memory). after (a .a) m (column (a .samples .now) (a .k) (a .channels) (a .count))) (l .load .ensures)))
 
 pub advance-channel-spec : {M : Type 1} → statement M
-advance-channel-spec = tie.close (tie.spec returns load-requires advance-requires store-requires returns-2)
+advance-channel-spec = tie.close (tie.spec returns (λ c κs. search needs) (λ c κs. search needs) (λ c κs. search needs) returns-2)

@@ -25,9 +25,6 @@ Inv-loop a state₀ channels count samples map k₀ state k =
 abbrev μ-loop : tie.MeasureT-loop
 μ-loop a state₀ channels count samples map k₀ state k = channels - k
 
-loop-holds : tie.Need-loop-holds Inv-loop μ-loop
-loop-holds c = search needs
-
 shared-slice-read-advance-channel : tie.Need-shared-slice-read-advance-channel Inv-loop μ-loop
 shared-slice-read-advance-channel c = let q = c .before .before in omega (arith, q .loop-test .taken, q .before .before .before .before .pre)
 
@@ -36,12 +33,6 @@ advance-channel-requires c κs =
     let q = c .before .before in
     let p = q .before .before .before .before .pre in
     reach-start _ _ _ _ (q .loop-test .taken) (p .0 .0) (p .1)
-
-add-k : tie.Need-add-k Inv-loop μ-loop
-add-k c = search needs
-
-loop-less : tie.Need-loop-less Inv-loop μ-loop
-loop-less c = search needs
 
 loop-again : tie.Need-loop-again Inv-loop μ-loop
 loop-again c =
@@ -61,4 +52,15 @@ returns c =
     sym (each-end (moves (a .a) (a .samples .now) (a .channels) (a .count)) (a .map .now) (l .k) (l .state) (omega (arith, c .loop-test .left, s .pre))) ∙ l .inv .1
 
 pub advance-run-spec : {M : Type 1} → statement M
-advance-run-spec = tie.close (tie.spec Inv-loop μ-loop loop-holds shared-slice-read-advance-channel advance-channel-requires add-k loop-less loop-again returns)
+advance-run-spec =
+    tie.close
+    (tie.spec
+    Inv-loop
+    μ-loop
+    (λ c. search needs)
+    shared-slice-read-advance-channel
+    advance-channel-requires
+    (λ c. search needs)
+    (λ c. search needs)
+    loop-again
+    returns)
