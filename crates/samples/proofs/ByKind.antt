@@ -30,7 +30,3 @@ pub only-i16 : {Answer : Type 0} (asked : Samples → Answer) → asked (f32s []
 unfolding lent
 only-i16 asked none [] = none
 only-i16 asked none (x ∷ rest) = ap asked (rw (ne-eqb (suc (length rest)) 0 (λ e. omega arith)))
-
-pub only-f32 : (floats : List Float) → lent [] floats ≡ f32s floats
-unfolding lent
-only-f32 floats = refl

@@ -31,7 +31,8 @@ returns c =
     let on = called .before .before .before .before .before .before in
     let a = on .before .before .args in
     let asked : Samples → Call = λ x. seedOf
-    (withArrays (resting (a .channels) (a .rate) (switchesOf (a .on)) (record { a = now (a .a); b = now (a .a) })) (record { state = now (a .state); peaks = noPeaks; memory = now (a .memory); truePeaks = noPeaks }))
+    (withArrays (resting (a .channels) (a .rate) (switchesOf (a .on)) (record { a = now (a .a); b = now (a .a) }))
+    (record { state = now (a .state); peaks = noPeaks; memory = now (a .memory); truePeaks = noPeaks }))
     x (now (a .map)) in
     let h = rw (on .switches-of .ensures) at (called .seed-lent .ensures) in
     ints-told seeded (λ (k : Kept). k .filter) asked (called .seed-lent .result) (c .number-of .ensures) refl (now (a .«data»)) h
