@@ -13,6 +13,7 @@ use lib.Ieee.{Float, nan, binary64, lt, isNan, fits}
 use Rattle.floats.proofs.Order.{is-true, is-false, right-number, beaten}
 use Rattle.samples.specs.Frames.{silence, column}
 use Rattle.samples.proofs.Columns.{within, column-append}
+use Rattle.sources.proofs.Cutting.{some-frames}
 use Rattle.floats.specs.Entry.{plusZero}
 use Rattle.floats.specs.Largest.{magnitude, greater, greatest, largest}
 use Rattle.floats.proofs.Magnitude.{magnitude-again, High, largest-append}
@@ -37,13 +38,7 @@ next-turn stretch lanes done j top here e =
 -- ---- how many lanes there are
 
 pub some-each : (c : ℕ) → 0 < c → c ≤ 8 → 0 < 24 / c
-some-each c p h = elim (eq-zero-or-pos (24 / c)) [
-  | inl z ↦ absurd (none (24 / c) (24 % c) z (div-add-mod' 24 c) (mod-lt 24 p))
-  | inr q ↦ q
-]
-  where
-    none : (q r : ℕ) → q ≡ 0 → q * c + r ≡ 24 → r < c → ⊥
-    none q r z e l = lt-irrefl 0 (omega (arith, ap (λ (x : ℕ). x * c) z ∙ zero-mul c, e, l, h))
+some-each c p h = some-frames 24 c p (omega arith)
 
 pub within-lanes : (c : ℕ) → 24 / c * c ≤ 24
 within-lanes c = omega (arith, div-add-mod' 24 c)

@@ -1,3 +1,4 @@
 pub mod Exact
 pub mod ByKind
 pub mod Columns
+pub mod Stored

@@ -15,7 +15,7 @@ use Rattle.calls.specs.Calls.{mostChannels}
 use Rattle.calls.proofs.Checking.{Framed}
 use Rattle.sources.specs.Blocks.{Whole}
 use Rattle.sources.specs.Source.{sourceOf}
-use Rattle.sources.proofs.Stores.{at-within}
+use Rattle.samples.proofs.Stored.{at-within}
 use Rattle.sources.proofs.ByKind.{source-below}
 
 -- ---- a block that was filled from place `far` on
@@ -67,7 +67,8 @@ step-of {places} {channels} {frames} {samples} {done} {count} {most} some fits a
       forward = omega arith;
     }
 
-some-frames : (places channels : ℕ) → 0 < channels → channels ≤ places → 0 < places / channels
+-- a block that has a place for each channel has some frames
+pub some-frames : (places channels : ℕ) → 0 < channels → channels ≤ places → 0 < places / channels
 some-frames places channels h few =
     ⊎-elim (λ (z : places / channels ≡ 0). absurd (lt-irrefl 0 (omega (arith, div-add-mod' places channels, ap (λ (x : ℕ). x * channels) z, zero-mul channels, mod-lt places h))))
     (λ (p : 0 < places / channels). p) (eq-zero-or-pos (places / channels))

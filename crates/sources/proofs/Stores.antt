@@ -1,12 +1,12 @@
--- Runs of stores: two runs that do not meet may change places, a run over the same places overwrites, and what each leaves at a place.
+-- Runs of stores: two runs that do not meet may change places, and a run over the same places overwrites.
 -- Each is by induction over the values stored, from the same law of one store. Assumes nothing.
-use Prim.Native.Nat.{ℕ, zero, suc, _+_, _≤_, _<_}
-use native.Mathlib.Nat.{not-suc-le-zero, le-of-suc-le-suc}
+use Prim.Native.Nat.{ℕ, suc, _+_, _≤_, _<_}
+use native.Mathlib.Nat.{not-suc-le-zero}
 use native.Mathlib.Omega.{arith}
 use mathlib.Core.Path.{_≡_, refl, ap, sym, subst, _∙_}
-use mathlib.Core.List.{List, [], _∷_, _++_}
-use lib.ListN.{set, getD, length, length-set}
-use lib.Seq.{sets, set-set, set-comm, getD-set-same, getD-set-other}
+use mathlib.Core.List.{List, [], _∷_}
+use lib.ListN.{set, length}
+use lib.Seq.{sets, set-set, set-comm}
 use lib.Ieee.{Float}
 
 -- stores at p and the four places after it, as code writes them
@@ -35,31 +35,3 @@ sets-again (u ∷ us) [] l i h = absurd (not-suc-le-zero (subst (λ (n : ℕ). s
 sets-again (u ∷ us) (v ∷ vs) l i h =
     ap (λ (t : List Float). sets t (suc i) vs) (sym (set-before us (set l i u) i (suc i) v (omega arith)) ∙ ap (λ (t : List Float). sets t (suc i) us) (set-set l i u v))
     ∙ sets-again us vs (set l i v) (suc i) (let e : suc (length us) ≡ suc (length vs) = h in omega arith)
-
-pub sets-append : (us vs l : List Float) (i : ℕ) → sets l i (us ++ vs) ≡ sets (sets l i us) (i + length us) vs
-sets-append [] vs l i = let e : i ≡ i + 0 = omega arith in ap (λ (p : ℕ). sets l p vs) e
-sets-append (u ∷ us) vs l i =
-    let e : suc i + length us ≡ i + suc (length us) = omega arith in
-    sets-append us vs (set l i u) (suc i) ∙ ap (λ (p : ℕ). sets (sets (set l i u) (suc i) us) p vs) e
-
--- ---- what stands at a place
-
-pub at-before : (vs l : List Float) (i p : ℕ) (d : Float) → p < i → getD (sets l i vs) p d ≡ getD l p d
-at-before [] l i p d h = refl
-at-before (v ∷ vs) l i p d h = at-before vs (set l i v) (suc i) p d (omega arith) ∙ getD-set-other l i p v d (λ e. omega arith)
-
-pub at-after : (vs l : List Float) (i p : ℕ) (d : Float) → i + length vs ≤ p → getD (sets l i vs) p d ≡ getD l p d
-at-after [] l i p d h = refl
-at-after (v ∷ vs) l i p d h = at-after vs (set l i v) (suc i) p d (omega arith) ∙ getD-set-other l i p v d (λ e. omega arith)
-
-pub at-within : (vs l : List Float) (i f : ℕ) (d : Float) → f < length vs → i + f < length l → getD (sets l i vs) (i + f) d ≡ getD vs f d
-at-within [] l i f d h r = absurd (not-suc-le-zero h)
-at-within (v ∷ vs) l i zero d h r =
-    let e : i + 0 ≡ i = omega arith in
-    ap (λ (p : ℕ). getD (sets (set l i v) (suc i) vs) p d) e
-    ∙ at-before vs (set l i v) (suc i) i d (omega arith)
-    ∙ getD-set-same l i v d (omega arith)
-at-within (v ∷ vs) l i (suc f) d h r =
-    let e : i + suc f ≡ suc i + f = omega arith in
-    ap (λ (p : ℕ). getD (sets (set l i v) (suc i) vs) p d) e
-    ∙ at-within vs (set l i v) (suc i) f d (le-of-suc-le-suc h) (simp length-set (omega arith))

@@ -11,7 +11,8 @@ use lib.Seq.{length-sets, set-getD}
 use lib.Ieee.{Float, nan}
 use Rattle.fills.proofs.Fill.{past-end}
 use Rattle.calls.specs.Calls.{mostChannels, used}
-use Rattle.sources.proofs.Stores.{five-stores, sets-comm, sets-again, at-before, at-after, at-within}
+use Rattle.samples.proofs.Stored.{at-before, at-after, at-within}
+use Rattle.sources.proofs.Stores.{five-stores, sets-comm, sets-again}
 use Rattle.recurrence.specs.declared.Memory.{Memory}
 use Rattle.floats.specs.Entry.{at}
 use Rattle.states.specs.Channels.{statePlaces, memoryOf, withMemory, eachUsed, overUsed}

@@ -6,8 +6,8 @@ use mathlib.Core.List.{List, [], _∷_}
 use Prim.Native.Nat.{ℕ, zero, suc, _+_, _*_, _-_, _≤_, _<_}
 use native.Mathlib.Nat.{not-suc-le-zero, le-of-suc-le-suc, add-mul, suc-mul, add-zero, eq-or-lt-of-le}
 use native.Mathlib.Omega.{arith}
-use lib.ListN.{length, getD, take, drop, set, length-take, length-drop}
-use lib.Seq.{sets, ext-getD, getD-take, getD-drop, getD-set-other, getD-set-same}
+use lib.ListN.{length, getD, take, set}
+use lib.Seq.{sets, getD-set-other, getD-set-same}
 use lib.Ieee.{Float, nan}
 use Rattle.interp.specs.declared.Interp.{Interp}
 use Rattle.interp.specs.Phase.{phases}
@@ -18,7 +18,8 @@ use Rattle.largest_phase.specs.Line.{back, phasesOver}
 use Rattle.samples.specs.Frames.{silence, column}
 use Rattle.samples.proofs.Columns.{within}
 use Rattle.true_peak_state.specs.TruePeak.{historyAt}
-use Rattle.true_peak_state.proofs.Stores.{sets-before, sets-at}
+use Rattle.samples.proofs.Stored.{at-before, at-within}
+use Rattle.true_peak_state.proofs.Independence.{history-is}
 
 -- ---- runs of a line
 -- two lines that agree at m places have the same run there
@@ -68,8 +69,8 @@ pub heard-stored : (i : Interp) (l xs : List Float) (peak : Float) → past + le
 heard-stored i l xs peak h =
     let stored = sets l past xs in
     let e : 0 + length xs ≡ length xs = omega arith in
-    ap (λ (r : List Float). heard i (record { history = r; peak = peak }) xs) (back-same l stored 0 0 past (λ j g. sym (sets-before xs l past (0 + j) (omega arith))))
-    ∙ heard-line i stored xs 0 peak (λ k g. (let q : 0 + past + k ≡ past + k = omega arith in ap (λ (p : ℕ). getD stored p nan) q ∙ sets-at xs l past k g h))
+    ap (λ (r : List Float). heard i (record { history = r; peak = peak }) xs) (back-same l stored 0 0 past (λ j g. sym (at-before xs l past (0 + j) nan (omega arith))))
+    ∙ heard-line i stored xs 0 peak (λ k g. (let q : 0 + past + k ≡ past + k = omega arith in ap (λ (p : ℕ). getD stored p nan) q ∙ at-within xs l past k nan g (omega arith)))
     ∙ ap (λ (p : ℕ). record { history = back stored p past; peak = largest peak (phasesOver (phases i) stored 0 (length xs)) }) e
 
 -- ---- the last samples of a line become its first
@@ -133,17 +134,9 @@ recalled-turn memory l c k h r m = record { recalled = λ j g. next j (eq-or-lt-
 
 pub recalled-end : (memory l : List Float) (c k : ℕ) → past ≤ k → c * past + past ≤ length memory → Recalled memory l c k → back l 0 past ≡ historyAt memory c
 recalled-end memory l c k h r m =
-    ext-getD nan (back l 0 past) (historyAt memory c) (back-length l 0 past ∙ sym sized)
-    (λ i g. (
-    let g′ : i < past = subst (λ (n : ℕ). i < n) (back-length l 0 past) g in
-    let e : 0 + (past - suc i) ≡ 22 - i = omega arith in
-    back-at l 0 past i g′
-    ∙ ap (λ (p : ℕ). getD l p nan) e
-    ∙ m .recalled i (omega arith)
-    ∙ sym (getD-take past (drop (c * past) memory) i nan g′ ∙ getD-drop (c * past) memory i nan)))
-  where
-    sized : length (historyAt memory c) ≡ past
-    sized = simp (length-take, length-drop) (omega arith)
+    sym (history-is memory (back l 0 past) c r (back-length l 0 past) (λ j g. (
+    let e : 0 + (past - suc j) ≡ 22 - j = omega arith in
+    sym (back-at l 0 past j g ∙ ap (λ (p : ℕ). getD l p nan) e ∙ m .recalled j (omega arith)))))
 
 -- the line's first places go to the memory one by one
 pub kept-turn : (memory l : List Float) (p k : ℕ) → k < past

@@ -15,7 +15,7 @@ use Rattle.true_peak_state.specs.declared.TruePeak.{TruePeak}
 use Rattle.true_peak_state.specs.Channel.{Channel, hear, heard, past}
 use Rattle.calls.specs.Calls.{mostChannels}
 use Rattle.true_peak_state.specs.TruePeak.{Block, historyAt, channelOf, withChannel, channelSamples, channelsFrom, measured, heardBy}
-use Rattle.true_peak_state.proofs.Stores.{sets-before, sets-at, sets-after}
+use Rattle.samples.proofs.Stored.{at-before, at-within, at-after}
 
 -- a state as the code has it
 pub record Sized (t : TruePeak) : Type 0 where
@@ -29,7 +29,7 @@ history-length m c h = simp (length-take, length-drop) (omega arith)
 history-at : (m : List Float) (c j : ℕ) → j < past → getD (historyAt m c) j nan ≡ getD m (c * past + j) nan
 history-at m c j h = getD-take past (drop (c * past) m) j nan h ∙ getD-drop (c * past) m j nan
 
-history-is : (m h : List Float) (c : ℕ) → c * past + past ≤ length m → length h ≡ past → ((j : ℕ) → j < past → getD m (c * past + j) nan ≡ getD h j nan) → historyAt m c ≡ h
+pub history-is : (m h : List Float) (c : ℕ) → c * past + past ≤ length m → length h ≡ past → ((j : ℕ) → j < past → getD m (c * past + j) nan ≡ getD h j nan) → historyAt m c ≡ h
 history-is m h c r e f =
     ext-getD nan (historyAt m c) h (history-length m c r ∙ sym e)
     (λ j g. (let g′ : j < past = subst (λ (n : ℕ). j < n) (history-length m c r) g in history-at m c j g′ ∙ f j g′))
@@ -65,7 +65,7 @@ module _ (t : TruePeak) (s : Sized t) (c : ℕ) (ch : Channel) (long : length (c
   with-own h =
       same-channel (channelOf (withChannel t c ch) c) ch
       (history-is (sets (t .memory) (c * past) (ch .history)) (ch .history) c (omega (arith, with-sized .memory-size)) long
-      (λ j g. sets-at (ch .history) (t .memory) (c * past) j (omega arith) (omega (arith, s .memory-size))))
+      (λ j g. at-within (ch .history) (t .memory) (c * past) j nan (omega arith) (omega (arith, s .memory-size))))
       (getD-set-same (t .peaks) c (ch .peak) nan (omega (arith, s .peaks-size)))
 
   with-other : (d : ℕ) → d < mostChannels → (d ≡ c → ⊥) → channelOf (withChannel t c ch) d ≡ channelOf t d
@@ -78,8 +78,8 @@ module _ (t : TruePeak) (s : Sized t) (c : ℕ) (ch : Channel) (long : length (c
     where
       apart : (j : ℕ) → j < past → getD (sets (t .memory) (c * past) (ch .history)) (d * past + j) nan ≡ getD (t .memory) (d * past + j) nan
       apart j g = elim (either d c) [
-        | inl l ↦ sets-before (ch .history) (t .memory) (c * past) (d * past + j) (omega arith)
-        | inr l ↦ sets-after (ch .history) (t .memory) (c * past) (d * past + j) (omega arith)
+        | inl l ↦ at-before (ch .history) (t .memory) (c * past) (d * past + j) nan (omega arith)
+        | inr l ↦ at-after (ch .history) (t .memory) (c * past) (d * past + j) nan (omega arith)
       ]
 
 -- ---- n channels from channel c on

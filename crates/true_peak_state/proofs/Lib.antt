@@ -1,4 +1,3 @@
-pub mod Stores
 pub mod Channels
 pub mod Independence
 pub mod Cuts

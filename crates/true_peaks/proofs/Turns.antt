@@ -1,10 +1,10 @@
 -- A call block by block: the samples left, from the state as it is, give what all of them give.
 -- A block's samples head those that are left, and a call may be cut between any two frames. Assumes nothing.
 use Prim.Native.Nat.{ℕ, _+_, _-_, _*_, _/_, _%_, _≤_, _<_}
-use native.Mathlib.Nat.{mul-mod-left, add-mul, zero-div, zero-mul, div-add-mod', div-le-self, mod-lt, lt-irrefl, eq-zero-or-pos}
+use native.Mathlib.Nat.{mul-mod-left, add-mul, zero-div, div-add-mod', div-le-self}
 use native.Mathlib.Omega.{arith}
 use mathlib.Core.Path.{_≡_, refl, sym, ap, subst, _∙_}
-use mathlib.Core.Logic.{inl, inr, ⊎-elim}
+use mathlib.Core.Logic.{inl, inr}
 use mathlib.Core.List.{List, [], _++_, map}
 use lib.IntN.{ℤ}
 use lib.ListN.{length, getD, length-map, take, drop, length-drop, take-append-drop, drop-of-length-le}
@@ -17,7 +17,8 @@ use Rattle.refusals.specs.Rows.{numberOf}
 use Rattle.refusals.proofs.Rows.{goes}
 use Rattle.calls.specs.Calls.{mostChannels, frameRows}
 use Rattle.calls.proofs.Checking.{frames-pass}
-use Rattle.sources.proofs.Stores.{at-within}
+use Rattle.samples.proofs.Stored.{at-within}
+use Rattle.sources.proofs.Cutting.{some-frames}
 use Rattle.sources.proofs.ByKind.{rest-from}
 use Rattle.interp.specs.Interp.{Kind, upsampled, noTruePeak, kindOf}
 use Rattle.true_peak_state.specs.declared.TruePeak.{TruePeak}
@@ -97,12 +98,7 @@ pub few-runs : (channels : ℕ) → places / (128 * channels) ≤ places
 few-runs channels = div-le-self places (128 * channels)
 
 pub some-runs : (channels : ℕ) → 0 < channels → channels ≤ mostChannels → 0 < places / (128 * channels)
-some-runs channels h few =
-    ⊎-elim (λ (z : places / (128 * channels) ≡ 0). absurd (lt-irrefl 0 (omega (arith, div-add-mod' places (128 * channels), ap (λ (x : ℕ). x * (128 * channels)) z, zero-mul (128 * channels), mod-lt places (big h)))))
-    (λ (p : 0 < places / (128 * channels)). p) (eq-zero-or-pos (places / (128 * channels)))
-  where
-    big : 0 < channels → 0 < 128 * channels
-    big h = omega arith
+some-runs channels h few = some-frames places (128 * channels) (omega arith) (omega arith)
 
 -- ---- a block: its first places hold the samples, and a call that passes goes
 

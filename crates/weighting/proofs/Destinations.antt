@@ -12,7 +12,7 @@ use lib.Seq.{sets, length-sets}
 use lib.Ieee.{Float}
 use Rattle.samples.specs.Frames.{column, channelOf}
 use Rattle.calls.specs.Calls.{used}
-use Rattle.sources.proofs.Stores.{at-before, at-after, at-within}
+use Rattle.samples.proofs.Stored.{at-before, at-after, at-within}
 use Rattle.sources.proofs.Cutting.{frames-are}
 use Rattle.recurrence.specs.Recurrence.{outs}
 use Rattle.states.specs.Channels.{Call, memoryOf, eachUsed}
