@@ -1,5 +1,5 @@
--- What a history has at or above the gate, counted from 0 on top of a running sum: how many blocks came before plays no part in it, so their number is added.
--- Assumes nothing.
+-- What a history has at or above the gate, counted from 0 on top of a running sum: how many blocks came before plays no part in it, so their number is added. What the gate
+-- question comes to. Assumes nothing.
 use mathlib.Core.Path.{_≡_, refl, sym, ap, _∙_}
 use mathlib.Core.Bool.{Bool, true, false, cond}
 use mathlib.Core.List.{List, [], _∷_}
@@ -8,14 +8,19 @@ use native.Mathlib.Omega.{arith}
 use lib.IntN.{pos}
 use lib.ListN.{drop}
 use lib.Ieee.{Float, binary64, mul, ofInt}
+use Rattle.refusals.specs.Outcome.{answers, refusal, saidBy}
+use Rattle.refusals.specs.Rows.{numberOf}
+use Rattle.refusals.proofs.Behind.{stopped-first, goes-on}
 use Rattle.tables.specs.Tables.{energyAt}
-use Rattle.history.specs.Set.{History, counted, listed}
+use Rattle.history.specs.Set.{History, counted, listed, Histories, historiesOf, setRows}
 use Rattle.gate.specs.declared.blocks.Totals.{Totals}
-use Rattle.gate.specs.Totals.{onTopOf, withBlocks, binsFrom}
+use Rattle.gate.specs.Totals.{none, onTopOf, withBlocks, binsFrom}
 use Rattle.gate.specs.Start.{startBin, counts}
 use Rattle.gate.proofs.Looking.{same}
 use Rattle.gate.specs.Kept.{keptFrom}
-use Rattle.gate.specs.Gate.{gatedOf}
+use Rattle.gate.specs.Sums.{allOf}
+use Rattle.gate.specs.Relative.{thresholdOf}
+use Rattle.gate.specs.Gate.{gatedOf, allGated, leftOf, gatingRows, gateOver, gateOf}
 
 module _ (before : ℕ) where
   -- so many blocks came before
@@ -56,3 +61,18 @@ gated-on threshold totals history gated e =
     ap (after (totals .count)) e
     ∙ sym (gated-after (totals .count) threshold (onTopOf (totals .sum)) history)
     ∙ ap (λ (n : ℕ). gatedOf threshold (record { count = n; sum = totals .sum }) history) {x = totals .count + 0} {y = totals .count} (omega arith)
+
+-- ---- the gate question, behind what refuses a set
+module _ (h : Histories) where
+  pub gate-refused : (n : ℕ) → n ≡ numberOf (setRows h) → (n ≡ 0 → ⊥) → refusal n ≡ saidBy (gateOf h)
+  unfolding gateOf
+  gate-refused n e p =
+      let left = leftOf (historiesOf h) in
+      stopped-first (answers left) (setRows h) (gatingRows (allOf (historiesOf h)) left) tt n e p .says
+
+  pub gate-asked : numberOf (setRows h) ≡ 0 → (all left : Totals) (threshold : Float) → all ≡ allOf (historiesOf h) → threshold ≡ thresholdOf all
+      → left ≡ allGated threshold none (historiesOf h) → saidBy (gateOver all left) ≡ saidBy (gateOf h)
+  unfolding gateOf
+  gate-asked e all left threshold p q r =
+      let asked = goes-on (answers (leftOf (historiesOf h))) (setRows h) (gatingRows (allOf (historiesOf h)) (leftOf (historiesOf h))) e in
+      rw (r, q, p) (sym (ap saidBy asked))

@@ -3,11 +3,6 @@ pub mod Nothing
 pub mod Stretches
 pub mod Start
 pub mod Looking
-pub mod Answering
-pub mod Adding
-pub mod Levels
 pub mod Keeping
-pub mod Passes
 pub mod Gating
-pub mod Questions
 pub mod Alone

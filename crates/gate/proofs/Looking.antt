@@ -1,12 +1,15 @@
 -- Energies looked at and added in one pass, from a place up to another: a turn takes the first of those left. What is added does not ask how many there are.
 -- Assumes nothing.
 use mathlib.Core.Path.{_≡_, refl, sym, ap, _∙_}
-use mathlib.Core.Bool.{Bool, true, false, _&&_}
+use mathlib.Core.Bool.{Bool, true, _&&_}
 use mathlib.Core.List.{List, [], _∷_, _++_}
 use Prim.Native.Nat.{ℕ, _+_, _-_, _≤_, _<_}
 use native.Mathlib.Omega.{arith}
 use lib.ListN.{length, getD, take, drop}
 use lib.Ieee.{Float, binary64, add}
+use Rattle.refusals.specs.Refusal.{Refusal, number}
+use Rattle.refusals.specs.Rows.{Row, numberOf}
+use Rattle.refusals.proofs.Numbers.{no-number}
 use Rattle.queue.specs.declared.Queue.{Queue}
 use Rattle.queue.specs.declared.Parts.{Parts}
 use Rattle.queue.specs.Queue.{suits, heldOf, partsOf, slice, inParts}
@@ -14,14 +17,12 @@ use Rattle.history.specs.Set.{queueAt, noneBelow}
 use Rattle.queue.proofs.Ring.{suited}
 use Rattle.queue.proofs.Held.{held-count}
 use Rattle.history.proofs.Slices.{slice-next, slice-end, held-slices}
-use Rattle.history.proofs.Entries.{none-below-append}
+use Rattle.history.proofs.Entries.{both, none-below-append}
 use Rattle.gate.specs.declared.blocks.Totals.{Totals}
+use Rattle.gate.specs.declared.sums.Sums.{Sums}
 use Rattle.gate.specs.Totals.{mostBlocks, onTopOf, none, withBlocks, energiesFrom}
+use Rattle.gate.specs.Inner.{SumsAre}
 use Rattle.gate.proofs.Running.{energies-append}
-
-both : (a b : Bool) → a && b ≡ true → a ≡ true
-both true b h = refl
-both false b h = h
 
 -- ---- sums
 -- how many blocks there are plays no part in the sum
@@ -97,5 +98,9 @@ module _ (energies : List Float) (start : ℕ) (queue : Queue) where
   pub queue-totals : (sum : Float) → suits queue (queue .maximum) && noneBelow held ≡ true → sum ≡ energiesFrom none held .sum
       → (_≡_ {A = Totals} (record { count = queue .held; sum = sum }) (energiesFrom none held)) × (queue .held ≤ mostBlocks)
   queue-totals sum s h =
-      let f = suited queue (queue .maximum) (both (suits queue (queue .maximum)) (noneBelow held) s) in
+      let f = suited queue (queue .maximum) (both (suits queue (queue .maximum)) (noneBelow held) s .0) in
       (totals-are held (queue .held) sum (sym (held-count (take (queue .maximum) (drop start energies)) (queue .maximum) (queue .head) (queue .held))) h, omega (arith, f .full, f .most))
+
+-- ---- histories that are refused
+pub refused : (rows : List Row) (all : Totals) (sums : Sums) (r : Refusal) → numberOf rows ≡ number r → sums .refusal ≡ number r → SumsAre rows all sums
+refused rows all sums r e f = record { first = f ∙ sym e; whole = λ z. absurd (no-number r (sym f ∙ z)) }

@@ -1,26 +1,19 @@
--- Inner definitions: what the loops over stretches of bins and over energies go by, the search for the bin where a gate starts, and the steps of the questions.
+-- Inner definitions: what the loops over stretches of bins and over energies go by, the search for the bin where a gate starts, and what histories come to.
 use Prim.Native.Nat.{ℕ, suc, _+_, _-_, _<_}
 use mathlib.Core.Path.{_≡_}
 use mathlib.Core.Logic.{_⊎_}
 use mathlib.Core.Bool.{Bool, true, not, cond}
 use mathlib.Core.List.{List, [], _∷_}
-use lib.Dec.{T, eqb}
+use lib.Dec.{T}
 use lib.IntN.{pos}
 use lib.ListN.{drop}
 use lib.Ieee.{Float, nan, inf, fin, binary64, add, mul, ofInt, fits, lt}
-use Rattle.refusals.specs.Refusal.{STORE, NONE}
-use Rattle.refusals.specs.Outcome.{Question, refused, answers, Said, says, refusal, saidBy}
-use Rattle.refusals.specs.Rows.{byRows}
+use Rattle.refusals.specs.Rows.{Row, numberOf}
 use Rattle.tables.specs.Tables.{energyAt}
-use Rattle.history.specs.declared.set.Entry.{Entry}
-use Rattle.history.specs.Set.{Histories, historiesOf, shows, setRows}
 use Rattle.gate.specs.declared.blocks.Totals.{Totals}
 use Rattle.gate.specs.Totals.{none, withBlocks, binsFrom, blocksIn}
 use Rattle.gate.specs.Start.{counts}
-use Rattle.gate.specs.Sums.{totalsOf, allOf, alone}
-use Rattle.gate.specs.Relative.{Level, levelOf, levelRows}
 use Rattle.gate.specs.declared.sums.Sums.{Sums}
-use Rattle.gate.specs.declared.sums.Sums.the-variants.{Blocks, Refused}
 
 -- so many bins are passed over at once where none of them has a block
 abbrev pub stretch : ℕ
@@ -83,31 +76,7 @@ unfoldable pub addedFrom : Float → Totals → List Float → Totals
 addedFrom threshold totals [] = totals
 addedFrom threshold totals (energy ∷ rest) = addedFrom threshold (withBlocks totals (blocksKept threshold energy) (energyKept threshold energy)) rest
 
--- ---- the steps of the questions
--- the totals of sound stores, or STORE
-abbrev pub answered : Bool → Totals → Question Totals
-answered sound totals = cond sound (answers totals) (refused STORE)
-
--- the totals of one history and of a set, behind what refuses a set
-unfoldable pub ofHistory : Entry → List ℕ → List Float → Question Totals
-ofHistory entry counters energies = byRows (setRows (alone entry counters energies)) (answers (totalsOf (shows counters energies entry)))
-
-unfoldable pub ofSet : Histories → Question Totals
-ofSet h = byRows (setRows h) (answers (allOf (historiesOf h)))
-
--- what each case of `Sums` says
-abbrev pub saidSums : Sums → Said Totals
-saidSums (Blocks totals) = says totals
-saidSums (Refused n) = refusal n
-
--- the level of totals, and of what was said of them
-unfoldable pub levelled : Totals → Question Level
-levelled totals = byRows (levelRows totals) (answers (levelOf totals))
-
-abbrev pub levelSaid : Said Totals → Said Level
-levelSaid (says totals) = saidBy (levelled totals)
-levelSaid (refusal n) = refusal n
-
--- the blocks left, or NONE
-abbrev pub someLeft : Totals → Question Totals
-someLeft left = cond (eqb (left .count) 0) (refused NONE) (answers left)
+-- ---- histories added up: what refuses them, and where nothing does what they come to
+pub record SumsAre (rows : List Row) (all : Totals) (sums : Sums) : Type 0 where
+  pub first : sums .refusal ≡ numberOf rows
+  pub whole : sums .refusal ≡ 0 → sums .totals ≡ all

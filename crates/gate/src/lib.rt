@@ -5,7 +5,6 @@ use histogram_bins::Count;
 use history::set::Entry;
 use history::set::MOST;
 use history::set::Shape;
-use threshold::Threshold;
 ghost use mathlib.Core.Path.{_≡_};
 ghost use mathlib.Core.Bool.{true, false};
 ghost use Prim.Native.Nat.{_≤_};
@@ -15,10 +14,10 @@ ghost use Rattle.refusals.specs.Rows.{numberOf};
 ghost use Rattle.history.specs.Set.{histories, isOutside, isSound, shows, historiesOf, setRows};
 ghost use Rattle.tables.specs.Tables.{energies as binEnergies};
 ghost use Rattle.gate.specs.Totals.{mostBlocks, onTopOf, none};
-ghost use Rattle.gate.specs.Inner.{Steady, someLeft};
+ghost use Rattle.gate.specs.Inner.{Steady};
 ghost use Rattle.gate.specs.Start.{startBin};
 ghost use Rattle.gate.specs.Sums.{alone};
-ghost use Rattle.gate.specs.Gate.{gatedOf, allGated, gateOf, said};
+ghost use Rattle.gate.specs.Gate.{gatedOf, allGated, gateOf, gateOver, said};
 
 pub mod blocks;
 mod kept;
@@ -79,10 +78,16 @@ fn all_gated(
     Totals { count: blocks, sum }
 }
 
-// The blocks left, or NONE.
-fn some_left(left: Totals) -> Gated
-    ensures { λ r. ⌜ said r ≡ saidBy (someLeft left) ⌝ }
+// The answer, by what all blocks come to and what the gate leaves of them.
+fn answer(all: Totals, left: Totals) -> Gated
+    ensures { λ r. ⌜ said r ≡ saidBy (gateOver all left) ⌝ }
 {
+    if all.count == 0 {
+        return Gated::Refused(refusals::NONE);
+    }
+    if floats::is_nan(all.sum) {
+        return Gated::Refused(refusals::NAN);
+    }
     if left.count == 0 {
         return Gated::Refused(refusals::NONE);
     }
@@ -95,13 +100,13 @@ pub fn gate(entries: [Entry; MOST], count: usize, counters: &[Count], energies: 
 {
     let table = tables::all_energies();
     let sums = sums::of_set(&table, entries, count, counters, energies);
-    match threshold::of_sums(sums) {
-        Threshold::Energy(energy) => {
-            some_left(all_gated(&table, entries, count, counters, energies, energy))
-        }
-        Threshold::Loudness(_) => Gated::Refused(refusals::NONE),
-        Threshold::Refused(refusal) => Gated::Refused(refusal),
+    let refusal = sums.refusal;
+    if refusal != 0 {
+        return Gated::Refused(refusal);
     }
+    let all = sums.totals;
+    let energy = threshold::threshold_of(all);
+    answer(all, all_gated(&table, entries, count, counters, energies, energy))
 }
 
 // The gate question over a single history, without a set of sixteen places.
@@ -109,12 +114,13 @@ pub fn gate_of_history(entry: Entry, counters: &[Count], energies: &[f64]) -> Ga
     ensures { λ r. ⌜ said r ≡ saidBy (gateOf (alone entry (now (counters .entry)) (now (energies .entry)))) ⌝ }
 {
     let table = tables::all_energies();
-    match threshold::of_sums(sums::of_history(&table, entry, counters, energies)) {
-        Threshold::Energy(energy) => {
-            let bin = blocks::start_in(&table, energy);
-            some_left(history_gated(&table, 0.0, entry, counters, energies, energy, bin))
-        }
-        Threshold::Loudness(_) => Gated::Refused(refusals::NONE),
-        Threshold::Refused(refusal) => Gated::Refused(refusal),
+    let sums = sums::of_history(&table, entry, counters, energies);
+    let refusal = sums.refusal;
+    if refusal != 0 {
+        return Gated::Refused(refusal);
     }
+    let all = sums.totals;
+    let energy = threshold::threshold_of(all);
+    let bin = blocks::start_in(&table, energy);
+    answer(all, history_gated(&table, 0.0, entry, counters, energies, energy, bin))
 }

@@ -8,19 +8,18 @@ use queue::Queue;
 ghost use mathlib.Core.Path.{_≡_};
 ghost use mathlib.Core.Bool.{true, false, _&&_};
 ghost use Prim.Native.Nat.{_+_, _≤_};
-ghost use lib.ListN.{length, take};
-ghost use Rattle.refusals.specs.Outcome.{saidBy};
+ghost use lib.ListN.{length};
 ghost use Rattle.queue.specs.Queue.{suits, heldOf, slice};
-ghost use Rattle.history.specs.Set.{histories, queueAt, isOutside, outsideSet, noneBelow, isSound, allSound, shows, allShow};
+ghost use Rattle.history.specs.Set.{histories, historiesOf, queueAt, isOutside, outsideSet, noneBelow, isSound, shows, setRows};
 ghost use Rattle.tables.specs.Tables.{energies as binEnergies};
 ghost use Rattle.gate.specs.Totals.{mostBlocks, onTopOf, none, energiesFrom};
 ghost use Rattle.gate.specs.Sums.{totalsOf, allOf, alone};
-ghost use Rattle.gate.specs.Inner.{answered, ofHistory, ofSet, saidSums};
+ghost use Rattle.gate.specs.Inner.{SumsAre};
 
-// The answer: the blocks and the sum of their energies.
-pub(crate) enum Sums {
-    Blocks(Totals),
-    Refused(u8),
+// What refuses histories, 0 where nothing does, and then their blocks and the sum of their energies.
+pub(crate) struct Sums {
+    pub refusal: u8,
+    pub totals: Totals,
 }
 
 // Whether energies are none of them below boundary 0, and their sum.
@@ -70,18 +69,17 @@ fn look_at_queue(energies: &[f64], start: usize, queue: Queue) -> Looked
     }
 }
 
-// Whether the stores of histories are as they have to be, and then their blocks and sum.
+// Whether the store of a history is as it has to be, and then its blocks and sum.
 struct Seen {
     sound: bool,
-    count: u64,
-    sum: f64,
+    totals: Totals,
 }
 
 // One history, which is inside its slice.
 fn look_at_history(table: &[f64; 1000], entry: Entry, counters: &[Count], energies: &[f64]) -> Seen
     requires { ⌜ (now table ≡ binEnergies) × (isOutside (length (now counters)) (length (now energies)) entry ≡ false) ⌝ }
     ensures { λ r. ⌜ (r .sound ≡ isSound (now (energies .entry)) entry)
-        × (r .sound ≡ true → (record { count = r .count; sum = r .sum } ≡ totalsOf (shows (now (counters .entry)) (now (energies .entry)) entry)) × (r .count ≤ mostBlocks)) ⌝ }
+        × (r .sound ≡ true → (r .totals ≡ totalsOf (shows (now (counters .entry)) (now (energies .entry)) entry)) × (r .totals .count ≤ mostBlocks)) ⌝ }
 {
     let shape = entry.shape;
     match shape {
@@ -89,69 +87,29 @@ fn look_at_history(table: &[f64; 1000], entry: Entry, counters: &[Count], energi
             let totals = crate::blocks::from_bin(table, 0.0, counters, start, 0);
             Seen {
                 sound: true,
-                count: totals.count,
-                sum: totals.sum,
+                totals,
             }
         }
         Shape::Queue(start, queue) => {
             let looked = look_at_queue(energies, start, queue);
-            Seen {
-                sound: looked.sound,
+            let totals = Totals {
                 count: queue.held as u64,
                 sum: looked.sum,
+            };
+            Seen {
+                sound: looked.sound,
+                totals,
             }
         }
     }
 }
 
-// All histories of a set that SET does not refuse, added history by history from 0.
-fn look_at_set(
-    table: &[f64; 1000],
-    entries: [Entry; MOST],
-    count: usize,
-    counters: &[Count],
-    energies: &[f64],
-) -> Seen
-    requires { ⌜ (now table ≡ binEnergies) × (outsideSet (histories entries count (now counters) (now energies)) ≡ false) ⌝ }
-    ensures { λ r. ⌜ (r .sound ≡ allSound (now (energies .entry)) (take count entries))
-        × (r .sound ≡ true → record { count = r .count; sum = r .sum } ≡ allOf (allShow (now (counters .entry)) (now (energies .entry)) (take count entries))) ⌝ }
+// Histories that are refused.
+fn refuse(refusal: u8) -> Sums
+    ensures { λ r. ⌜ r .refusal ≡ refusal ⌝ }
 {
-    let mut blocks: u64 = 0;
-    let mut sum = 0.0;
-    let mut i = 0;
-    while i < count {
-        let entry = entries[i];
-        let seen = look_at_history(table, entry, counters, energies);
-        if seen.sound {
-            blocks = blocks + seen.count;
-            sum = sum + seen.sum;
-            i += 1;
-        } else {
-            return Seen {
-                sound: false,
-                count: 0,
-                sum: 0.0,
-            };
-        }
-    }
-    Seen {
-        sound: true,
-        count: blocks,
-        sum,
-    }
-}
-
-// What was seen, or STORE.
-fn answer(seen: Seen) -> Sums
-    ensures { λ r. ⌜ saidSums r ≡ saidBy (answered (seen .sound) (record { count = seen .count; sum = seen .sum })) ⌝ }
-{
-    if seen.sound {
-        return Sums::Blocks(Totals {
-            count: seen.count,
-            sum: seen.sum,
-        });
-    }
-    Sums::Refused(refusals::STORE)
+    let totals = Totals { count: 0, sum: 0.0 };
+    Sums { refusal, totals }
 }
 
 // Whether SET refuses a single history.
@@ -169,15 +127,21 @@ pub(crate) fn of_history(
     energies: &[f64],
 ) -> Sums
     requires { ⌜ now table ≡ binEnergies ⌝ }
-    ensures { λ r. ⌜ saidSums r ≡ saidBy (ofHistory entry (now (counters .entry)) (now (energies .entry))) ⌝ }
+    ensures { λ r. ⌜ SumsAre (setRows (alone entry (now (counters .entry)) (now (energies .entry))))
+        (totalsOf (shows (now (counters .entry)) (now (energies .entry)) entry)) r ⌝ }
 {
     if outside(entry, counters, energies) {
-        return Sums::Refused(refusals::SET);
+        return refuse(refusals::SET);
     }
-    answer(look_at_history(table, entry, counters, energies))
+    let seen = look_at_history(table, entry, counters, energies);
+    if seen.sound {
+        let totals = seen.totals;
+        return Sums { refusal: 0, totals };
+    }
+    refuse(refusals::STORE)
 }
 
-// Those of a set of histories.
+// Those of a set of histories, added history by history from 0.
 pub(crate) fn of_set(
     table: &[f64; 1000],
     entries: [Entry; MOST],
@@ -186,10 +150,26 @@ pub(crate) fn of_set(
     energies: &[f64],
 ) -> Sums
     requires { ⌜ now table ≡ binEnergies ⌝ }
-    ensures { λ r. ⌜ saidSums r ≡ saidBy (ofSet (histories entries count (now (counters .entry)) (now (energies .entry)))) ⌝ }
+    ensures { λ r. ⌜ SumsAre (setRows (histories entries count (now (counters .entry)) (now (energies .entry))))
+        (allOf (historiesOf (histories entries count (now (counters .entry)) (now (energies .entry))))) r ⌝ }
 {
     if history::set::outside_set(entries, count, counters, energies) {
-        return Sums::Refused(refusals::SET);
+        return refuse(refusals::SET);
     }
-    answer(look_at_set(table, entries, count, counters, energies))
+    let mut blocks: u64 = 0;
+    let mut sum = 0.0;
+    let mut i = 0;
+    while i < count {
+        let entry = entries[i];
+        let seen = look_at_history(table, entry, counters, energies);
+        if seen.sound {
+            blocks = blocks + seen.totals.count;
+            sum = sum + seen.totals.sum;
+            i += 1;
+        } else {
+            return refuse(refusals::STORE);
+        }
+    }
+    let totals = Totals { count: blocks, sum };
+    Sums { refusal: 0, totals }
 }

@@ -1,12 +1,11 @@
 // The relative threshold of the blocks of histories, and that of a single history.
 use crate::blocks::Totals;
-use crate::sums::Sums;
 use histogram_bins::Count;
 use history::set::Entry;
 ghost use mathlib.Core.Path.{_≡_};
-ghost use Rattle.refusals.specs.Outcome.{saidBy};
-ghost use Rattle.gate.specs.Relative.{thresholdOf, relativeOf, said};
-ghost use Rattle.gate.specs.Inner.{saidSums, levelled, levelSaid};
+ghost use Rattle.refusals.specs.Outcome.{answers, saidBy};
+ghost use Rattle.refusals.specs.Rows.{byRows};
+ghost use Rattle.gate.specs.Relative.{thresholdOf, levelOf, levelRows, relativeOf, said};
 
 // The loudness of the absolute gate, which stands for a threshold where there is no block.
 const LOWEST: f64 = -70.0;
@@ -19,7 +18,7 @@ pub enum Threshold {
 }
 
 // The threshold of some blocks: a tenth of their mean energy, 10 LU down.
-fn threshold_of(totals: Totals) -> f64
+pub(crate) fn threshold_of(totals: Totals) -> f64
     ensures { λ r. ⌜ r ≡ thresholdOf totals ⌝ }
 {
     (totals.sum / std::num::nearest_u64_to_f64(totals.count)) * 0.1
@@ -27,7 +26,7 @@ fn threshold_of(totals: Totals) -> f64
 
 // The same where there may be none, or one that is NaN.
 fn level(totals: Totals) -> Threshold
-    ensures { λ r. ⌜ said r ≡ saidBy (levelled totals) ⌝ }
+    ensures { λ r. ⌜ said r ≡ saidBy (byRows (levelRows totals) (answers (levelOf totals))) ⌝ }
 {
     if totals.count == 0 {
         return Threshold::Loudness(LOWEST);
@@ -38,20 +37,16 @@ fn level(totals: Totals) -> Threshold
     Threshold::Energy(threshold_of(totals))
 }
 
-// The threshold of the blocks of histories that were added up. What refused these refuses it.
-pub(crate) fn of_sums(sums: Sums) -> Threshold
-    ensures { λ r. ⌜ said r ≡ levelSaid (saidSums sums) ⌝ }
-{
-    match sums {
-        Sums::Blocks(totals) => level(totals),
-        Sums::Refused(refusal) => Threshold::Refused(refusal),
-    }
-}
-
 // The relative threshold of a single history.
 pub fn relative_threshold(entry: Entry, counters: &[Count], energies: &[f64]) -> Threshold
     ensures { λ r. ⌜ said r ≡ saidBy (relativeOf entry (now (counters .entry)) (now (energies .entry))) ⌝ }
 {
     let table = tables::all_energies();
-    of_sums(crate::sums::of_history(&table, entry, counters, energies))
+    let sums = crate::sums::of_history(&table, entry, counters, energies);
+    let refusal = sums.refusal;
+    if refusal != 0 {
+        return Threshold::Refused(refusal);
+    }
+    let totals = sums.totals;
+    level(totals)
 }

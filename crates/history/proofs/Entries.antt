@@ -173,7 +173,8 @@ module _ (counters energies : ℕ) where
   store-inside entry e =
       ltb-false energies (storeEnd (entry .shape)) (either-not (ltb counters (countersEnd (entry .shape))) (ltb energies (storeEnd (entry .shape))) e .1)
 
-both : (a b : Bool) → a && b ≡ true → (a ≡ true) × (b ≡ true)
+-- two tests that both hold
+pub both : (a b : Bool) → a && b ≡ true → (a ≡ true) × (b ≡ true)
 both true b h = (refl, h)
 both false b h = absurd (true≢false (sym h))
 

@@ -1,12 +1,12 @@
 -- `gate::all_gated` meets its contract. The invariant: the histories from `i` on, on top of what was kept, give what all give. Assumes nothing.
 use Prim.Native.Nat.{_+_, _-_, _*_, _≤_}
 use native.Mathlib.Omega.{arith}
-use mathlib.Core.Path.{_≡_, refl, sym, _∙_}
+use mathlib.Core.Path.{_≡_, refl, sym, ap, _∙_}
 use borrow.Author.Needs.{needs}
 use denote.Ref.{now}
 use lib.ListN.{length, getD, take, drop}
-use Rattle.history.specs.Set.{Histories, histories, shows, allShow}
-use Rattle.history.proofs.Entries.{past-the-last, inside-at, sound-at}
+use Rattle.history.specs.Set.{Histories, histories, chosen, shows, allShow}
+use Rattle.history.proofs.Entries.{past-the-last, inside-at, sound-at, shows-next, shows-end}
 use Rattle.history.proofs.Rows.{Kept, kept}
 use Rattle.gate.specs.declared.blocks.Totals.{Totals}
 use Rattle.gate.specs.Totals.{mostBlocks, none}
@@ -14,7 +14,6 @@ use Rattle.gate.specs.Inner.{Steady}
 use Rattle.gate.proofs.Nothing.{nothing-steady}
 use Rattle.gate.specs.Gate.{allGated}
 use Rattle.gate.proofs.Gating.{gated-on}
-use Rattle.gate.proofs.Passes.{gated-turn, gated-end}
 use Rattle.gate.proofs.all_gated.Statement.{statement}
 use Rattle.gate.proofs.all_gated.Tie as tie
 
@@ -76,27 +75,29 @@ loop-less : tie.Need-loop-less Inv-loop μ-loop
 loop-less c = search needs
 
 loop-again : tie.Need-loop-again Inv-loop μ-loop
+unfolding allGated
 loop-again c =
     let l = c .before .before .before .before in
     let h = given l in
     let k = well l in
     let threshold = l .before .before .before .before .args .threshold in
-    let gated = c .before .history-gated in
-    let next : Totals = record { count = l .loop .blocks + gated .result .count; sum = gated .result .sum } in (
+    let gated = c .before .history-gated in (
       omega arith,
       gated .ensures .2,
       omega (arith, gated .ensures .1),
-      gated-turn (h .counters) (h .energies) (h .entries) (h .count) (l .loop .i) (so-far l) threshold (omega arith) (omega (arith, k .few)) next
+      ap (λ (t : Totals). allGated threshold t (allShow (h .counters) (h .energies) (drop (l .loop .i + 1) (chosen h))))
           (gated-on threshold (so-far l) (shows (h .counters) (h .energies) (getD (h .entries) (l .loop .i) past-the-last)) (gated .result) (gated .ensures .0))
+          ∙ sym (ap (allGated threshold (so-far l)) (shows-next (h .counters) (h .energies) (h .entries) (h .count) (l .loop .i) (omega arith) (omega (arith, k .few))))
           ∙ l .loop .inv .3,
     )
 
 returns : tie.Need-returns Inv-loop μ-loop
+unfolding allGated
 returns c =
     let l = c .before in
     let h = given l in
-    sym (gated-end (h .counters) (h .energies) (h .entries) (h .count) (l .loop .i) (so-far l) (l .before .before .before .before .args .threshold) (omega arith))
-    ∙ l .loop .inv .3
+    let threshold = l .before .before .before .before .args .threshold in
+    sym (ap (allGated threshold (so-far l)) (shows-end (h .counters) (h .energies) (h .entries) (h .count) (l .loop .i) (omega arith))) ∙ l .loop .inv .3
 
 pub all-gated-spec : {M : Type 1} → statement M
 all-gated-spec =

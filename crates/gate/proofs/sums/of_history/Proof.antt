@@ -1,28 +1,41 @@
--- `sums::of_history` meets its contract: SET, or what was seen of the store. Assumes nothing.
-use mathlib.Core.Path.{_≡_, sym, ap, _∙_}
+-- `sums::of_history` meets its contract: SET, STORE, or what was seen of the history. Assumes nothing.
+use mathlib.Core.Path.{_≡_, sym, _∙_}
 use mathlib.Core.Bool.{false}
 use borrow.Author.Needs.{needs}
 use denote.Ref.{now}
-use Rattle.refusals.specs.Outcome.{saidBy}
-use Rattle.history.specs.Set.{outsideSet}
+use Rattle.refusals.specs.Refusal.{STORE, SET}
+use Rattle.history.specs.Set.{Histories, chosen, outsideSet, allSound, setRows}
+use Rattle.history.proofs.Rows.{set-refused, one-unsound, all-well}
 use Rattle.gate.specs.Sums.{alone}
-use Rattle.gate.proofs.Answering.{history-inside, history-outside, history-seen}
+use Rattle.gate.proofs.Looking.{refused}
+use Rattle.gate.proofs.Alone.{history-inside, history-sound}
 use Rattle.gate.proofs.sums.of_history.Statement.{statement}
 use Rattle.gate.proofs.sums.of_history.Tie as tie
 
+-- the set that is this history
+abbrev given : tie.After-outside → Histories
+given c = let a = c .before .before .before .args in alone (a .entry) (now (a .counters)) (now (a .energies))
+
 -- SET does not refuse it
-inside : (c : tie.Else1) →
-    let a = c .before .before .before .before .args in
-    outsideSet (alone (a .entry) (now (a .counters)) (now (a .energies))) ≡ false
+inside : (c : tie.Else1) → outsideSet (given (c .before)) ≡ false
 inside c = sym (c .before .outside .ensures) ∙ c .if1 .left
+
+-- whether its store is sound
+sound-is : (c : tie.After-look-at-history) → allSound (given (c .before .before) .energies) (chosen (given (c .before .before))) ≡ c .look-at-history .result .sound
+sound-is c =
+    let a = c .before .before .before .before .before .args in
+    history-sound (a .entry) (now (a .counters)) (now (a .energies)) ∙ sym (c .look-at-history .ensures .0)
 
 outside-requires : tie.Need-outside-requires
 outside-requires c κs = search needs
 
+refuse-requires : tie.Need-refuse-requires
+refuse-requires c κs = search needs
+
 returns : tie.Need-returns
 returns c =
-    let a = c .before .before .before .before .args in
-    sym (ap saidBy (history-outside (a .entry) (now (a .counters)) (now (a .energies)) (sym (c .before .outside .ensures) ∙ c .if1 .taken)))
+    let t = c .before in
+    refused (setRows (given (t .before))) _ (c .refuse .result) SET (set-refused (given (t .before)) (sym (t .before .outside .ensures) ∙ t .if1 .taken)) (c .refuse .ensures)
 
 look-at-history-requires : tie.Need-look-at-history-requires
 look-at-history-requires c κs =
@@ -30,20 +43,33 @@ look-at-history-requires c κs =
     let a = w .args in
     (w .pre, history-inside (a .entry) (now (a .counters)) (now (a .energies)) (inside c))
 
-answer-requires : tie.Need-answer-requires
-answer-requires c κs = search needs
-
 returns-2 : tie.Need-returns-2
 returns-2 c =
-    let s = c .before in
-    let e = s .before in
-    let a = e .before .before .before .before .args in
-    let seen = s .look-at-history in
-    c .answer .ensures
-    ∙ sym (ap saidBy (history-seen (a .entry) (now (a .counters)) (now (a .energies)) (inside e) (seen .result .sound)
-    (record { count = seen .result .count; sum = seen .result .sum }) (seen .ensures .0) (λ t. seen .ensures .1 t .0)))
+    let t = c .before in
+    let s = t .before in
+    record {
+      first = sym (all-well (given (s .before .before)) (inside (s .before)) (sound-is s ∙ t .if2 .taken));
+      whole = λ _. s .look-at-history .ensures .1 (t .if2 .taken) .0;
+    }
+
+refuse-requires-2 : tie.Need-refuse-requires-2
+refuse-requires-2 c κs = search needs
+
+returns-3 : tie.Need-returns-3
+returns-3 c =
+    let e = c .before in
+    let s = e .before in
+    let h = given (s .before .before) in
+    refused (setRows h) _ (c .refuse2 .result) STORE (one-unsound h (inside (s .before)) (sound-is s ∙ e .if2 .left)) (c .refuse2 .ensures)
 
 pub of-history-spec : {M : Type 1} → statement M
 of-history-spec =
     tie.close
-    (tie.spec outside-requires returns look-at-history-requires answer-requires returns-2)
+    (tie.spec
+    outside-requires
+    refuse-requires
+    returns
+    look-at-history-requires
+    returns-2
+    refuse-requires-2
+    returns-3)
