@@ -1,7 +1,7 @@
 -- Every n of which a rank is taken is below 2 ^ 46, so that each rank is the one that the Rust works in floats.
 -- No set has more than 16 histories, no histogram more than 1,000 full bins, and no queue more than 36,000 energies. Assumes nothing.
-use mathlib.Core.Path.{_≡_, refl, sym, _∙_}
-use mathlib.Core.Bool.{Bool, true, false, _&&_, true≢false}
+use mathlib.Core.Path.{_≡_, refl, _∙_}
+use mathlib.Core.Bool.{true}
 use mathlib.Core.List.{List, [], _∷_, _++_}
 use Prim.Native.Nat.{ℕ, suc, _+_, _*_, _≤_, _<_, zero-le}
 use native.Mathlib.Omega.{arith}
@@ -31,6 +31,7 @@ use Rattle.history.specs.Set.{
 }
 use Rattle.queue.proofs.Ring.{suited}
 use Rattle.queue.proofs.Held.{held-count}
+use Rattle.history.proofs.Entries.{both}
 use Rattle.history.proofs.Rows.{kept}
 use Rattle.ranks.specs.Ranks.{lowRank, highRank, rankInFloats, lowShare, highShare, exactBelow}
 use Rattle.ranks.proofs.InFloats.{low-rank-is-the-rust's, high-rank-is-the-rust's}
@@ -83,10 +84,6 @@ histogram-ranks h s b n g =
     as-the-rust n (omega (arith, blocks-all-most added most, added-length (h .counters) (h .energies) (chosen h) (replicate bins 0), zeros-length))
 
 -- ---- queues
-both : (a b : Bool) → a && b ≡ true → (a ≡ true) × (b ≡ true)
-both true b h = (refl, h)
-both false b h = absurd (true≢false (sym h))
-
 held-most : (counters : List ℕ) (energies : List Float) (l : List Entry) → allSound energies l ≡ true
     → length (allHeld (allShow counters energies l)) ≤ length l * longest
 unfolding allSound allHeld allShow

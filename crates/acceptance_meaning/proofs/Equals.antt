@@ -5,11 +5,12 @@ use mathlib.Core.Bool.{Bool, true, false, not, _&&_, cond, true≢false}
 use mathlib.Core.List.{List, [], _∷_}
 use Prim.Native.Nat.{ℕ, _+_, _*_}
 use native.Mathlib.Omega.{arith}
-use borrow.Author.Tests.{ltb-true, ltb-false, eq-eqb}
+use borrow.Author.Tests.{ltb-true, ltb-false, eq-eqb, not-true}
 use lib.Dec.{T, eqb, ltb}
 use lib.Ieee.{Float, nan, inf, fin, up, down, below, level, lt, eq, isNan}
 use lib.Ieee.Positive.{positive}
 use Rattle.tables.proofs.Rules.{boundary-positive}
+use Rattle.history.proofs.Entries.{both}
 use Rattle.acceptance_meaning.specs.Levels.{absoluteGate}
 use Rattle.acceptance_meaning.specs.Bs1770.{
   strict,
@@ -84,21 +85,13 @@ rules-agree (fin s m c) (inf false) g e h = refl
 rules-agree (fin s m c) (fin t n d) g e h = one-way s (m * up c * down d) t (n * up d * down c) h
 
 -- ---- blocks
-all-of : (a b : Bool) → a && b ≡ true → (a ≡ true) × (b ≡ true)
-all-of true b h = (refl, h)
-all-of false b h = absurd (true≢false (sym h))
-
-not-true : (a : Bool) → not a ≡ true → a ≡ false
-not-true true h = sym h
-not-true false h = refl
-
 module _ (gate : Float) (known : isNan gate ≡ false) where
   through-same : (blocks : List Float) → noneAt gate blocks ≡ true → through strict gate blocks ≡ through equalsKept gate blocks
   unfolding through noneAt
   through-same [] h = refl
   through-same (energy ∷ rest) h =
-      let w = all-of (not (isNan energy) && not (eq energy gate)) (noneAt gate rest) h in
-      let v = all-of (not (isNan energy)) (not (eq energy gate)) (w .0) in
+      let w = both (not (isNan energy) && not (eq energy gate)) (noneAt gate rest) h in
+      let v = both (not (isNan energy)) (not (eq energy gate)) (w .0) in
       ap (λ (b : Bool). cond b (energy ∷ through strict gate rest) (through strict gate rest))
       (rules-agree gate energy known (not-true (isNan energy) (v .0)) (not-true (eq energy gate) (v .1)))
       ∙ ap (λ (l : List Float). cond (equalsKept gate energy) (energy ∷ l) l) (through-same rest (w .1))
@@ -107,7 +100,7 @@ module _ (gate : Float) (known : isNan gate ≡ false) where
   unfolding eachThrough noneOfEachAt
   each-same [] h = refl
   each-same (blocks ∷ rest) h =
-      let w = all-of (noneAt gate blocks) (noneOfEachAt gate rest) h in
+      let w = both (noneAt gate blocks) (noneOfEachAt gate rest) h in
       ap (λ (l : List Float). l ∷ eachThrough strict gate rest) (through-same blocks (w .0))
       ∙ ap {B = List (List Float)} (λ (l : List (List Float)). through equalsKept gate blocks ∷ l) (each-same rest (w .1))
 

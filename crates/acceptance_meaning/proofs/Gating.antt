@@ -1,18 +1,20 @@
 -- Gating blocks and putting them in order: it is the same either way round, and in rising order a gate takes the leading ones only.
 -- Putting one more in its place changes no other, and where one is not below the gate no later one is. Assumes nothing.
 use mathlib.Core.Path.{_≡_, refl, sym, ap, _∙_, subst}
-use mathlib.Core.Bool.{Bool, true, false, not, _&&_, cond, true≢false}
+use mathlib.Core.Bool.{Bool, true, false, not, cond}
 use mathlib.Core.List.{List, [], _∷_}
+use borrow.Author.Tests.{not-true}
 use lib.Dec.{T}
 use lib.Ieee.{Float, lt, le}
 use lib.Ieee.Positive.{above}
-use Rattle.floats.proofs.Order.{float-le-trans, lt→le, lt-not-le, is-true}
+use Rattle.floats.proofs.Order.{float-le-trans, lt→le, lt-not-le}
 use Rattle.histogram_bins.specs.Energy.{dropped}
 use Rattle.history.specs.Set.{noneBelow}
+use Rattle.history.proofs.Entries.{both}
 use Rattle.rising_order.specs.Order.{put, inOrder}
 use Rattle.rising_order.specs.Arrangement.{All, Above, Rising}
 use Rattle.rising_order.proofs.Energies.{not-below, above-up}
-use Rattle.rising_order.proofs.InOrder.{in-order-rises}
+use Rattle.rising_order.proofs.InOrder.{at-most-all, put-first, in-order-rises}
 use Rattle.rising_range.specs.Rising.{fromGate}
 use Rattle.acceptance_meaning.specs.Levels.{absoluteGate}
 use Rattle.acceptance_meaning.specs.Tech3342.{gated}
@@ -23,14 +25,6 @@ unfolding gated
 gated-all gate [] a = refl
 gated-all gate (x ∷ l) a =
     ap (λ (b : Bool). cond b (gated gate l) (x ∷ gated gate l)) (a .0) ∙ ap {B = List Float} (λ (r : List Float). x ∷ r) (gated-all gate l (a .1))
-
-both : (a b : Bool) → a && b ≡ true → (a ≡ true) × (b ≡ true)
-both true b h = (refl, h)
-both false b h = absurd (true≢false (sym h))
-
-not-true : (a : Bool) → not a ≡ true → a ≡ false
-not-true true h = absurd (true≢false (sym h))
-not-true false h = refl
 
 none-dropped : (l : List Float) → noneBelow l ≡ true → All (λ x. lt x absoluteGate ≡ false) l
 unfolding noneBelow
@@ -67,11 +61,6 @@ leading gate (x ∷ l) a r = go (lt x gate) refl (leading gate l (a .1) (r .1))
     go false e h = ap {B = List Float} (λ (k : List Float). x ∷ k) (sym (gated-all gate l (all-on gate x (a .0) e l (r .0))))
 
 -- ---- one more in its place
-put-first : (x : Float) (l : List Float) → All (λ z. T (le x z)) l → put x l ≡ x ∷ l
-unfolding put
-put-first x [] h = refl
-put-first x (y ∷ l) h = rw (is-true (le x y) (h .0))
-
 all-gated : (gate x : Float) (l : List Float) → All (λ z. T (le x z)) l → All (λ z. T (le x z)) (gated gate l)
 unfolding gated
 all-gated gate x [] h = tt
@@ -80,10 +69,6 @@ all-gated gate x (y ∷ l) h = go (lt y gate) (all-gated gate x l (h .1))
     go : (b : Bool) → All (λ z. T (le x z)) (gated gate l) → All (λ z. T (le x z)) (cond b (gated gate l) (y ∷ gated gate l))
     go true k = k
     go false k = (h .0, k)
-
-at-most-all : (x y : Float) → T (le x y) → (l : List Float) → All (λ z. T (le y z)) l → All (λ z. T (le x z)) l
-at-most-all x y h [] k = tt
-at-most-all x y h (z ∷ l) k = (float-le-trans x y z h (k .0), at-most-all x y h l (k .1))
 
 gated-put : (gate x : Float) (l : List Float) → Rising l → gated gate (put x l) ≡ cond (lt x gate) (gated gate l) (put x (gated gate l))
 unfolding gated put

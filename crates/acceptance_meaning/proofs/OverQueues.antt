@@ -1,7 +1,7 @@
 -- What the range answers over queues is what Tech 3342 gives over their energies: to gate and then order is to order and then skip the leading ones,
 -- and the two ranks are the nearest to a tenth and to nineteen twentieths of the last. Assumes nothing.
 use mathlib.Core.Path.{_≡_, refl, sym, ap, _∙_}
-use mathlib.Core.Bool.{Bool, true, false, not, _||_, cond, true≢false}
+use mathlib.Core.Bool.{Bool, true, false, not, _||_, cond}
 use mathlib.Core.List.{List, [], _∷_, _++_}
 use Prim.Native.Nat.{ℕ, _+_, _-_, _≤_}
 use native.Mathlib.Omega.{arith}
@@ -11,6 +11,7 @@ use lib.Ieee.{Float, nan, lt, isNan}
 use Rattle.refusals.specs.Outcome.{went}
 use Rattle.refusals.specs.Rows.{numberOf}
 use Rattle.history.specs.Set.{Histories, historiesOf, chosen, noneBelow, setRows}
+use Rattle.history.proofs.Entries.{either-not}
 use Rattle.history.proofs.Rows.{kept}
 use Rattle.gate.specs.Totals.{none, energiesFrom}
 use Rattle.ranks.specs.Ranks.{lowRank, highRank}
@@ -112,15 +113,11 @@ gated-again gate (x ∷ l) = go (lt x gate) refl (gated-again gate l)
     go false e rest =
         ap (λ (b : Bool). cond b (gated gate (gated gate l)) (x ∷ gated gate (gated gate l))) e ∙ ap {B = List Float} (λ (r : List Float). x ∷ r) rest
 
-none-of-two : (a b : Bool) → a || b ≡ false → (a ≡ false) × (b ≡ false)
-none-of-two true b h = absurd (true≢false h)
-none-of-two false b h = (refl, h)
-
 no-nan-left : (gate : Float) (l : List Float) → anyNan l ≡ false → anyNan (gated gate l) ≡ false
 unfolding anyNan gated
 no-nan-left gate [] h = refl
 no-nan-left gate (x ∷ l) h =
-    let w = none-of-two (isNan x) (anyNan l) h in
+    let w = either-not (isNan x) (anyNan l) h in
     go (lt x gate) (w .0) (no-nan-left gate l (w .1))
   where
     go : (b : Bool) → isNan x ≡ false → anyNan (gated gate l) ≡ false → anyNan (cond b (gated gate l) (x ∷ gated gate l)) ≡ false

@@ -1,7 +1,7 @@
 -- The gate question over any set is the measurement over what its histories hold: a histogram's bins from the gate's start bin on are those whose energy the gate lets
 -- through, and a queue's energies are asked one by one. Assumes nothing.
 use mathlib.Core.Path.{_≡_, refl, sym, ap, _∙_}
-use mathlib.Core.Bool.{Bool, true, false, not, _||_, cond, true≢false}
+use mathlib.Core.Bool.{Bool, true, false, not, cond}
 use mathlib.Core.List.{List, [], _∷_}
 use Prim.Native.Nat.{ℕ, zero, suc, _+_, _≤_, _<_}
 use native.Mathlib.Omega.{arith}
@@ -11,7 +11,7 @@ use lib.ListN.{length, drop, length-take, length-drop}
 use lib.IntN.{pos}
 use lib.Ieee.{Float, binary64, mul, ofInt}
 use Rattle.refusals.specs.Outcome.{answers}
-use Rattle.refusals.specs.Rows.{Row, numberOf}
+use Rattle.refusals.specs.Rows.{numberOf}
 use Rattle.refusals.proofs.Behind.{goes-on}
 use Rattle.tables.specs.Tables.{energyAt}
 use Rattle.histogram_bins.specs.Bin.{bins}
@@ -20,7 +20,7 @@ use Rattle.history.specs.declared.set.Shape.{Shape}
 use Rattle.history.specs.declared.set.Shape.the-variants.{Histogram, Queue as Queue-at}
 use Rattle.history.specs.Set.{History, counted, listed, Histories, chosen, shapeShows, allShow, historiesOf, isOutside, anyOutside, setRows}
 use Rattle.history.proofs.Rows.{kept}
-use Rattle.history.proofs.Entries.{counters-inside}
+use Rattle.history.proofs.Entries.{either-not, counters-inside}
 use Rattle.gate.specs.declared.blocks.Totals.{Totals}
 use Rattle.gate.specs.Totals.{none, withBlocks, binsFrom, energiesFrom}
 use Rattle.gate.specs.Start.{startBin}
@@ -114,16 +114,12 @@ all-through gate totals (listed energies ∷ l) w =
     ap (λ (t : Totals). allThrough (equalsKept gate) t l) (each-energy gate totals energies) ∙ all-through gate (gatedOf gate totals (listed energies)) l w
 
 -- ---- the sets
-none-of-two : (a b : Bool) → a || b ≡ false → (a ≡ false) × (b ≡ false)
-none-of-two true b h = absurd (true≢false h)
-none-of-two false b h = (refl, h)
-
 module _ (counters : List ℕ) (energies : List Float) where
   all-whole : (l : List Entry) → anyOutside (length counters) (length energies) l ≡ false → Whole (allShow counters energies l)
   unfolding anyOutside allShow
   all-whole [] h = tt
   all-whole (entry ∷ l) h =
-      let w = none-of-two (isOutside (length counters) (length energies) entry) (anyOutside (length counters) (length energies) l) h in
+      let w = either-not (isOutside (length counters) (length energies) entry) (anyOutside (length counters) (length energies) l) h in
       one (entry .shape) refl (all-whole l (w .1)) (w .0)
     where
       one : (shape : Shape) → entry .shape ≡ shape → Whole (allShow counters energies l) → isOutside (length counters) (length energies) entry ≡ false

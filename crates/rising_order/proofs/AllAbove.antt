@@ -1,6 +1,6 @@
 -- All energies above zero, as a test and as a fact; and the test goes through them one after the other. Assumes nothing.
-use mathlib.Core.Path.{_≡_, refl, sym, subst}
-use mathlib.Core.Bool.{Bool, true, false, _&&_, cond, and-true, and-assoc}
+use mathlib.Core.Path.{_≡_, refl, sym}
+use mathlib.Core.Bool.{Bool, true, false, _&&_, true≢false, and-true, and-assoc}
 use mathlib.Core.List.{List, [], _∷_}
 use Prim.Native.Nat.{ℕ, suc, _+_, _≤_, _<_}
 use native.Mathlib.Omega.{arith}
@@ -22,10 +22,7 @@ all-above (x ∷ l) a = rw (is-true (above x) (a .0)) (all-above l (a .1))
 
 and-both : (a b : Bool) → a && b ≡ true → T a × (b ≡ true)
 and-both true b e = (tt, e)
-and-both false b e = (absurd (false-true e), absurd (false-true e))
-  where
-    false-true : false ≡ true → ⊥
-    false-true q = subst (λ (c : Bool). cond c ⊥ Unit) q tt
+and-both false b e = absurd (true≢false (sym e))
 
 pub above-all : (l : List Float) → allAbove l ≡ true → Above l
 unfolding allAbove

@@ -42,7 +42,7 @@ pub in-order-length : (l : List Float) → length (inOrder l) ≡ length l
 in-order-length l = sym (perm-length (in-order-perm l))
 
 -- ---- they rise
-at-most-all : (x y : Float) → T (le x y) → (l : List Float) → All (λ z. T (le y z)) l → All (λ z. T (le x z)) l
+pub at-most-all : (x y : Float) → T (le x y) → (l : List Float) → All (λ z. T (le y z)) l → All (λ z. T (le x z)) l
 at-most-all x y h l k = all-map (λ z g. float-le-trans x y z h g) l k
 
 put-rises : (x : Float) (l : List Float) → T (above x) → Above l → Rising l → Rising (put x l)
@@ -102,7 +102,7 @@ same-order (under x p) a = ap (put x) (same-order p (a .1))
 same-order (swap x y l) a = put-both x y (a .0) (a .1 .0) (inOrder l)
 same-order (after p q) a = same-order p a ∙ same-order q (all-perm Energy p a)
 
-put-first : (x : Float) (l : List Float) → All (λ z. T (le x z)) l → put x l ≡ x ∷ l
+pub put-first : (x : Float) (l : List Float) → All (λ z. T (le x z)) l → put x l ≡ x ∷ l
 unfolding put
 put-first x [] h = refl
 put-first x (y ∷ l) h = rw (is-true (le x y) (h .0))
