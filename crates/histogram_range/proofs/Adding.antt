@@ -3,10 +3,10 @@
 use mathlib.Core.Path.{_≡_, refl, sym, ap, _∙_}
 use mathlib.Core.List.{List, [], _∷_}
 use Prim.Native.Nat.{ℕ, zero, suc, _+_, _≤_, _<_, zero-le}
-use native.Mathlib.Nat.{le-of-suc-le-suc, not-suc-le-zero, le-refl}
+use native.Mathlib.Nat.{le-refl}
 use native.Mathlib.Omega.{arith}
-use lib.ListN.{length, getD, take, drop, replicate, length-take, length-replicate}
-use lib.Seq.{getD-take, getD-drop}
+use lib.ListN.{length, getD, take, drop, replicate, length-replicate}
+use lib.Seq.{getD-drop}
 use lib.Ieee.{Float}
 use Rattle.histogram_bins.specs.Bin.{bins}
 use Rattle.histogram.specs.Histogram.{largestCount, empty, sums}
@@ -14,9 +14,8 @@ use Rattle.history.specs.declared.set.Entry.{Entry}
 use Rattle.history.specs.declared.set.Shape.{Shape}
 use Rattle.history.specs.declared.set.Shape.the-variants.{Histogram, Queue as Queue-at}
 use Rattle.history.specs.Set.{countersEnd, countersInside, countersAt, shows, shapeShows, allShow}
-use Rattle.history.proofs.Entries.{past-the-last, shows-next, shows-end}
-use Rattle.histogram_range.specs.Counted.{withHistory, addedTo}
-use Rattle.histogram_range.specs.Counted.{AtMost}
+use Rattle.history.proofs.Entries.{past-the-last, every-at, shows-next, shows-end}
+use Rattle.histogram_range.specs.Counted.{AtMost, withHistory, addedTo}
 
 -- ---- bin by bin
 pub sums-length : (into from : List ℕ) → length (sums into from) ≡ length into
@@ -60,16 +59,9 @@ pub zeros-most : AtMost 0 (replicate bins 0)
 zeros-most bin = zeros bins bin
 
 -- ---- entry by entry
-blocks-in : (counters : ℕ) (l : List Entry) (i : ℕ) → i < length l → countersInside counters l → countersEnd (getD l i past-the-last .shape) ≤ counters
-blocks-in counters [] i h b = absurd (not-suc-le-zero h)
-blocks-in counters (entry ∷ l) zero h b = b .0
-blocks-in counters (entry ∷ l) (suc i) h b = blocks-in counters l i (le-of-suc-le-suc h) (b .1)
-
 pub counters-at : (counters : ℕ) (l : List Entry) (count i : ℕ) → i < count → count ≤ length l → countersInside counters (take count l)
     → countersEnd (getD l i past-the-last .shape) ≤ counters
-counters-at counters l count i h g b =
-    let within : i < length (take count l) = omega (arith, length-take count l) in
-    rw (getD-take count l i past-the-last h) at (blocks-in counters (take count l) i within b)
+counters-at counters = every-at (λ entry. countersEnd (entry .shape) ≤ counters)
 
 module _ (counters : List ℕ) (l : List Entry) (count i : ℕ) (added : List ℕ) where
   pub added-turn : i < count → count ≤ length l → (next : List ℕ) → next ≡ withHistory added (shows counters [] (getD l i past-the-last))

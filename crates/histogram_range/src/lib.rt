@@ -172,15 +172,6 @@ fn alone(entry: Entry, counters: &[Count]) -> Range
     }
 }
 
-// The range of the first history of a set.
-fn of_one(entries: [Entry; MOST], counters: &[Count]) -> Range
-    requires { ⌜ countersInside (length (now counters)) (take 1 entries) ⌝ }
-    ensures { λ r. ⌜ said r ≡ says (countedSpan (addedTo empty (allShow (now (counters .entry)) [] (take 1 entries)))) ⌝ }
-{
-    let entry = entries[0];
-    alone(entry, counters)
-}
-
 // The range over the histograms of a set. Its queues play no part.
 pub fn of_histograms(
     entries: [Entry; MOST],
@@ -195,7 +186,8 @@ pub fn of_histograms(
         return Range::Refused(refusal);
     }
     if count == 1 {
-        return of_one(entries, counters);
+        let entry = entries[0];
+        return alone(entry, counters);
     }
     let mut added = [0u64; histogram_bins::BINS];
     add_histories(&mut added, entries, count, counters);

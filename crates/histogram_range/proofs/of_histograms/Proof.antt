@@ -1,11 +1,11 @@
 -- `histogram_range::of_histograms` meets its contract: the set's refusals first, then counters that start from 0 and have every histogram added.
 -- Assumes nothing.
-use mathlib.Core.Path.{_≡_, sym, ap, subst, _∙_}
+use mathlib.Core.Path.{_≡_, sym, ap, _∙_}
 use mathlib.Core.List.{List, []}
 use Prim.Native.Nat.{ℕ}
 use native.Mathlib.Omega.{arith}
 use denote.Ref.{now}
-use lib.ListN.{length, take}
+use lib.ListN.{length}
 use Rattle.refusals.specs.Outcome.{says, saidBy}
 use Rattle.refusals.specs.Rows.{numberOf}
 use Rattle.histogram_bins.specs.Bin.{bins}
@@ -14,7 +14,8 @@ use Rattle.history.specs.Set.{Histories, histories, chosen, allShow, countersIn
 use Rattle.history.proofs.Entries.{all-counters-inside}
 use Rattle.history.proofs.Rows.{Kept, kept}
 use Rattle.histogram_range.specs.Counted.{addedTo, countedSpan}
-use Rattle.histogram_range.proofs.Adding.{empty-is, zeros-length, zeros-most, added-any}
+use Rattle.histogram_range.proofs.Adding.{empty-is, zeros-length, zeros-most, counters-at, added-any}
+use Rattle.histogram_range.proofs.Single.{one-added}
 use Rattle.histogram_range.proofs.Answers.{histogram-refused, histogram-asked}
 use borrow.Author.Needs.{needs}
 use Rattle.histogram_range.proofs.of_histograms.Statement.{statement}
@@ -24,7 +25,7 @@ use Rattle.histogram_range.proofs.of_histograms.Tie as tie
 abbrev given : tie.After-checked → Histories
 given k =
     let a = k .before .before .before .args in
-    histories (a .entries) (a .count) (now (a .counters)) (now (a .energies))
+    histories (a .t1) (a .count) (now (a .counters)) (now (a .energies))
 
 -- nothing refuses it
 passed : (e : tie.Else1) → numberOf (setRows (given (e .before))) ≡ 0
@@ -42,21 +43,27 @@ checked-requires c κs = search needs
 returns : tie.Need-returns
 returns c = let k = c .before in histogram-refused (given k) (k .checked .result) (k .checked .ensures) (c .if1 .taken)
 
-of-one-requires : tie.Need-of-one-requires
-of-one-requires c κs =
-    let e = c .before in
-    let h = given (e .before) in
-    subst (λ (n : ℕ). countersInside (length (h .counters)) (take n (h .entries))) (c .if2 .taken)
-    (all-counters-inside (length (h .counters)) (length (h .energies)) (chosen h) (well e .inside))
+-- every histogram ends within the counters
+within : (e : tie.Else1) → countersInside (length (given (e .before) .counters)) (chosen (given (e .before)))
+within e = let h = given (e .before) in all-counters-inside (length (h .counters)) (length (h .energies)) (chosen h) (well e .inside)
 
-returns-2 : tie.Need-returns-2
-returns-2 c =
+array-copy-out-entry : tie.Need-array-copy-out-entry
+array-copy-out-entry c = search needs
+
+alone-requires : tie.Need-alone-requires
+alone-requires c κs =
     let t = c .before in
     let e = t .before in
     let h = given (e .before) in
-    c .of-one .ensures
-    ∙ ap (λ (n : ℕ). says (countedSpan (addedTo empty (allShow (h .counters) [] (take n (h .entries)))))) (sym (t .if2 .taken))
-    ∙ ap (λ (l : List ℕ). says (countedSpan l)) (added-any (h .counters) (h .energies) (chosen h) empty)
+    counters-at (length (h .counters)) (h .entries) (h .count) 0 (omega (arith, t .if2 .taken)) (omega (arith, t .if2 .taken)) (within e)
+
+returns-2 : tie.Need-returns-2
+returns-2 c =
+    let t = c .before .before in
+    let e = t .before in
+    let h = given (e .before) in
+    c .alone .ensures
+    ∙ ap (λ (l : List ℕ). says (countedSpan l)) (one-added (h .counters) (h .energies) (h .entries) (h .count) (t .if2 .taken) (omega (arith, t .if2 .taken)))
     ∙ sym (ap saidBy (histogram-asked h (passed e)))
 
 slice-aggregate-add-histories : tie.Need-slice-aggregate-add-histories
@@ -65,8 +72,7 @@ slice-aggregate-add-histories c = search needs
 add-histories-requires : tie.Need-add-histories-requires
 add-histories-requires c κs =
     let e = c .before .before in
-    let h = given (e .before) in
-    (well e .few, all-counters-inside (length (h .counters)) (length (h .energies)) (chosen h) (well e .inside), zeros-length, zeros-most)
+    (well e .few, within e, zeros-length, zeros-most)
 
 slice-aggregate-span-of : tie.Need-slice-aggregate-span-of
 slice-aggregate-span-of c = sym (added-length (c .before .before))
@@ -92,7 +98,8 @@ of-histograms-spec =
     (tie.spec
     checked-requires
     returns
-    of-one-requires
+    array-copy-out-entry
+    alone-requires
     returns-2
     slice-aggregate-add-histories
     add-histories-requires
