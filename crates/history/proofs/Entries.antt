@@ -1,7 +1,7 @@
 -- The entries of a set, gone through in order: the first of what is left, whether any reaches outside, whether every store is sound, and what they show.
 -- Each is by recursion on the entries, so that a turn of a loop settles the first and leaves the rest. Assumes nothing.
-use mathlib.Core.Path.{_≡_, refl, sym, ap, _∙_}
-use mathlib.Core.Bool.{Bool, true, false, not, _&&_, _||_, true≢false}
+use mathlib.Core.Path.{_≡_, refl, sym, ap, subst, _∙_}
+use mathlib.Core.Bool.{Bool, true, false, _&&_, _||_, true≢false, and-assoc, or-false}
 use mathlib.Core.List.{List, [], _∷_, _++_}
 use Prim.Native.Nat.{ℕ, zero, suc, _+_, _-_, _≤_, _<_}
 use native.Mathlib.Nat.{le-of-suc-le-suc, not-suc-le-zero}
@@ -16,7 +16,6 @@ use Rattle.histogram_bins.specs.Bin.{bins}
 use Rattle.queue.specs.declared.Queue.{Queue}
 use Rattle.history.specs.declared.set.Entry.{Entry}
 use Rattle.history.specs.declared.set.Shape.the-variants.{Histogram, Queue as Queue-at}
-use Rattle.histogram_bins.specs.Energy.{dropped}
 use Rattle.queue.specs.Queue.{suits, heldOf}
 use Rattle.history.specs.Set.{
   queueAt,
@@ -24,6 +23,7 @@ use Rattle.history.specs.Set.{
   allShow,
   countersEnd,
   storeEnd,
+  Every,
   countersInside,
   storesInside,
   isOutside,
@@ -50,34 +50,12 @@ pub no-more : {A : Type 0} (l : List A) (count i : ℕ) → count ≤ i → drop
 no-more l count i h = let past : length (take count l) ≤ i = omega (arith, length-take count l) in drop-of-length-le (take count l) past
 
 -- ---- energies below boundary 0
-and-assoc : (a b c : Bool) → (a && b) && c ≡ a && (b && c)
-and-assoc true b c = refl
-and-assoc false b c = refl
-
-and-true : (a : Bool) → a && true ≡ a
-and-true true = refl
-and-true false = refl
-
 pub none-below-append : (a b : List Float) → noneBelow (a ++ b) ≡ noneBelow a && noneBelow b
 unfolding noneBelow
 none-below-append [] b = refl
 none-below-append (x ∷ a) b = rw (none-below-append a b, and-assoc)
 
-module _ (part : List Float) where
-  pub below-turn : (fine : Bool) (i : ℕ) (d : Float) → i < length part
-      → (fine && not (dropped (getD part i d))) && noneBelow (drop (i + 1) part) ≡ fine && noneBelow (drop i part)
-  unfolding noneBelow
-  below-turn fine i d h = rw (and-assoc, add-one i, drop-cons part i d h)
-
-  pub below-end : (fine : Bool) (i : ℕ) → length part ≤ i → fine && noneBelow (drop i part) ≡ fine
-  unfolding noneBelow
-  below-end fine i h = rw (drop-of-length-le part h) (and-true fine)
-
 -- ---- reaching outside
-or-false : (a : Bool) → a || false ≡ a
-or-false true = refl
-or-false false = refl
-
 pub past : (n start size : ℕ) → n < start → ltb n (start + size) ≡ true
 past n start size h = lt-ltb n (start + size) (omega arith)
 
@@ -126,44 +104,40 @@ module _ (energies : List Float) (l : List Entry) (count i : ℕ) where
   unfolding allSound
   all-end h = rw (no-more l count i h)
 
-  pub inside-first : i < count → count ≤ length l → storesInside (length energies) (drop i (take count l))
-      → (storeEnd (getD l i past-the-last .shape) ≤ length energies) × storesInside (length energies) (drop (i + 1) (take count l))
-  inside-first h g s = rw (next-entry l count i past-the-last h g) at s
-
--- where no entry reaches outside, every store ends inside
-either-not : (a b : Bool) → a || b ≡ false → (a ≡ false) × (b ≡ false)
+-- ---- two tests of which neither holds, and two that both hold
+pub either-not : (a b : Bool) → a || b ≡ false → (a ≡ false) × (b ≡ false)
 either-not true b h = absurd (true≢false h)
 either-not false b h = (refl, h)
 
-pub stores-inside : (counters energies : ℕ) (l : List Entry) → anyOutside counters energies l ≡ false → storesInside energies l
-unfolding anyOutside
-stores-inside counters energies [] h = tt
-stores-inside counters energies (entry ∷ l) h =
-    let w = either-not (isOutside counters energies entry) (anyOutside counters energies l) h in
-    let v = either-not (ltb counters (countersEnd (entry .shape))) (ltb energies (storeEnd (entry .shape))) (w .0) in
-    (ltb-false energies (storeEnd (entry .shape)) (v .1), stores-inside counters energies l (w .1))
+pub both : (a b : Bool) → a && b ≡ true → (a ≡ true) × (b ≡ true)
+both true b h = (refl, h)
+both false b h = absurd (true≢false (sym h))
 
-pub all-counters-inside : (counters energies : ℕ) (l : List Entry) → anyOutside counters energies l ≡ false → countersInside counters l
-unfolding anyOutside
-all-counters-inside counters energies [] h = tt
-all-counters-inside counters energies (entry ∷ l) h =
-    let w = either-not (isOutside counters energies entry) (anyOutside counters energies l) h in
-    let v = either-not (ltb counters (countersEnd (entry .shape))) (ltb energies (storeEnd (entry .shape))) (w .0) in
-    (ltb-false counters (countersEnd (entry .shape)) (v .0), all-counters-inside counters energies l (w .1))
+-- ---- one entry of those of which each keeps something
+every-in : (P : Entry → Type 0) (l : List Entry) (i : ℕ) → i < length l → Every P l → P (getD l i past-the-last)
+every-in P [] i h e = absurd (not-suc-le-zero h)
+every-in P (entry ∷ l) zero h e = e .0
+every-in P (entry ∷ l) (suc i) h e = every-in P l i (le-of-suc-le-suc h) (e .1)
 
--- ---- one entry of a set of which none reaches outside and every store is sound
+pub every-at : (P : Entry → Type 0) (l : List Entry) (count i : ℕ) → i < count → count ≤ length l → Every P (take count l) → P (getD l i past-the-last)
+every-at P l count i h g e =
+    let within : i < length (take count l) = omega (arith, length-take count l) in
+    subst P (getD-take count l i past-the-last h) (every-in P (take count l) i within e)
+
+every-map : {P Q : Entry → Type 0} → ((entry : Entry) → P entry → Q entry) → (l : List Entry) → Every P l → Every Q l
+every-map f [] e = tt
+every-map f (entry ∷ l) e = (f entry (e .0), every-map f l (e .1))
+
+-- ---- a set of which no entry reaches outside
 module _ (counters energies : ℕ) where
-  outside-in : (l : List Entry) (i : ℕ) → i < length l → anyOutside counters energies l ≡ false → isOutside counters energies (getD l i past-the-last) ≡ false
+  each-inside : (l : List Entry) → anyOutside counters energies l ≡ false → Every (λ entry. isOutside counters energies entry ≡ false) l
   unfolding anyOutside
-  outside-in [] i h e = absurd (not-suc-le-zero h)
-  outside-in (entry ∷ l) zero h e = either-not (isOutside counters energies entry) (anyOutside counters energies l) e .0
-  outside-in (entry ∷ l) (suc i) h e = outside-in l i (le-of-suc-le-suc h) (either-not (isOutside counters energies entry) (anyOutside counters energies l) e .1)
+  each-inside [] h = tt
+  each-inside (entry ∷ l) h = let w = either-not (isOutside counters energies entry) (anyOutside counters energies l) h in (w .0, each-inside l (w .1))
 
   pub inside-at : (l : List Entry) (count i : ℕ) → i < count → count ≤ length l → anyOutside counters energies (take count l) ≡ false
       → isOutside counters energies (getD l i past-the-last) ≡ false
-  inside-at l count i h g e =
-      let within : i < length (take count l) = omega (arith, length-take count l) in
-      ap (isOutside counters energies) (sym (getD-take count l i past-the-last h)) ∙ outside-in (take count l) i within e
+  inside-at l count i h g e = every-at (λ entry. isOutside counters energies entry ≡ false) l count i h g (each-inside (take count l) e)
 
   pub counters-inside : (entry : Entry) → isOutside counters energies entry ≡ false → countersEnd (entry .shape) ≤ counters
   counters-inside entry e =
@@ -173,23 +147,22 @@ module _ (counters energies : ℕ) where
   store-inside entry e =
       ltb-false energies (storeEnd (entry .shape)) (either-not (ltb counters (countersEnd (entry .shape))) (ltb energies (storeEnd (entry .shape))) e .1)
 
--- two tests that both hold
-pub both : (a b : Bool) → a && b ≡ true → (a ≡ true) × (b ≡ true)
-both true b h = (refl, h)
-both false b h = absurd (true≢false (sym h))
+  pub all-counters-inside : (l : List Entry) → anyOutside counters energies l ≡ false → countersInside counters l
+  all-counters-inside l h = every-map counters-inside l (each-inside l h)
 
+  pub stores-inside : (l : List Entry) → anyOutside counters energies l ≡ false → storesInside energies l
+  stores-inside l h = every-map store-inside l (each-inside l h)
+
+-- ---- and of which every store is sound
 module _ (energies : List Float) where
-  sound-in : (l : List Entry) (i : ℕ) → i < length l → allSound energies l ≡ true → isSound energies (getD l i past-the-last) ≡ true
+  each-sound : (l : List Entry) → allSound energies l ≡ true → Every (λ entry. isSound energies entry ≡ true) l
   unfolding allSound
-  sound-in [] i h e = absurd (not-suc-le-zero h)
-  sound-in (entry ∷ l) zero h e = both (isSound energies entry) (allSound energies l) e .0
-  sound-in (entry ∷ l) (suc i) h e = sound-in l i (le-of-suc-le-suc h) (both (isSound energies entry) (allSound energies l) e .1)
+  each-sound [] h = tt
+  each-sound (entry ∷ l) h = let w = both (isSound energies entry) (allSound energies l) h in (w .0, each-sound l (w .1))
 
   pub sound-at : (l : List Entry) (count i : ℕ) → i < count → count ≤ length l → allSound energies (take count l) ≡ true
       → isSound energies (getD l i past-the-last) ≡ true
-  sound-at l count i h g e =
-      let within : i < length (take count l) = omega (arith, length-take count l) in
-      ap (isSound energies) (sym (getD-take count l i past-the-last h)) ∙ sound-in (take count l) i within e
+  sound-at l count i h g e = every-at (λ entry. isSound energies entry ≡ true) l count i h g (each-sound (take count l) e)
 
   -- a queue's store suits it, and holds nothing below boundary 0
   pub sound-queue : (entry : Entry) (start : ℕ) (queue : Queue) → entry .shape ≡ Queue-at start queue → isSound energies entry ≡ true

@@ -1,22 +1,15 @@
 -- What refuses a set of histories, by its tests, and what a set that no row refuses keeps: few entries, none outside, every store sound. Assumes nothing.
-use mathlib.Core.Path.{_≡_, refl}
-use mathlib.Core.Bool.{Bool, true, false, not, _||_, true≢false}
+use mathlib.Core.Path.{_≡_}
+use mathlib.Core.Bool.{true, false}
 use Prim.Native.Nat.{_≤_, _<_}
-use borrow.Author.Tests.{lt-ltb, le-ltb, ltb-false}
+use borrow.Author.Tests.{lt-ltb, le-ltb, ltb-false, not-false}
 use lib.Dec.{ltb}
 use lib.ListN.{length}
 use Rattle.refusals.specs.Refusal.{STORE, SET, number}
 use Rattle.refusals.specs.Rows.{numberOf}
 use Rattle.refusals.proofs.Rows.{not-held}
+use Rattle.history.proofs.Entries.{either-not}
 use Rattle.history.specs.Set.{mostHistories, Histories, chosen, anyOutside, outsideSet, allSound, setRows}
-
-either-not : (a b : Bool) → a || b ≡ false → (a ≡ false) × (b ≡ false)
-either-not true b h = absurd (true≢false h)
-either-not false b h = (refl, h)
-
-not-false : (a : Bool) → not a ≡ false → a ≡ true
-not-false true h = refl
-not-false false h = absurd (true≢false h)
 
 module _ (h : Histories) where
   -- ---- SET

@@ -1,7 +1,7 @@
 -- The counters of a histogram of a set are a slice of the lent counters; the energies that a queue of a set holds are two slices of the lent energies, one after the
 -- other. Assumes nothing.
-use mathlib.Core.Path.{_≡_, refl, ap, _∙_}
-use mathlib.Core.Bool.{Bool, true, false, not, _&&_}
+use mathlib.Core.Path.{_≡_, ap, _∙_}
+use mathlib.Core.Bool.{Bool, true, not, _&&_, and-true, and-assoc}
 use mathlib.Core.List.{List}
 use Prim.Native.Nat.{ℕ, _+_, _-_, _≤_, _<_}
 use native.Mathlib.Omega.{arith}
@@ -24,14 +24,6 @@ pub held-slices : (energies : List Float) (start : ℕ) (queue : Queue) → star
 held-slices energies start queue within fits = held-in-parts queue start energies (inside queue start (length energies) within ∙ fits)
 
 -- ---- none of a slice is below boundary 0
-and-assoc : (a b c : Bool) → (a && b) && c ≡ a && (b && c)
-and-assoc true b c = refl
-and-assoc false b c = refl
-
-and-true : (a : Bool) → a && true ≡ a
-and-true true = refl
-and-true false = refl
-
 module _ (l : List Float) (i until : ℕ) (fine : Bool) where
   pub fine-turn : (d : Float) → i < until → until ≤ length l
       → (fine && not (dropped (getD l i d))) && noneBelow (slice (i + 1) until l) ≡ fine && noneBelow (slice i until l)

@@ -84,14 +84,17 @@ anyOutside counters energies (entry ∷ rest) = isOutside counters energies entr
 abbrev pub outsideSet : Histories → Bool
 outsideSet h = ltb mostHistories (h .count) || anyOutside (length (h .counters)) (length (h .energies)) (chosen h)
 
+-- what every entry keeps
+abbrev pub Every : (Entry → Type 0) → List Entry → Type 0
+Every P [] = Unit
+Every P (entry ∷ rest) = P entry × Every P rest
+
 -- the counters of every histogram end within so many, and every store within so many energies
 abbrev pub countersInside : ℕ → List Entry → Type 0
-countersInside counters [] = Unit
-countersInside counters (entry ∷ rest) = (countersEnd (entry .shape) ≤ counters) × countersInside counters rest
+countersInside counters = Every (λ entry. countersEnd (entry .shape) ≤ counters)
 
 abbrev pub storesInside : ℕ → List Entry → Type 0
-storesInside energies [] = Unit
-storesInside energies (entry ∷ rest) = (storeEnd (entry .shape) ≤ energies) × storesInside energies rest
+storesInside energies = Every (λ entry. storeEnd (entry .shape) ≤ energies)
 
 -- ---- STORE: a queue that does not suit its store, or "in a question or writer, a held energy below boundary 0". NaN is not below it
 unfoldable pub noneBelow : List Float → Bool

@@ -1,16 +1,16 @@
 -- The energies that the entries hold, an entry at a time: how many, whether one is NaN, and that all are above zero where none is NaN.
 -- An entry's energies stand before those of the rest; none is below boundary 0, which is above zero. Assumes nothing.
 use mathlib.Core.Path.{_≡_, refl, sym, ap, _∙_}
-use mathlib.Core.Bool.{Bool, true, false, not, _&&_, _||_, true≢false}
+use mathlib.Core.Bool.{Bool, true, false, not, _&&_, _||_, true≢false, and-true, and-assoc, or-false, or-assoc}
 use mathlib.Core.List.{List, [], _∷_, _++_}
 use Prim.Native.Nat.{ℕ, zero, suc, _+_, _-_, _*_, _≤_, _<_}
-use native.Mathlib.Nat.{le-of-suc-le-suc, not-suc-le-zero, mul-pos}
+use native.Mathlib.Nat.{mul-pos}
 use native.Mathlib.Numerals.{add-one}
 use native.Mathlib.Omega.{arith}
-use borrow.Author.Tests.{lt-ltb}
+use borrow.Author.Tests.{lt-ltb, not-true}
 use lib.Dec.{T, ltb→lt, lt→ltb}
-use lib.ListN.{length, getD, take, drop, set, length-take, length-append}
-use lib.Seq.{getD-take, sets}
+use lib.ListN.{length, getD, take, drop, set, length-append}
+use lib.Seq.{sets}
 use lib.Ieee.{Float, nan, inf, fin, up, down, lt, ne, isNan}
 use lib.Ieee.Fits.{up-pos, down-pos}
 use lib.Ieee.Positive.{positive, above}
@@ -25,7 +25,7 @@ use Rattle.history.specs.declared.set.Shape.the-variants.{Histogram, Queue as Q
 use Rattle.queue.specs.declared.Parts.{Parts}
 use Rattle.queue.specs.Queue.{suits, heldOf, slice}
 use Rattle.history.specs.Set.{queueAt, storeEnd, storesInside, noneBelow, shapeSound, isSound, allSound, shows, shapeShows, allShow}
-use Rattle.history.proofs.Entries.{past-the-last, next-entry, all-end, shows-next, shows-end, none-below-append}
+use Rattle.history.proofs.Entries.{past-the-last, both, either-not, every-at, next-entry, all-end, shows-next, shows-end, none-below-append}
 use Rattle.history.proofs.Slices.{slice-length, slice-next, slice-end}
 use Rattle.rising_order.specs.Order.{allAbove}
 use Rattle.queue_range.specs.declared.Seen.{Seen}
@@ -35,26 +35,6 @@ use Rattle.queue_range.proofs.Copying.{sets-append}
 use Rattle.queue_range.proofs.Standing.{StandIn}
 
 -- ---- NaN in a part
-or-assoc : (a b c : Bool) → (a || b) || c ≡ a || (b || c)
-or-assoc true b c = refl
-or-assoc false b c = refl
-
-or-false : (a : Bool) → a || false ≡ a
-or-false true = refl
-or-false false = refl
-
-and-assoc : (a b c : Bool) → (a && b) && c ≡ a && (b && c)
-and-assoc true b c = refl
-and-assoc false b c = refl
-
-and-true : (a : Bool) → a && true ≡ a
-and-true true = refl
-and-true false = refl
-
-both : (a b : Bool) → a && b ≡ true → (a ≡ true) × (b ≡ true)
-both true b h = (refl, h)
-both false b h = absurd (true≢false (sym h))
-
 module _ (l : List Float) (i until : ℕ) where
   pub nan-turn : (found : Bool) (d : Float) → i < until → until ≤ length l
       → (found || ne (getD l i d) (getD l i d)) || anyNan (slice (i + 1) until l) ≡ found || anyNan (slice i until l)
@@ -93,16 +73,9 @@ unfolding noneBelow anyNan
 seen-none seen = sym (seen-is seen [] (seen .blocks) (seen .fine) (seen .nan) (omega arith) (sym (and-true (seen .fine))) (sym (or-false (seen .nan))))
 
 -- ---- an entry that is inside and sound
-stores-in : (energies : ℕ) (l : List Entry) (i : ℕ) → i < length l → storesInside energies l → storeEnd (getD l i past-the-last .shape) ≤ energies
-stores-in energies [] i h s = absurd (not-suc-le-zero h)
-stores-in energies (entry ∷ l) zero h s = s .0
-stores-in energies (entry ∷ l) (suc i) h s = stores-in energies l i (le-of-suc-le-suc h) (s .1)
-
 pub store-at : (energies : ℕ) (l : List Entry) (count i : ℕ) → i < count → count ≤ length l → storesInside energies (take count l)
     → storeEnd (getD l i past-the-last .shape) ≤ energies
-store-at energies l count i h g s =
-    let within : i < length (take count l) = omega (arith, length-take count l) in
-    rw (getD-take count l i past-the-last h) at (stores-in energies (take count l) i within s)
+store-at energies = every-at (λ entry. storeEnd (entry .shape) ≤ energies)
 
 pub suits-sound : (energies : List Float) (s : Shape) → shapeSound energies s ≡ true → suitsAt s ≡ true
 suits-sound energies (Histogram start) h = refl
@@ -214,20 +187,12 @@ above-one (fin false m e) (fin false zero d) p h n =
     absurd (true≢false (sym (lt-ltb (0 * up d * down e) (m * up e * down d) (omega (arith, mul-pos (mul-pos (ltb→lt 0 m p) (up-pos e)) (down-pos d)))) ∙ h))
 above-one (fin false m e) (fin false (suc q) d) p h n = lt→ltb 0 (suc q) (omega arith)
 
-neither : (a b : Bool) → a || b ≡ false → (a ≡ false) × (b ≡ false)
-neither true b h = absurd (true≢false h)
-neither false b h = (refl, h)
-
-not-true : (a : Bool) → not a ≡ true → a ≡ false
-not-true true h = absurd (true≢false (sym h))
-not-true false h = refl
-
 pub above-held : (l : List Float) → noneBelow l ≡ true → anyNan l ≡ false → allAbove l ≡ true
 unfolding noneBelow anyNan allAbove
 above-held [] b n = refl
 above-held (x ∷ l) b n =
     let p = both (not (dropped x)) (noneBelow l) b in
-    let q = neither (isNan x) (anyNan l) n in
+    let q = either-not (isNan x) (anyNan l) n in
     rw (
       is-true (above x) (above-one (boundaryAt 0) x (boundary-positive 0 (omega arith)) (not-true (dropped x) (p .0)) (q .0)),
       above-held l (p .1) (q .1),

@@ -9,7 +9,7 @@ ghost use mathlib.Core.Bool.{_&&_};
 ghost use Prim.Native.Nat.{_≤_};
 ghost use lib.ListN.{length, take};
 ghost use Rattle.refusals.specs.Rows.{numberOf};
-ghost use Rattle.queue.specs.Queue.{over, suits, heldOf};
+ghost use Rattle.queue.specs.Queue.{over, suits, heldOf, slice};
 ghost use Rattle.history.specs.Set.{
   mostHistories,
   histories,
@@ -21,15 +21,16 @@ ghost use Rattle.history.specs.Set.{
   setRows,
 };
 
-// Whether none of these energies is below boundary 0. All of them are looked at.
-fn none_below(part: &[f64]) -> bool
-    ensures { λ r. ⌜ r ≡ noneBelow (now (part .entry)) ⌝ }
+// Whether none of the energies from a place up to another is below boundary 0. All of them are looked at.
+fn none_below(store: &[f64], from: usize, until: usize) -> bool
+    requires { ⌜ (from ≤ until) × (until ≤ length (now store)) ⌝ }
+    ensures { λ r. ⌜ r ≡ noneBelow (slice from until (now (store .entry))) ⌝ }
 {
     let least = histogram_bins::lowest_boundary();
     let mut fine = true;
-    let mut i = 0;
-    while i < part.len() {
-        fine = fine & !(part[i] < least);
+    let mut i = from;
+    while i < until {
+        fine = fine & !(store[i] < least);
         i += 1;
     }
     fine
@@ -45,7 +46,7 @@ pub fn sound_queue(queue: Queue, store: &[f64]) -> bool
         let until = parts.until;
         let start = parts.start;
         let end = parts.end;
-        none_below(&store[from..until]) & none_below(&store[start..end])
+        none_below(store, from, until) & none_below(store, start, end)
     } else {
         false
     }

@@ -7,22 +7,20 @@ use mathlib.Core.Bool.{true, false}
 use borrow.Author.Needs.{needs}
 use denote.Ref.{now}
 use lib.ListN.{length, getD, take, drop}
-use Rattle.history.specs.Set.{isSound, allSound, storesInside}
-use Rattle.history.proofs.Entries.{past-the-last, all-found, all-passed, all-end, inside-first}
+use Rattle.history.specs.Set.{storeEnd, isSound, allSound}
+use Rattle.history.proofs.Entries.{past-the-last, all-found, all-passed, all-end, every-at}
 use Rattle.sound_stores.proofs.all_sound.Statement.{statement}
 use Rattle.sound_stores.proofs.all_sound.Tie as tie
 
 abbrev Inv-loop : tie.InvT-loop
 Inv-loop count energies entries i₀ i =
-    (i ≤ count)
-    × (allSound energies (drop i (take count entries)) ≡ allSound energies (take count entries))
-    × storesInside (length energies) (drop i (take count entries))
+    (i ≤ count) × (allSound energies (drop i (take count entries)) ≡ allSound energies (take count entries))
 
 abbrev μ-loop : tie.MeasureT-loop
 μ-loop count energies entries i₀ i = count - i
 
 loop-holds : tie.Need-loop-holds Inv-loop μ-loop
-loop-holds c = (omega arith, refl, c .before .pre .1)
+loop-holds c = (omega arith, refl)
 
 mul-entry : tie.Need-mul-entry Inv-loop μ-loop
 mul-entry c = search needs
@@ -33,8 +31,9 @@ array-copy-out-entry c = search needs
 sound-requires : tie.Need-sound-requires Inv-loop μ-loop
 sound-requires c κs =
     let l = c .before .before in
-    let a = l .before .before .args in
-    inside-first (now (a .energies)) (a .t1) (a .count) (l .loop .i) (omega arith) (omega arith) (l .loop .inv .2) .0
+    let s = l .before .before in
+    let a = s .args in
+    every-at (λ entry. storeEnd (entry .shape) ≤ length (now (a .energies))) (a .t1) (a .count) (l .loop .i) (omega arith) (omega arith) (s .pre .1)
 
 add-i : tie.Need-add-i Inv-loop μ-loop
 add-i c = search needs
@@ -47,11 +46,8 @@ loop-again c =
     let l = c .before .before .before .before in
     let a = l .before .before .args in
     let energies = now (a .energies) in
-    let here : isSound energies (getD (a .t1) (l .loop .i) past-the-last) ≡ true = sym (c .before .sound .ensures) ∙ c .if1 .taken in (
-      omega arith,
-      sym (all-passed energies (a .t1) (a .count) (l .loop .i) (omega arith) (omega arith) here) ∙ l .loop .inv .1,
-      inside-first energies (a .t1) (a .count) (l .loop .i) (omega arith) (omega arith) (l .loop .inv .2) .1,
-    )
+    let here : isSound energies (getD (a .t1) (l .loop .i) past-the-last) ≡ true = sym (c .before .sound .ensures) ∙ c .if1 .taken in
+    (omega arith, sym (all-passed energies (a .t1) (a .count) (l .loop .i) (omega arith) (omega arith) here) ∙ l .loop .inv .1)
 
 returns : tie.Need-returns Inv-loop μ-loop
 returns c =

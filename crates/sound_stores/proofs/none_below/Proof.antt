@@ -7,17 +7,18 @@ use mathlib.Core.Bool.{not, _&&_}
 use borrow.Author.Needs.{needs}
 use denote.Ref.{now}
 use lib.Ieee.{Float, nan, lt}
-use lib.ListN.{length, getD, drop}
+use lib.ListN.{getD}
 use Rattle.history.specs.Set.{noneBelow}
-use Rattle.history.proofs.Entries.{below-turn, below-end}
+use Rattle.queue.specs.Queue.{slice}
+use Rattle.history.proofs.Slices.{fine-turn, fine-end}
 use Rattle.sound_stores.proofs.none_below.Statement.{statement}
 use Rattle.sound_stores.proofs.none_below.Tie as tie
 
 abbrev Inv-loop : tie.InvT-loop
-Inv-loop part least fine₀ i₀ fine i = (i ≤ length part) × (fine && noneBelow (drop i part) ≡ noneBelow part)
+Inv-loop store from until least fine₀ i₀ fine i = (i ≤ until) × (fine && noneBelow (slice i until store) ≡ noneBelow (slice from until store))
 
 abbrev μ-loop : tie.MeasureT-loop
-μ-loop part least fine₀ i₀ fine i = length part - i
+μ-loop store from until least fine₀ i₀ fine i = until - i
 
 lowest-boundary-requires : tie.Need-lowest-boundary-requires Inv-loop μ-loop
 lowest-boundary-requires c κs = search needs
@@ -40,17 +41,20 @@ loop-less c = search needs
 loop-again : tie.Need-loop-again Inv-loop μ-loop
 loop-again c =
     let l = c .before .before in
-    let part = now (l .before .before .before .args .part) in (
+    let a = l .before .before .before .args in
+    let store = now (a .store) in
+    let i = l .loop .i in (
       omega arith,
-      ap (λ (least : Float). (l .loop .fine && not (lt (getD part (l .loop .i) nan) least)) && noneBelow (drop (l .loop .i + 1) part)) (l .before .lowest-boundary .ensures)
-          ∙ below-turn part (l .loop .fine) (l .loop .i) nan (omega arith)
+      ap (λ (least : Float). (l .loop .fine && not (lt (getD store i nan) least)) && noneBelow (slice (i + 1) (a .until) store)) (l .before .lowest-boundary .ensures)
+          ∙ fine-turn store i (a .until) (l .loop .fine) nan (omega arith) (omega arith)
           ∙ l .loop .inv .1,
     )
 
 returns : tie.Need-returns Inv-loop μ-loop
 returns c =
     let l = c .before in
-    sym (below-end (now (l .before .before .before .args .part)) (l .loop .fine) (l .loop .i) (omega arith)) ∙ l .loop .inv .1
+    let a = l .before .before .before .args in
+    sym (fine-end (now (a .store)) (l .loop .i) (a .until) (l .loop .fine) (omega arith)) ∙ l .loop .inv .1
 
 pub none-below-spec : {M : Type 1} → statement M
 none-below-spec =

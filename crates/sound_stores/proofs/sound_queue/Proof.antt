@@ -1,6 +1,5 @@
 -- `sound_stores::sound_queue` meets its contract: the energies held are two slices, and none is below boundary 0 where none in either is.
 -- Assumes nothing.
-use native.Mathlib.Omega.{arith}
 use mathlib.Core.Path.{_≡_, sym, ap, _∙_}
 use mathlib.Core.Bool.{true, false}
 use borrow.Author.Needs.{needs}
@@ -25,39 +24,15 @@ suits-requires c κs = search needs
 parts-requires : tie.Need-parts-requires
 parts-requires c κs = search needs
 
-mul-none-below : tie.Need-mul-none-below
-mul-none-below c = let w = within c in omega arith
-
-sub-none-below : tie.Need-sub-none-below
-sub-none-below c = let w = within c in omega arith
-
-part-none-below-start : tie.Need-part-none-below-start
-part-none-below-start c = let w = within c in omega arith
-
-part-none-below-end : tie.Need-part-none-below-end
-part-none-below-end c = let w = within c in omega arith
-
 none-below-requires : tie.Need-none-below-requires
-none-below-requires c κs = search needs
-
-mul-none-below-2 : tie.Need-mul-none-below-2
-mul-none-below-2 c = let w = within (c .before .before) in omega arith
-
-sub-none-below-2 : tie.Need-sub-none-below-2
-sub-none-below-2 c = let w = within (c .before .before) in omega arith
-
-part-none-below-start-2 : tie.Need-part-none-below-start-2
-part-none-below-start-2 c = let w = within (c .before .before) in omega arith
-
-part-none-below-end-2 : tie.Need-part-none-below-end-2
-part-none-below-end-2 c = let w = within (c .before .before) in omega arith
+none-below-requires c κs = let w = within c in (w .older, w .inside)
 
 none-below-requires-2 : tie.Need-none-below-requires-2
-none-below-requires-2 c κs = search needs
+none-below-requires-2 c κs = let w = within (c .before) in (w .newer, w .within)
 
 returns : tie.Need-returns
 returns c =
-    let p = c .before .before .before .before in
+    let p = c .before .before in
     let a = p .before .before .before .before .args in
     let store = now (a .store) in
     let parts = p .parts .result in
@@ -66,7 +41,7 @@ returns c =
       h,
       held-in-store (a .queue) store h ∙ ap (λ (at : Parts). inParts at store) (sym (p .parts .ensures)),
       none-below-append (slice (parts .from) (parts .until) store) (slice (parts .start) (parts .end) store),
-      ← c .before .before .none-below .ensures,
+      ← c .before .none-below .ensures,
       ← c .none-below2 .ensures,
     )
 
@@ -79,18 +54,4 @@ returns-2 c =
 pub sound-queue-spec : {M : Type 1} → statement M
 sound-queue-spec =
     tie.close
-    (tie.spec
-    suits-requires
-    parts-requires
-    mul-none-below
-    sub-none-below
-    part-none-below-start
-    part-none-below-end
-    none-below-requires
-    mul-none-below-2
-    sub-none-below-2
-    part-none-below-start-2
-    part-none-below-end-2
-    none-below-requires-2
-    returns
-    returns-2)
+    (tie.spec suits-requires parts-requires none-below-requires none-below-requires-2 returns returns-2)
