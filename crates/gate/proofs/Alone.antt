@@ -43,7 +43,8 @@ module _ (entry : Entry) (counters : List ℕ) (energies : List Float) where
   unfolding allSound
   history-sound = and-true (isSound energies entry)
 
-  pub history-well : numberOf (setRows (alone entry counters energies)) ≡ 0 → (isOutside (length counters) (length energies) entry ≡ false) × (isSound energies entry ≡ true)
+  pub history-well : numberOf (setRows (alone entry counters energies)) ≡ 0
+      → (isOutside (length counters) (length energies) entry ≡ false) × (isSound energies entry ≡ true)
   history-well e =
       let k = kept (alone entry counters energies) e in
       (inside-at (length counters) (length energies) (entry ∷ []) 1 0 (omega arith) (omega arith) (k .inside), sym history-sound ∙ k .stores)

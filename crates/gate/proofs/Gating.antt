@@ -1,5 +1,5 @@
--- What a history has at or above the gate, counted from 0 on top of a running sum: how many blocks came before plays no part in it, so their number is added. What the gate
--- question comes to. Assumes nothing.
+-- What a history has at or above the gate, counted from 0 on top of a running sum: how many blocks came before plays no part in it, so their number is added.
+-- What the gate question comes to. Assumes nothing.
 use mathlib.Core.Path.{_≡_, refl, sym, ap, _∙_}
 use mathlib.Core.Bool.{Bool, true, false, cond}
 use mathlib.Core.List.{List, [], _∷_}

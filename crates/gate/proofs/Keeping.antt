@@ -1,13 +1,13 @@
--- What energies add to running totals at a gate. A turn takes the first of those left; what a queue holds is two parts, one after the other; and where no energy
--- has a minus, adding 0 for one below the threshold is passing it over. Assumes nothing.
+-- What energies add to running totals at a gate: what a queue holds is two parts, one after the other; and where no energy has a minus,
+-- adding 0 for one below the threshold is passing it over. Assumes nothing.
 use mathlib.Core.Path.{_≡_, refl, sym, ap, _∙_, subst}
-use mathlib.Core.Bool.{Bool, true, false, not, _&&_, cond, true≢false}
-use mathlib.Core.List.{List, [], _∷_, _++_}
-use Prim.Native.Nat.{ℕ, suc, _+_, _-_, _≤_, _<_}
+use mathlib.Core.Bool.{Bool, true, false, not, cond}
+use mathlib.Core.List.{List, [], _∷_}
+use Prim.Native.Nat.{ℕ, suc, _+_, _-_, _≤_}
 use native.Mathlib.Omega.{arith}
 use borrow.Author.Tests.{not-true}
 use lib.Dec.{T}
-use lib.ListN.{length, getD}
+use lib.ListN.{length}
 use lib.Ieee.{Float, binary64, add}
 use Rattle.tables.specs.Tables.{boundaryAt}
 use Rattle.tables.proofs.Rules.{boundary-positive}
@@ -18,31 +18,21 @@ use Rattle.queue.specs.Queue.{suits, heldOf, partsOf, slice, inParts}
 use Rattle.queue.proofs.Ring.{suited}
 use Rattle.queue.proofs.Held.{held-count}
 use Rattle.history.specs.Set.{queueAt, noneBelow}
-use Rattle.history.proofs.Slices.{slice-next, slice-end, held-slices}
+use Rattle.history.proofs.Entries.{both}
+use Rattle.history.proofs.Slices.{held-slices}
 use Rattle.gate.specs.declared.blocks.Totals.{Totals}
 use Rattle.gate.specs.Totals.{mostBlocks, onTopOf, none, withBlocks}
 use Rattle.gate.specs.Inner.{unsigned, Steady, energyKept, blocksKept, carried, countedFrom, summedFrom, addedFrom}
 use Rattle.gate.specs.Start.{counts}
 use Rattle.gate.proofs.Nothing.{nothing-added, steady-added, not-below-unsigned}
+use Rattle.gate.proofs.Running.{carried-append}
 use Rattle.gate.proofs.Looking.{same}
 use Rattle.gate.specs.Kept.{keptFrom}
-
--- ---- a turn
-module _ {A : Type 0} (step : A → Float → A) (a : A) (energies : List Float) (i until : ℕ) where
-  pub carried-turn : (d : Float) → i < until → until ≤ length energies → (next : A) → next ≡ step a (getD energies i d)
-      → carried step next (slice (i + 1) until energies) ≡ carried step a (slice i until energies)
-  unfolding carried
-  carried-turn d h g next e =
-      ap (λ (b : A). carried step b (slice (i + 1) until energies)) e ∙ sym (ap (carried step a) (slice-next energies i until d h g))
-
-  pub carried-end : until ≤ i → carried step a (slice i until energies) ≡ a
-  unfolding carried
-  carried-end h = ap (carried step a) (slice-end energies i until h)
 
 -- what is counted and what is summed, both at once
 pub together : (threshold : Float) (count : ℕ) (sum : Float) (l : List Float)
     → addedFrom threshold (record { count = count; sum = sum }) l ≡ record { count = countedFrom threshold count l; sum = summedFrom threshold sum l }
-unfolding addedFrom carried
+unfolding carried
 together threshold count sum [] = refl
 together threshold count sum (energy ∷ rest) = together threshold (count + blocksKept threshold energy) (add binary64 sum (energyKept threshold energy)) rest
 
@@ -54,22 +44,11 @@ one-more threshold energy blocks e = subst (λ (n : ℕ). n ≤ 1) (sym e) (go (
     go true = omega arith
     go false = omega arith
 
--- ---- first one list, then another
-added-append : (threshold : Float) (totals : Totals) (a b : List Float)
-    → addedFrom threshold totals (a ++ b) ≡ addedFrom threshold (addedFrom threshold totals a) b
-unfolding addedFrom
-added-append threshold totals [] b = refl
-added-append threshold totals (x ∷ a) b = added-append threshold (withBlocks totals (blocksKept threshold x) (energyKept threshold x)) a b
-
 -- ---- a sum without a minus stays as it is where 0 is added
-both-true : (a b : Bool) → a && b ≡ true → (a ≡ true) × (b ≡ true)
-both-true true b h = (refl, h)
-both-true false b h = absurd (true≢false (sym h))
-
 module _ (energy : Float) (rest : List Float) (sound : noneBelow (energy ∷ rest) ≡ true) where
   seen : (not (dropped energy) ≡ true) × (noneBelow rest ≡ true)
   unfolding noneBelow
-  seen = both-true (not (dropped energy)) (noneBelow rest) sound
+  seen = both (not (dropped energy)) (noneBelow rest) sound
 
   pub no-minus : T (unsigned energy)
   no-minus = not-below-unsigned (boundaryAt 0) energy (boundary-positive 0 (omega arith)) (not-true (dropped energy) (seen .0))
@@ -79,7 +58,7 @@ module _ (energy : Float) (rest : List Float) (sound : noneBelow (energy ∷ res
 
 added-kept : (threshold : Float) (totals : Totals) (l : List Float) → Steady (totals .sum) → noneBelow l ≡ true
     → addedFrom threshold totals l ≡ keptFrom threshold totals l
-unfolding addedFrom keptFrom
+unfolding carried keptFrom
 added-kept threshold totals [] s sound = refl
 added-kept threshold totals (energy ∷ rest) s sound =
     go (counts threshold energy)
@@ -133,7 +112,7 @@ module _ (threshold sum : Float) (energies : List Float) (start : ℕ) (queue : 
       let two = slice (parts .start) (parts .end) energies in
       q
       ∙ ap (λ (t : Totals). addedFrom threshold t two) p
-      ∙ sym (added-append threshold (onTopOf sum) one two)
+      ∙ sym (carried-append (λ (t : Totals) (energy : Float). withBlocks t (blocksKept threshold energy) (energyKept threshold energy)) (onTopOf sum) one two)
       ∙ ap (λ (at : Parts). addedFrom threshold (onTopOf sum) (inParts at energies)) e
 
   -- what the queue of a sound store keeps

@@ -1,6 +1,6 @@
 -- Running totals over counters and over energies, a turn at a time: the first of what is left is added, and the rest goes on from there.
 -- The definitions go by recursion on the list, so each law is one step of it. Assumes nothing.
-use mathlib.Core.Path.{_≡_, refl, ap, _∙_}
+use mathlib.Core.Path.{_≡_, refl, sym, ap, _∙_}
 use mathlib.Core.List.{List, [], _∷_, _++_}
 use Prim.Native.Nat.{ℕ, suc, _+_, _≤_, _<_}
 use native.Mathlib.Numerals.{add-one}
@@ -13,9 +13,10 @@ use lib.Ieee.{Float, binary64, add, mul, ofInt}
 use Rattle.tables.specs.Tables.{energyAt}
 use Rattle.histogram_bins.specs.Bin.{bins}
 use Rattle.history.specs.Set.{countersAt}
+use Rattle.history.proofs.Slices.{slice, slice-next, slice-end}
 use Rattle.gate.specs.declared.blocks.Totals.{Totals}
 use Rattle.gate.specs.Totals.{onTopOf, withBlocks, binsFrom, blocksIn, energiesFrom, fromBin}
-use Rattle.gate.specs.Inner.{sumFrom, blocksAbove, sumAbove}
+use Rattle.gate.specs.Inner.{sumFrom, blocksAbove, sumAbove, carried}
 
 module _ (counters : List ℕ) (totals : Totals) (bin : ℕ) where
   pub bins-turn : bin < length counters
@@ -69,11 +70,23 @@ module _ (energies : List Float) (totals : Totals) (i : ℕ) where
   unfolding energiesFrom
   energies-end h = rw (drop-of-length-le energies h)
 
--- first one list, then another
-pub energies-append : (totals : Totals) (a b : List Float) → energiesFrom totals (a ++ b) ≡ energiesFrom (energiesFrom totals a) b
-unfolding energiesFrom
-energies-append totals [] b = refl
-energies-append totals (x ∷ a) b = energies-append (withBlocks totals 1 x) a b
+-- what they carry on: a turn takes the first of those left, and one list may stand after another
+module _ {A : Type 0} (step : A → Float → A) where
+  module _ (a : A) (energies : List Float) (i until : ℕ) where
+    pub carried-turn : (d : Float) → i < until → until ≤ length energies → (next : A) → next ≡ step a (getD energies i d)
+        → carried step next (slice (i + 1) until energies) ≡ carried step a (slice i until energies)
+    unfolding carried
+    carried-turn d h g next e =
+        ap (λ (b : A). carried step b (slice (i + 1) until energies)) e ∙ sym (ap (carried step a) (slice-next energies i until d h g))
+
+    pub carried-end : until ≤ i → carried step a (slice i until energies) ≡ a
+    unfolding carried
+    carried-end h = ap (carried step a) (slice-end energies i until h)
+
+  pub carried-append : (a : A) (l k : List Float) → carried step a (l ++ k) ≡ carried step (carried step a l) k
+  unfolding carried
+  carried-append a [] k = refl
+  carried-append a (energy ∷ l) k = carried-append (step a energy) l k
 
 -- ---- a histogram among the counters: it is not there, or it is
 module _ (sum : Float) (counters : List ℕ) (start bin : ℕ) where

@@ -72,9 +72,12 @@ abbrev pub summedFrom : Float → Float → List Float → Float
 summedFrom threshold = carried (λ sum energy. add binary64 sum (energyKept threshold energy))
 
 -- both at once
-unfoldable pub addedFrom : Float → Totals → List Float → Totals
-addedFrom threshold totals [] = totals
-addedFrom threshold totals (energy ∷ rest) = addedFrom threshold (withBlocks totals (blocksKept threshold energy) (energyKept threshold energy)) rest
+abbrev pub addedFrom : Float → Totals → List Float → Totals
+addedFrom threshold = carried (λ totals energy. withBlocks totals (blocksKept threshold energy) (energyKept threshold energy))
+
+-- the sum of all, on top of another
+abbrev pub sumOnto : Float → List Float → Float
+sumOnto = carried (add binary64)
 
 -- ---- histories added up: what refuses them, and where nothing does what they come to
 pub record SumsAre (rows : List Row) (all : Totals) (sums : Sums) : Type 0 where

@@ -12,9 +12,9 @@ ghost use lib.ListN.{length};
 ghost use Rattle.queue.specs.Queue.{suits, heldOf, slice};
 ghost use Rattle.history.specs.Set.{histories, historiesOf, queueAt, isOutside, outsideSet, noneBelow, isSound, shows, setRows};
 ghost use Rattle.tables.specs.Tables.{energies as binEnergies};
-ghost use Rattle.gate.specs.Totals.{mostBlocks, onTopOf, none, energiesFrom};
+ghost use Rattle.gate.specs.Totals.{mostBlocks, none};
 ghost use Rattle.gate.specs.Sums.{totalsOf, allOf, alone};
-ghost use Rattle.gate.specs.Inner.{SumsAre};
+ghost use Rattle.gate.specs.Inner.{sumOnto, SumsAre};
 
 // What refuses histories, 0 where nothing does, and then their blocks and the sum of their energies.
 pub(crate) struct Sums {
@@ -32,7 +32,7 @@ struct Looked {
 fn look(before: Looked, energies: &[f64], from: usize, until: usize) -> Looked
     requires { ⌜ (from ≤ until) × (until ≤ length (now energies)) ⌝ }
     ensures { λ r. ⌜ (r .sound ≡ (before .sound && noneBelow (slice from until (now (energies .entry)))))
-        × (r .sum ≡ energiesFrom (onTopOf (before .sum)) (slice from until (now (energies .entry))) .sum) ⌝ }
+        × (r .sum ≡ sumOnto (before .sum) (slice from until (now (energies .entry)))) ⌝ }
 {
     let least = histogram_bins::lowest_boundary();
     let mut sound = before.sound;
@@ -51,7 +51,7 @@ fn look(before: Looked, energies: &[f64], from: usize, until: usize) -> Looked
 fn look_at_queue(energies: &[f64], start: usize, queue: Queue) -> Looked
     requires { ⌜ start + queue .maximum ≤ length (now energies) ⌝ }
     ensures { λ r. ⌜ (r .sound ≡ (suits queue (queue .maximum) && noneBelow (heldOf (queueAt (now (energies .entry)) start queue))))
-        × (r .sound ≡ true → r .sum ≡ energiesFrom none (heldOf (queueAt (now (energies .entry)) start queue)) .sum) ⌝ }
+        × (r .sound ≡ true → r .sum ≡ sumOnto (none .sum) (heldOf (queueAt (now (energies .entry)) start queue))) ⌝ }
 {
     if queue.suits(queue.maximum) {
         let parts = queue.parts(start, energies.len());

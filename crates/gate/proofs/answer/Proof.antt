@@ -1,5 +1,5 @@
 -- `gate::answer` meets its contract: its tests are those of the rows, in order. Assumes nothing.
-use mathlib.Core.Path.{refl, sym, _∙_}
+use mathlib.Core.Path.{sym, _∙_}
 use borrow.Author.Needs.{needs}
 use borrow.Author.Tests.{eq-eqb, ne-eqb}
 use Rattle.gate.proofs.answer.Statement.{statement}

@@ -1,5 +1,5 @@
 -- `gate::gate` meets its contract: what refuses the set, or what its blocks and those left at or above the threshold come to. Assumes nothing.
-use mathlib.Core.Path.{_≡_, sym, ap, _∙_}
+use mathlib.Core.Path.{_≡_, sym, _∙_}
 use borrow.Author.Needs.{needs}
 use denote.Ref.{now}
 use Rattle.refusals.specs.Rows.{numberOf}
@@ -42,9 +42,9 @@ returns-2 c =
     let t = g .before .before in
     let e = t .before .before in
     let s = e .before in
+    let all = s .of-set .ensures .whole (e .if1 .left) in
     c .answer .ensures
-    ∙ gate-asked (given s) (passed e) (s .of-set .result .totals) (g .all-gated .result) (t .threshold-of .result) (s .of-set .ensures .whole (e .if1 .left)) (t .threshold-of .ensures)
-    (g .all-gated .ensures)
+    ∙ gate-asked (given s) (passed e) (s .of-set .result .totals) (g .all-gated .result) (t .threshold-of .result) all (t .threshold-of .ensures) (g .all-gated .ensures)
 
 pub gate-spec : {M : Type 1} → statement M
 gate-spec =

@@ -8,7 +8,8 @@ use lib.Ieee.{Float, nan}
 use lib.ListN.{getD}
 use Rattle.queue.specs.Queue.{slice}
 use Rattle.gate.specs.Inner.{blocksKept, countedFrom}
-use Rattle.gate.proofs.Keeping.{carried-turn, carried-end, one-more}
+use Rattle.gate.proofs.Running.{carried-turn, carried-end}
+use Rattle.gate.proofs.Keeping.{one-more}
 use Rattle.gate.proofs.kept.blocks_from.Statement.{statement}
 use Rattle.gate.proofs.kept.blocks_from.Tie as tie
 

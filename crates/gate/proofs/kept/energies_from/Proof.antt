@@ -7,7 +7,7 @@ use denote.Ref.{now}
 use lib.Ieee.{Float, nan, binary64, add}
 use Rattle.queue.specs.Queue.{slice}
 use Rattle.gate.specs.Inner.{energyKept, summedFrom}
-use Rattle.gate.proofs.Keeping.{carried-turn, carried-end}
+use Rattle.gate.proofs.Running.{carried-turn, carried-end}
 use Rattle.gate.proofs.kept.energies_from.Statement.{statement}
 use Rattle.gate.proofs.kept.energies_from.Tie as tie
 

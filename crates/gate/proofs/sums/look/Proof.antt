@@ -5,13 +5,13 @@ use mathlib.Core.Path.{_≡_, refl, sym, ap, _∙_}
 use mathlib.Core.Bool.{not, _&&_}
 use borrow.Author.Needs.{needs}
 use denote.Ref.{now}
-use lib.Ieee.{Float, nan, lt}
+use lib.Ieee.{Float, nan, binary64, add, lt}
 use lib.ListN.{getD}
 use Rattle.history.specs.Set.{noneBelow}
 use Rattle.history.proofs.Slices.{fine-turn, fine-end}
-use Rattle.gate.specs.Totals.{onTopOf, energiesFrom}
+use Rattle.gate.specs.Inner.{sumOnto}
 use Rattle.queue.specs.Queue.{slice}
-use Rattle.gate.proofs.Looking.{sum-turn, sum-end}
+use Rattle.gate.proofs.Running.{carried-turn, carried-end}
 use Rattle.gate.proofs.sums.look.Statement.{statement}
 use Rattle.gate.proofs.sums.look.Tie as tie
 
@@ -19,7 +19,7 @@ abbrev Inv-loop : tie.InvT-loop
 Inv-loop energies from until least sound₀ sum₀ i₀ sound sum i =
     (i ≤ until)
     × (sound && noneBelow (slice i until energies) ≡ sound₀ && noneBelow (slice from until energies))
-    × (energiesFrom (onTopOf sum) (slice i until energies) .sum ≡ energiesFrom (onTopOf sum₀) (slice from until energies) .sum)
+    × (sumOnto sum (slice i until energies) ≡ sumOnto sum₀ (slice from until energies))
 
 abbrev μ-loop : tie.MeasureT-loop
 μ-loop energies from until least sound₀ sum₀ i₀ sound sum i = until - i
@@ -52,7 +52,8 @@ loop-again c =
       ap (λ (least : Float). (l .loop .sound && not (lt (getD energies i nan) least)) && noneBelow (slice (i + 1) (a .until) energies)) (l .before .lowest-boundary .ensures)
           ∙ fine-turn energies i (a .until) (l .loop .sound) nan (omega arith) (omega arith)
           ∙ l .loop .inv .1,
-      sum-turn energies i (a .until) (l .loop .sum) nan (omega arith) (omega arith) ∙ l .loop .inv .2,
+      carried-turn (add binary64) (l .loop .sum) energies i (a .until) nan (omega arith) (omega arith) (add binary64 (l .loop .sum) (getD energies i nan)) refl
+          ∙ l .loop .inv .2,
     )
 
 returns : tie.Need-returns Inv-loop μ-loop
@@ -60,7 +61,7 @@ returns c =
     let l = c .before in
     let a = l .before .before .before .args in (
       sym (fine-end (now (a .energies)) (l .loop .i) (a .until) (l .loop .sound) (omega arith)) ∙ l .loop .inv .1,
-      sym (sum-end (now (a .energies)) (l .loop .i) (a .until) (l .loop .sum) (omega arith)) ∙ l .loop .inv .2,
+      sym (carried-end (add binary64) (l .loop .sum) (now (a .energies)) (l .loop .i) (a .until) (omega arith)) ∙ l .loop .inv .2,
     )
 
 pub look-spec : {M : Type 1} → statement M

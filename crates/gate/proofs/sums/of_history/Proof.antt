@@ -4,7 +4,7 @@ use mathlib.Core.Bool.{false}
 use borrow.Author.Needs.{needs}
 use denote.Ref.{now}
 use Rattle.refusals.specs.Refusal.{STORE, SET}
-use Rattle.history.specs.Set.{Histories, chosen, outsideSet, allSound, setRows}
+use Rattle.history.specs.Set.{Histories, chosen, outsideSet, allSound}
 use Rattle.history.proofs.Rows.{set-refused, one-unsound, all-well}
 use Rattle.gate.specs.Sums.{alone}
 use Rattle.gate.proofs.Looking.{refused}
@@ -35,7 +35,7 @@ refuse-requires c κs = search needs
 returns : tie.Need-returns
 returns c =
     let t = c .before in
-    refused (setRows (given (t .before))) _ (c .refuse .result) SET (set-refused (given (t .before)) (sym (t .before .outside .ensures) ∙ t .if1 .taken)) (c .refuse .ensures)
+    refused SET (set-refused (given (t .before)) (sym (t .before .outside .ensures) ∙ t .if1 .taken)) (c .refuse .ensures)
 
 look-at-history-requires : tie.Need-look-at-history-requires
 look-at-history-requires c κs =
@@ -59,8 +59,7 @@ returns-3 : tie.Need-returns-3
 returns-3 c =
     let e = c .before in
     let s = e .before in
-    let h = given (s .before .before) in
-    refused (setRows h) _ (c .refuse2 .result) STORE (one-unsound h (inside (s .before)) (sound-is s ∙ e .if2 .left)) (c .refuse2 .ensures)
+    refused STORE (one-unsound (given (s .before .before)) (inside (s .before)) (sound-is s ∙ e .if2 .left)) (c .refuse2 .ensures)
 
 pub of-history-spec : {M : Type 1} → statement M
 of-history-spec =

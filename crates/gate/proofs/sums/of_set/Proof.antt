@@ -8,7 +8,7 @@ use borrow.Author.Needs.{needs}
 use denote.Ref.{now}
 use lib.ListN.{length, getD, take, drop}
 use Rattle.refusals.specs.Refusal.{STORE, SET}
-use Rattle.history.specs.Set.{mostHistories, Histories, histories, chosen, anyOutside, outsideSet, isSound, allSound, allShow, setRows}
+use Rattle.history.specs.Set.{mostHistories, Histories, histories, chosen, anyOutside, outsideSet, isSound, allSound, allShow}
 use Rattle.history.proofs.Entries.{past-the-last, inside-at, all-found, all-passed, all-end, shows-next, shows-end}
 use Rattle.history.proofs.Rows.{none-outside, set-refused, one-unsound, all-well}
 use Rattle.gate.specs.declared.blocks.Totals.{Totals}
@@ -39,8 +39,9 @@ given c =
 inside : (c : tie.Else1 Inv-loop μ-loop) → outsideSet (given (c .before)) ≡ false
 inside c = sym (c .before .outside-set .ensures) ∙ c .if1 .left
 
-within : (c : tie.Else1 Inv-loop μ-loop)
-    → (given (c .before) .count ≤ mostHistories) × (anyOutside (length (given (c .before) .counters)) (length (given (c .before) .energies)) (chosen (given (c .before))) ≡ false)
+within : (c : tie.Else1 Inv-loop μ-loop) →
+    let h = given (c .before) in
+    (h .count ≤ mostHistories) × (anyOutside (length (h .counters)) (length (h .energies)) (chosen h) ≡ false)
 within c = none-outside (given (c .before)) (inside c)
 
 there : (c : tie.Else1 Inv-loop μ-loop) → given (c .before) .count ≤ length (given (c .before) .entries)
@@ -59,7 +60,7 @@ refuse-requires c κs = search needs
 returns : tie.Need-returns Inv-loop μ-loop
 returns c =
     let t = c .before in
-    refused (setRows (given (t .before))) _ (c .refuse .result) SET (set-refused (given (t .before)) (sym (t .before .outside-set .ensures) ∙ t .if1 .taken)) (c .refuse .ensures)
+    refused SET (set-refused (given (t .before)) (sym (t .before .outside-set .ensures) ∙ t .if1 .taken)) (c .refuse .ensures)
 
 loop-holds : tie.Need-loop-holds Inv-loop μ-loop
 loop-holds c = (omega arith, omega arith, refl, refl)
@@ -115,7 +116,7 @@ returns-2 c =
     let h = given (l .before .before) in
     let here : isSound (h .energies) (getD (h .entries) (l .loop .i) past-the-last) ≡ false = sym (e .before .look-at-history .ensures .0) ∙ e .if2 .left in
     let found = all-found (h .energies) (h .entries) (h .count) (l .loop .i) (omega arith) (omega (arith, there (l .before))) here in
-    refused (setRows h) _ (c .refuse2 .result) STORE (one-unsound h (inside (l .before)) (sym (l .loop .inv .2) ∙ found)) (c .refuse2 .ensures)
+    refused STORE (one-unsound h (inside (l .before)) (sym (l .loop .inv .2) ∙ found)) (c .refuse2 .ensures)
 
 returns-3 : tie.Need-returns-3 Inv-loop μ-loop
 unfolding allTotals
