@@ -106,7 +106,10 @@ pub fn gate(entries: [Entry; MOST], count: usize, counters: &[Count], energies: 
     }
     let all = sums.totals;
     let energy = threshold::threshold_of(all);
-    answer(all, all_gated(&table, entries, count, counters, energies, energy))
+    answer(
+        all,
+        all_gated(&table, entries, count, counters, energies, energy),
+    )
 }
 
 // The gate question over a single history, without a set of sixteen places.
@@ -122,5 +125,8 @@ pub fn gate_of_history(entry: Entry, counters: &[Count], energies: &[f64]) -> Ga
     let all = sums.totals;
     let energy = threshold::threshold_of(all);
     let bin = blocks::start_in(&table, energy);
-    answer(all, history_gated(&table, 0.0, entry, counters, energies, energy, bin))
+    answer(
+        all,
+        history_gated(&table, 0.0, entry, counters, energies, energy, bin),
+    )
 }

@@ -20,27 +20,12 @@ abbrev μ-loop : tie.MeasureT-loop
 loop-holds : tie.Need-loop-holds Inv-loop μ-loop
 loop-holds c = (omega arith, omega arith)
 
-mul-wide : tie.Need-mul-wide Inv-loop μ-loop
-mul-wide c = search needs
-
-shared-slice-read-wide : tie.Need-shared-slice-read-wide Inv-loop μ-loop
-shared-slice-read-wide c = search needs
-
-wide-requires : tie.Need-wide-requires Inv-loop μ-loop
-wide-requires c κs = search needs
-
 add-blocks : tie.Need-add-blocks Inv-loop μ-loop
 add-blocks c =
     let l = c .before .before .before in
     let counters = now (l .before .before .args .counters) in
     let given = l .before .shared-slice-known .given in
     omega (arith, l .loop .inv .1, blocks-up-to largestCount counters (λ i. omega (arith, given i)) (l .loop .bin), c .wide .ensures, given (l .loop .bin))
-
-add-bin : tie.Need-add-bin Inv-loop μ-loop
-add-bin c = search needs
-
-loop-less : tie.Need-loop-less Inv-loop μ-loop
-loop-less c = search needs
 
 loop-again : tie.Need-loop-again Inv-loop μ-loop
 loop-again c =
@@ -59,11 +44,11 @@ blocks-of-spec =
     Inv-loop
     μ-loop
     loop-holds
-    mul-wide
-    shared-slice-read-wide
-    wide-requires
+    (search needs)
+    (search needs)
+    (search needs)
     add-blocks
-    add-bin
-    loop-less
+    (search needs)
+    (search needs)
     loop-again
     returns)

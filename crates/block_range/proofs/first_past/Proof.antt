@@ -19,20 +19,8 @@ Inv-loop counters rank bin₀ before₀ bin before = (bin ≤ bins) × (before �
 abbrev μ-loop : tie.MeasureT-loop
 μ-loop counters rank bin₀ before₀ bin before = bins - bin
 
-pass-by-requires : tie.Need-pass-by-requires Inv-loop μ-loop
-pass-by-requires c κs = search needs
-
 loop-holds : tie.Need-loop-holds Inv-loop μ-loop
 loop-holds c = c .pass-by .ensures
-
-mul-wide : tie.Need-mul-wide Inv-loop μ-loop
-mul-wide c = search needs
-
-shared-slice-read-wide : tie.Need-shared-slice-read-wide Inv-loop μ-loop
-shared-slice-read-wide c = search needs
-
-wide-requires : tie.Need-wide-requires Inv-loop μ-loop
-wide-requires c κs = search needs
 
 add-next : tie.Need-add-next Inv-loop μ-loop
 add-next c =
@@ -50,12 +38,6 @@ returns c =
       found-at (a .rank) (now (a .counters)) (l .loop .bin) (omega arith) (omega arith) (λ _. omega (arith, w .wide .ensures)),
       l .loop .inv,
     )
-
-add-bin : tie.Need-add-bin Inv-loop μ-loop
-add-bin c = search needs
-
-loop-less : tie.Need-loop-less Inv-loop μ-loop
-loop-less c = search needs
 
 loop-again : tie.Need-loop-again Inv-loop μ-loop
 loop-again c =
@@ -75,14 +57,14 @@ first-past-spec =
     (tie.spec
     Inv-loop
     μ-loop
-    pass-by-requires
+    (search needs)
     loop-holds
-    mul-wide
-    shared-slice-read-wide
-    wide-requires
+    (search needs)
+    (search needs)
+    (search needs)
     add-next
     returns
-    add-bin
-    loop-less
+    (search needs)
+    (search needs)
     loop-again
     returns-2)

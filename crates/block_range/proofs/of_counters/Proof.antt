@@ -46,12 +46,6 @@ totals-are e = let t = e .before .before in t .started .ensures .0 ∙ there (no
 gate-is : (t : tie.After-started) → t .started .result .bin ≡ startBin (gateEnergy (t .started .result .totals))
 gate-is t = t .started .ensures .2 ∙ ap (λ (share : Float). startBin (mul binary64 share (meanOf (t .started .result .totals)))) (t .before .gate-share .ensures)
 
-gate-share-requires : tie.Need-gate-share-requires
-gate-share-requires c κs = search needs
-
-started-requires : tie.Need-started-requires
-started-requires c κs = search needs
-
 returns : tie.Need-returns
 returns c =
     let t = c .before .before in
@@ -62,12 +56,6 @@ add-end c = omega (arith, inside c)
 
 mul-ranked : tie.Need-mul-ranked
 mul-ranked c = search (needs, inside c)
-
-sub-ranked : tie.Need-sub-ranked
-sub-ranked c = search needs
-
-part-ranked-start : tie.Need-part-ranked-start
-part-ranked-start c = search needs
 
 part-ranked-end : tie.Need-part-ranked-end
 part-ranked-end c = omega (arith, inside c)
@@ -99,13 +87,13 @@ pub of-counters-spec : {M : Type 1} → statement M
 of-counters-spec =
     tie.close
     (tie.spec
-    gate-share-requires
-    started-requires
+    (search needs)
+    (search needs)
     returns
     add-end
     mul-ranked
-    sub-ranked
-    part-ranked-start
+    (search needs)
+    (search needs)
     part-ranked-end
     ranked-requires
     returns-2)

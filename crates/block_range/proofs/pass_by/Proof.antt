@@ -21,15 +21,6 @@ abbrev μ-loop : tie.MeasureT-loop
 loop-holds : tie.Need-loop-holds Inv-loop μ-loop
 loop-holds c = (omega arith, omega arith, omega arith)
 
-sub-loop : tie.Need-sub-loop Inv-loop μ-loop
-sub-loop c = search needs
-
-add-blocks-of : tie.Need-add-blocks-of Inv-loop μ-loop
-add-blocks-of c = search needs
-
-blocks-of-requires : tie.Need-blocks-of-requires Inv-loop μ-loop
-blocks-of-requires c κs = search needs
-
 add-next : tie.Need-add-next Inv-loop μ-loop
 add-next c =
     let l = c .before .before in
@@ -39,12 +30,6 @@ add-next c =
 
 returns : tie.Need-returns Inv-loop μ-loop
 returns c = c .before .before .before .loop .inv
-
-add-bin : tie.Need-add-bin Inv-loop μ-loop
-add-bin c = search needs
-
-loop-less : tie.Need-loop-less Inv-loop μ-loop
-loop-less c = search needs
 
 loop-again : tie.Need-loop-again Inv-loop μ-loop
 loop-again c = (omega arith, omega (arith, c .before .blocks-of .ensures), omega arith)
@@ -59,12 +44,12 @@ pass-by-spec =
     Inv-loop
     μ-loop
     loop-holds
-    sub-loop
-    add-blocks-of
-    blocks-of-requires
+    (search needs)
+    (search needs)
+    (search needs)
     add-next
     returns
-    add-bin
-    loop-less
+    (search needs)
+    (search needs)
     loop-again
     returns-2)

@@ -19,9 +19,6 @@ before-is : (b : tie.After-blocks-of) →
     b .blocks-of .result ≡ blocksIn (take (a .start) (now (a .counters)))
 before-is b = omega (arith, b .blocks-of .ensures, blocks-none (now (b .before .before .args .counters)))
 
-blocks-of-requires : tie.Need-blocks-of-requires
-blocks-of-requires c κs = search needs
-
 sub-left : tie.Need-sub-left
 sub-left c = let a = c .before .before .args in omega (arith, before-is c, blocks-part (now (a .counters)) (a .start))
 
@@ -32,23 +29,11 @@ returns c =
     ap {B = Said Span} says (sym (left-none (now (a .counters)) (b .blocks-of .result) (a .count - b .blocks-of .result) (c .if1 .taken))
     ∙ ap (λ (n : ℕ). leftIn (now (a .counters)) n (a .count - n)) (before-is b))
 
-sub-low-rank : tie.Need-sub-low-rank
-sub-low-rank c = search needs
-
-low-rank-requires : tie.Need-low-rank-requires
-low-rank-requires c κs = search needs
-
 add-first-past : tie.Need-add-first-past
 add-first-past c = omega (arith, c .low-rank .ensures)
 
 first-past-requires : tie.Need-first-past-requires
 first-past-requires c κs = (omega arith, (omega arith, before-is (c .before .before), omega arith))
-
-sub-high-rank : tie.Need-sub-high-rank
-sub-high-rank c = search needs
-
-high-rank-requires : tie.Need-high-rank-requires
-high-rank-requires c κs = search needs
 
 add-first-past-2 : tie.Need-add-first-past-2
 add-first-past-2 c = omega (arith, c .high-rank .ensures)
@@ -58,9 +43,6 @@ first-past-requires-2 c κs =
     let low = c .before in
     let few = low .first-past .ensures .1 in
     (omega arith, (few .0, few .1, omega (arith, few .2, low .before .low-rank .ensures, c .high-rank .ensures)))
-
-of-bins-requires : tie.Need-of-bins-requires
-of-bins-requires c κs = search needs
 
 returns-2 : tie.Need-returns-2
 returns-2 c =
@@ -80,16 +62,16 @@ pub ranked-spec : {M : Type 1} → statement M
 ranked-spec =
     tie.close
     (tie.spec
-    blocks-of-requires
+    (search needs)
     sub-left
     returns
-    sub-low-rank
-    low-rank-requires
+    (search needs)
+    (search needs)
     add-first-past
     first-past-requires
-    sub-high-rank
-    high-rank-requires
+    (search needs)
+    (search needs)
     add-first-past-2
     first-past-requires-2
-    of-bins-requires
+    (search needs)
     returns-2)

@@ -10,21 +10,6 @@ use Rattle.exports_filter.proofs.Told.{told}
 use Rattle.exports_filter.proofs.xel_process_f32.Statement.{statement}
 use Rattle.exports_filter.proofs.xel_process_f32.Tie as tie
 
-switches-of-requires : tie.Need-switches-of-requires
-switches-of-requires c κs = search needs
-
-slice-aggregate-process-lent : tie.Need-slice-aggregate-process-lent
-slice-aggregate-process-lent c = search needs
-
-process-lent-requires : tie.Need-process-lent-requires
-process-lent-requires c κs = search needs
-
-number-of-requires : tie.Need-number-of-requires
-number-of-requires c κs = search needs
-
-same-length : tie.Need-same-length
-same-length c = search needs
-
 returns : tie.Need-returns
 unfolding lent
 returns c =
@@ -44,4 +29,4 @@ returns c =
     told processed (λ (k : Kept). k) asked (called .process-lent .result) (c .number-of .ensures) (f32s (now (a .«data»))) h
 
 pub xel-process-f32-spec : {M : Type 1} → statement M
-xel-process-f32-spec = tie.close (tie.spec switches-of-requires slice-aggregate-process-lent process-lent-requires number-of-requires same-length returns)
+xel-process-f32-spec = tie.close (tie.spec (search needs) (search needs) (search needs) (search needs) (search needs) returns)

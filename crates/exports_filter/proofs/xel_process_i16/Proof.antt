@@ -11,21 +11,6 @@ use Rattle.exports_filter.proofs.Told.{ints-told}
 use Rattle.exports_filter.proofs.xel_process_i16.Statement.{statement}
 use Rattle.exports_filter.proofs.xel_process_i16.Tie as tie
 
-switches-of-requires : tie.Need-switches-of-requires
-switches-of-requires c κs = search needs
-
-slice-aggregate-process-lent : tie.Need-slice-aggregate-process-lent
-slice-aggregate-process-lent c = search needs
-
-process-lent-requires : tie.Need-process-lent-requires
-process-lent-requires c κs = search needs
-
-number-of-requires : tie.Need-number-of-requires
-number-of-requires c κs = search needs
-
-same-length : tie.Need-same-length
-same-length c = search needs
-
 returns : tie.Need-returns
 unfolding processed sizeOf asF64 asF32
 returns c =
@@ -45,4 +30,4 @@ returns c =
     ints-told processed (λ (k : Kept). k) asked (called .process-lent .result) (c .number-of .ensures) refl (now (a .«data»)) h
 
 pub xel-process-i16-spec : {M : Type 1} → statement M
-xel-process-i16-spec = tie.close (tie.spec switches-of-requires slice-aggregate-process-lent process-lent-requires number-of-requires same-length returns)
+xel-process-i16-spec = tie.close (tie.spec (search needs) (search needs) (search needs) (search needs) (search needs) returns)

@@ -12,18 +12,6 @@ use Rattle.exports_filter.proofs.Told.{ints-told}
 use Rattle.exports_filter.proofs.xel_seed_i16.Statement.{statement}
 use Rattle.exports_filter.proofs.xel_seed_i16.Tie as tie
 
-switches-of-requires : tie.Need-switches-of-requires
-switches-of-requires c κs = search needs
-
-slice-aggregate-seed-lent : tie.Need-slice-aggregate-seed-lent
-slice-aggregate-seed-lent c = search needs
-
-seed-lent-requires : tie.Need-seed-lent-requires
-seed-lent-requires c κs = search needs
-
-number-of-requires : tie.Need-number-of-requires
-number-of-requires c κs = search needs
-
 returns : tie.Need-returns
 unfolding ofBits seeded sizeOf asF64 asF32
 returns c =
@@ -38,4 +26,4 @@ returns c =
     ints-told seeded (λ (k : Kept). k .filter) asked (called .seed-lent .result) (c .number-of .ensures) refl (now (a .«data»)) h
 
 pub xel-seed-i16-spec : {M : Type 1} → statement M
-xel-seed-i16-spec = tie.close (tie.spec switches-of-requires slice-aggregate-seed-lent seed-lent-requires number-of-requires returns)
+xel-seed-i16-spec = tie.close (tie.spec (search needs) (search needs) (search needs) (search needs) returns)

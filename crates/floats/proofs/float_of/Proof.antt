@@ -10,12 +10,9 @@ use Rattle.floats.proofs.float_of.Tie as tie
 float-from-bits-result : tie.Need-float-from-bits-result
 float-from-bits-result c = to-infinity (c .before .args .pattern) (omega (arith, c .if1 .taken))
 
-returns : tie.Need-returns
-returns c = search needs
-
 returns-2 : tie.Need-returns-2
 unfolding div ofBits
 returns-2 c = sym (past-infinity (c .before .args .pattern) (omega (arith, c .if1 .left)))
 
 pub float-of-spec : {M : Type 1} → statement M
-float-of-spec = tie.close (tie.spec float-from-bits-result returns returns-2)
+float-of-spec = tie.close (tie.spec float-from-bits-result (search needs) returns-2)

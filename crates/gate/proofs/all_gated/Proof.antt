@@ -28,9 +28,6 @@ Inv-loop table count counters energies threshold entries bin blocks₀ sum₀ i�
 abbrev μ-loop : tie.MeasureT-loop
 μ-loop table count counters energies threshold entries bin blocks₀ sum₀ i₀ blocks sum i = count - i
 
-start-in-requires : tie.Need-start-in-requires Inv-loop μ-loop
-start-in-requires c κs = search needs
-
 -- the set, which nothing refuses
 abbrev given : tie.At-loop Inv-loop μ-loop → Histories
 given l =
@@ -71,9 +68,6 @@ add-blocks c = let k = well (c .before .before .before .before) in omega (arith,
 add-i : tie.Need-add-i Inv-loop μ-loop
 add-i c = let k = well (c .before .before .before .before) in omega (arith, k .few)
 
-loop-less : tie.Need-loop-less Inv-loop μ-loop
-loop-less c = search needs
-
 loop-again : tie.Need-loop-again Inv-loop μ-loop
 unfolding allGated
 loop-again c =
@@ -105,13 +99,13 @@ all-gated-spec =
     (tie.spec
     Inv-loop
     μ-loop
-    start-in-requires
+    (search needs)
     loop-holds
     mul-entry
     array-copy-out-entry
     history-gated-requires
     add-blocks
     add-i
-    loop-less
+    (search needs)
     loop-again
     returns)

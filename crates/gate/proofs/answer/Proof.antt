@@ -8,9 +8,6 @@ use Rattle.gate.proofs.answer.Tie as tie
 returns : tie.Need-returns
 returns c = rw (eq-eqb (c .before .before .args .all .count) 0 (c .if1 .taken))
 
-is-nan-requires : tie.Need-is-nan-requires
-is-nan-requires c κs = search needs
-
 returns-2 : tie.Need-returns-2
 returns-2 c =
     let z = c .before .before in
@@ -31,4 +28,4 @@ returns-4 c =
     rw (ne-eqb (a .all .count) 0 (z .if1 .left), sym (n .before .is-nan .ensures) ∙ n .if2 .left, ne-eqb (a .left .count) 0 (c .if3 .left))
 
 pub answer-spec : {M : Type 1} → statement M
-answer-spec = tie.close (tie.spec returns is-nan-requires returns-2 returns-3 returns-4)
+answer-spec = tie.close (tie.spec returns (search needs) returns-2 returns-3 returns-4)

@@ -18,23 +18,11 @@ given c =
 passed : (c : tie.Else1) → numberOf (setRows (given (c .before))) ≡ 0
 passed c = sym (c .before .of-set .ensures .first) ∙ c .if1 .left
 
-all-energies-requires : tie.Need-all-energies-requires
-all-energies-requires c κs = search needs
-
-of-set-requires : tie.Need-of-set-requires
-of-set-requires c κs = search needs
-
 returns : tie.Need-returns
 returns c = let s = c .before in gate-refused (given s) (s .of-set .result .refusal) (s .of-set .ensures .first) (c .if1 .taken)
 
-threshold-of-requires : tie.Need-threshold-of-requires
-threshold-of-requires c κs = search needs
-
 all-gated-requires : tie.Need-all-gated-requires
 all-gated-requires c κs = (passed (c .before .before .before), search needs)
-
-answer-requires : tie.Need-answer-requires
-answer-requires c κs = search needs
 
 returns-2 : tie.Need-returns-2
 returns-2 c =
@@ -50,10 +38,10 @@ pub gate-spec : {M : Type 1} → statement M
 gate-spec =
     tie.close
     (tie.spec
-    all-energies-requires
-    of-set-requires
+    (search needs)
+    (search needs)
     returns
-    threshold-of-requires
+    (search needs)
     all-gated-requires
-    answer-requires
+    (search needs)
     returns-2)

@@ -23,20 +23,8 @@ given c =
 passed : (c : tie.Else1) → numberOf (setRows (given (c .before))) ≡ 0
 passed c = sym (c .before .of-history .ensures .first) ∙ c .if1 .left
 
-all-energies-requires : tie.Need-all-energies-requires
-all-energies-requires c κs = search needs
-
-of-history-requires : tie.Need-of-history-requires
-of-history-requires c κs = search needs
-
 returns : tie.Need-returns
 returns c = let s = c .before in gate-refused (given s) (s .of-history .result .refusal) (s .of-history .ensures .first) (c .if1 .taken)
-
-threshold-of-requires : tie.Need-threshold-of-requires
-threshold-of-requires c κs = search needs
-
-start-in-requires : tie.Need-start-in-requires
-start-in-requires c κs = search needs
 
 history-gated-requires : tie.Need-history-gated-requires
 history-gated-requires c κs =
@@ -44,9 +32,6 @@ history-gated-requires c κs =
     let a = e .before .before .before .before .before .before .args in
     let well = history-well (a .entry) (now (a .counters)) (now (a .energies)) (passed e) in
     (well .0, well .1, c .before .start-in .ensures, nothing-steady, search needs)
-
-answer-requires : tie.Need-answer-requires
-answer-requires c κs = search needs
 
 -- the blocks left are those at or above the threshold
 left-is : (c : tie.After-history-gated) →
@@ -70,11 +55,11 @@ pub gate-of-history-spec : {M : Type 1} → statement M
 gate-of-history-spec =
     tie.close
     (tie.spec
-    all-energies-requires
-    of-history-requires
+    (search needs)
+    (search needs)
     returns
-    threshold-of-requires
-    start-in-requires
+    (search needs)
+    (search needs)
     history-gated-requires
-    answer-requires
+    (search needs)
     returns-2)

@@ -17,17 +17,8 @@ use Rattle.gate.specs.Gate.{gatedOf}
 use Rattle.gate.proofs.history_gated.Statement.{statement}
 use Rattle.gate.proofs.history_gated.Tie as tie
 
-enum-known-shape : tie.Need-enum-known-shape
-enum-known-shape c = search needs
-
 from-bin-requires : tie.Need-from-bin-requires
 from-bin-requires c κs = let w = c .before .before .before .before .before in (w .pre .4, w .pre .3)
-
-enum-known-shape-2 : tie.Need-enum-known-shape-2
-enum-known-shape-2 c = search needs
-
-of-queue-requires : tie.Need-of-queue-requires
-of-queue-requires c κs = search needs
 
 returns : tie.Need-returns
 returns c =
@@ -63,9 +54,9 @@ pub history-gated-spec : {M : Type 1} → statement M
 history-gated-spec =
     tie.close
     (tie.spec
-    enum-known-shape
+    (search needs)
     from-bin-requires
-    enum-known-shape-2
-    of-queue-requires
+    (search needs)
+    (search needs)
     returns
     returns-2)

@@ -8,12 +8,6 @@ use Rattle.gated_energy.proofs.Means.{mean-said}
 use Rattle.gated_energy.proofs.gated_energy.Statement.{statement}
 use Rattle.gated_energy.proofs.gated_energy.Tie as tie
 
-gate-requires : tie.Need-gate-requires
-gate-requires c κs = search needs
-
-mean-of-requires : tie.Need-mean-of-requires
-mean-of-requires c κs = search needs
-
 returns : tie.Need-returns
 returns c =
     let gated = c .before .gate in
@@ -21,4 +15,4 @@ returns c =
     c .mean-of .ensures ∙ mean-said (histories (a .entries) (a .count) (now (a .counters)) (now (a .energies))) (said (gated .result)) (gated .ensures)
 
 pub gated-energy-spec : {M : Type 1} → statement M
-gated-energy-spec = tie.close (tie.spec gate-requires mean-of-requires returns)
+gated-energy-spec = tie.close (tie.spec (search needs) (search needs) returns)

@@ -8,12 +8,6 @@ use Rattle.gated_energy.proofs.Means.{mean-said}
 use Rattle.gated_energy.proofs.gated_energy_of_history.Statement.{statement}
 use Rattle.gated_energy.proofs.gated_energy_of_history.Tie as tie
 
-gate-of-history-requires : tie.Need-gate-of-history-requires
-gate-of-history-requires c κs = search needs
-
-mean-of-requires : tie.Need-mean-of-requires
-mean-of-requires c κs = search needs
-
 returns : tie.Need-returns
 returns c =
     let gated = c .before .gate-of-history in
@@ -21,4 +15,4 @@ returns c =
     c .mean-of .ensures ∙ mean-said (alone (a .entry) (now (a .counters)) (now (a .energies))) (said (gated .result)) (gated .ensures)
 
 pub gated-energy-of-history-spec : {M : Type 1} → statement M
-gated-energy-of-history-spec = tie.close (tie.spec gate-of-history-requires mean-of-requires returns)
+gated-energy-of-history-spec = tie.close (tie.spec (search needs) (search needs) returns)

@@ -9,15 +9,6 @@ use Rattle.gated_energy.specs.Inner.{meanSaid}
 use Rattle.gated_energy.proofs.mean_of.Statement.{statement}
 use Rattle.gated_energy.proofs.mean_of.Tie as tie
 
-enum-known-gated : tie.Need-enum-known-gated
-enum-known-gated c = search needs
-
-nearest-u64-to-f64-requires : tie.Need-nearest-u64-to-f64-requires
-nearest-u64-to-f64-requires c κs = search needs
-
-enum-known-gated-2 : tie.Need-enum-known-gated-2
-enum-known-gated-2 c = search needs
-
 returns : tie.Need-returns
 returns c =
     let g = c .before .before in
@@ -30,4 +21,4 @@ returns-2 c = sym (ap (λ (gated : Gated). meanSaid (said gated)) (c .before .ga
 pub mean-of-spec : {M : Type 1} → statement M
 mean-of-spec =
     tie.close
-    (tie.spec enum-known-gated nearest-u64-to-f64-requires enum-known-gated-2 returns returns-2)
+    (tie.spec (search needs) (search needs) (search needs) returns returns-2)

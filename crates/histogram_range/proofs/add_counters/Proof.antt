@@ -16,24 +16,6 @@ Inv-loop added₀ counters bin₀ added bin = (bin ≤ bins) × (length added �
 abbrev μ-loop : tie.MeasureT-loop
 μ-loop added₀ counters bin₀ added bin = bins - bin
 
-loop-holds : tie.Need-loop-holds Inv-loop μ-loop
-loop-holds c = search needs
-
-mul-added : tie.Need-mul-added Inv-loop μ-loop
-mul-added c = search needs
-
-slice-read-added : tie.Need-slice-read-added Inv-loop μ-loop
-slice-read-added c = search needs
-
-mul-wide : tie.Need-mul-wide Inv-loop μ-loop
-mul-wide c = search needs
-
-shared-slice-read-wide : tie.Need-shared-slice-read-wide Inv-loop μ-loop
-shared-slice-read-wide c = search needs
-
-wide-requires : tie.Need-wide-requires Inv-loop μ-loop
-wide-requires c κs = search needs
-
 add-added : tie.Need-add-added Inv-loop μ-loop
 add-added c =
     let l = c .before .before .before .before in
@@ -46,18 +28,6 @@ add-added c =
       c .before .shared-slice-known2 .given (l .loop .bin),
     )
 
-mul-added-2 : tie.Need-mul-added-2 Inv-loop μ-loop
-mul-added-2 c = search needs
-
-slice-write-added : tie.Need-slice-write-added Inv-loop μ-loop
-slice-write-added c = search needs
-
-add-bin : tie.Need-add-bin Inv-loop μ-loop
-add-bin c = search needs
-
-loop-less : tie.Need-loop-less Inv-loop μ-loop
-loop-less c = search needs
-
 loop-again : tie.Need-loop-again Inv-loop μ-loop
 loop-again c =
     let l = c .before .before .before .before in
@@ -67,9 +37,6 @@ loop-again c =
       ap (λ (n : ℕ). set (l .loop .added) (l .loop .bin) (getD (l .loop .added) (l .loop .bin) 0 + n)) (c .wide .ensures)
           ∙ sums-turn (l .loop .bin) (now (s .args .added)) (now (s .args .counters)) (l .loop .added) (l .loop .inv .2) (omega (arith, s .pre .0, s .pre .1)) (omega (arith, s .pre .0)),
     )
-
-same-length : tie.Need-same-length Inv-loop μ-loop
-same-length c = search needs
 
 returns : tie.Need-returns Inv-loop μ-loop
 returns c =
@@ -83,17 +50,17 @@ add-counters-spec =
     (tie.spec
     Inv-loop
     μ-loop
-    loop-holds
-    mul-added
-    slice-read-added
-    mul-wide
-    shared-slice-read-wide
-    wide-requires
+    (search needs)
+    (search needs)
+    (search needs)
+    (search needs)
+    (search needs)
+    (search needs)
     add-added
-    mul-added-2
-    slice-write-added
-    add-bin
-    loop-less
+    (search needs)
+    (search needs)
+    (search needs)
+    (search needs)
     loop-again
-    same-length
+    (search needs)
     returns)

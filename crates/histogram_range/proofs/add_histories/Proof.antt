@@ -28,12 +28,6 @@ abbrev μ-loop : tie.MeasureT-loop
 loop-holds : tie.Need-loop-holds Inv-loop μ-loop
 loop-holds c = let s = c .before .before in (omega arith, s .pre .2, λ (k : ℕ). omega (arith, s .pre .3 k), refl)
 
-mul-entry : tie.Need-mul-entry Inv-loop μ-loop
-mul-entry c = search needs
-
-array-copy-out-entry : tie.Need-array-copy-out-entry Inv-loop μ-loop
-array-copy-out-entry c = search needs
-
 add-history-requires : tie.Need-add-history-requires Inv-loop μ-loop
 add-history-requires c κs =
     let l = c .before .before .before in
@@ -42,12 +36,6 @@ add-history-requires c κs =
       l .loop .inv .1,
       λ (k : ℕ). omega (arith, l .loop .inv .2 k),
     )
-
-add-i : tie.Need-add-i Inv-loop μ-loop
-add-i c = search needs
-
-loop-less : tie.Need-loop-less Inv-loop μ-loop
-loop-less c = search needs
 
 loop-again : tie.Need-loop-again Inv-loop μ-loop
 loop-again c =
@@ -60,9 +48,6 @@ loop-again c =
       added-turn (now (s .args .counters)) (s .args .t2) (s .args .count) (l .loop .i) (l .loop .added) (omega arith) (omega arith) (done .last .0) (done .ensures .0)
           ∙ l .loop .inv .3,
     )
-
-same-length : tie.Need-same-length Inv-loop μ-loop
-same-length c = search needs
 
 returns : tie.Need-returns Inv-loop μ-loop
 returns c =
@@ -79,11 +64,11 @@ add-histories-spec =
     Inv-loop
     μ-loop
     loop-holds
-    mul-entry
-    array-copy-out-entry
+    (search needs)
+    (search needs)
     add-history-requires
-    add-i
-    loop-less
+    (search needs)
+    (search needs)
     loop-again
-    same-length
+    (search needs)
     returns)

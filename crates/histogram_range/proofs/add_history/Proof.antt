@@ -23,9 +23,6 @@ inside c =
     let w = c .before .before .before .before in
     subst (λ (s : Shape). countersEnd s ≤ length (now (w .args .counters))) (c .shape .given .1) (w .pre .0)
 
-enum-known-shape : tie.Need-enum-known-shape
-enum-known-shape c = search needs
-
 add-end : tie.Need-add-end
 add-end c = omega (arith, inside (c .before))
 
@@ -47,12 +44,6 @@ add-counters-requires c κs =
     let w = h .before .before .before .before in
     let start = h .shape .given .0 .0 in
     (w .pre .1, omega (arith, slice-length start (start + bins) (now (w .args .counters)) (inside h)), w .pre .2)
-
-enum-told : tie.Need-enum-told
-enum-told c = search needs
-
-same-length : tie.Need-same-length
-same-length c = search needs
 
 returns : tie.Need-returns
 returns c =
@@ -80,14 +71,14 @@ pub add-history-spec : {M : Type 1} → statement M
 add-history-spec =
     tie.close
     (tie.spec
-    enum-known-shape
+    (search needs)
     add-end
     mul-add-counters
     sub-add-counters
     part-add-counters-start
     part-add-counters-end
     add-counters-requires
-    enum-told
-    same-length
+    (search needs)
+    (search needs)
     returns
     returns-2)

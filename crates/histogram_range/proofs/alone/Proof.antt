@@ -16,15 +16,6 @@ use Rattle.histogram_range.proofs.Single.{counters-alone, empty-nothing
 use Rattle.histogram_range.proofs.alone.Statement.{statement}
 use Rattle.histogram_range.proofs.alone.Tie as tie
 
-enum-known-shape : tie.Need-enum-known-shape
-enum-known-shape c = search needs
-
-of-counters-requires : tie.Need-of-counters-requires
-of-counters-requires c κs = search needs
-
-enum-told : tie.Need-enum-told
-enum-told c = search needs
-
 returns : tie.Need-returns
 returns c =
     let h = c .before .before in
@@ -46,8 +37,8 @@ pub alone-spec : {M : Type 1} → statement M
 alone-spec =
     tie.close
     (tie.spec
-    enum-known-shape
-    of-counters-requires
-    enum-told
+    (search needs)
+    (search needs)
+    (search needs)
     returns
     returns-2)

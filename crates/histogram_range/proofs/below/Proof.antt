@@ -19,23 +19,11 @@ abbrev μ-loop : tie.MeasureT-loop
 loop-holds : tie.Need-loop-holds Inv-loop μ-loop
 loop-holds c = (omega arith, blocks-none (now (c .args .counters)))
 
-mul-blocks : tie.Need-mul-blocks Inv-loop μ-loop
-mul-blocks c = search needs
-
-shared-slice-read-blocks : tie.Need-shared-slice-read-blocks Inv-loop μ-loop
-shared-slice-read-blocks c = search needs
-
 add-blocks : tie.Need-add-blocks Inv-loop μ-loop
 add-blocks c =
     let l = c .before .before in
     let s = l .before in
     omega (arith, l .loop .inv .1, blocks-most (now (s .args .counters)) (s .pre .1) (l .loop .i), s .pre .1 (l .loop .i))
-
-add-i : tie.Need-add-i Inv-loop μ-loop
-add-i c = search needs
-
-loop-less : tie.Need-loop-less Inv-loop μ-loop
-loop-less c = search needs
 
 loop-again : tie.Need-loop-again Inv-loop μ-loop
 loop-again c =
@@ -48,4 +36,4 @@ returns c =
     l .loop .inv .1 ∙ ap (λ (n : ℕ). blocksIn (take n (now (l .before .args .counters)))) {x = l .loop .i} {y = l .before .args .bin} (omega arith)
 
 pub below-spec : {M : Type 1} → statement M
-below-spec = tie.close (tie.spec Inv-loop μ-loop loop-holds mul-blocks shared-slice-read-blocks add-blocks add-i loop-less loop-again returns)
+below-spec = tie.close (tie.spec Inv-loop μ-loop loop-holds (search needs) (search needs) add-blocks (search needs) (search needs) loop-again returns)

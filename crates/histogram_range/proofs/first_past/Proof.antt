@@ -21,12 +21,6 @@ abbrev μ-loop : tie.MeasureT-loop
 loop-holds : tie.Need-loop-holds Inv-loop μ-loop
 loop-holds c = c .pre .2
 
-mul-next : tie.Need-mul-next Inv-loop μ-loop
-mul-next c = search needs
-
-shared-slice-read-next : tie.Need-shared-slice-read-next Inv-loop μ-loop
-shared-slice-read-next c = search needs
-
 add-next : tie.Need-add-next Inv-loop μ-loop
 add-next c =
     let l = c .before .before in
@@ -38,12 +32,6 @@ returns c =
     let l = c .before .before .before in
     let a = l .before .args in
     (found-at (a .rank) (now (a .counters)) (l .loop .bin) (omega arith) (omega arith) (λ _. omega arith), l .loop .inv)
-
-add-bin : tie.Need-add-bin Inv-loop μ-loop
-add-bin c = search needs
-
-loop-less : tie.Need-loop-less Inv-loop μ-loop
-loop-less c = search needs
 
 loop-again : tie.Need-loop-again Inv-loop μ-loop
 loop-again c =
@@ -58,4 +46,4 @@ returns-2 c =
 
 pub first-past-spec : {M : Type 1} → statement M
 first-past-spec =
-    tie.close (tie.spec Inv-loop μ-loop loop-holds mul-next shared-slice-read-next add-next returns add-bin loop-less loop-again returns-2)
+    tie.close (tie.spec Inv-loop μ-loop loop-holds (search needs) (search needs) add-next returns (search needs) (search needs) loop-again returns-2)

@@ -37,18 +37,12 @@ well e = kept (given (e .before)) (passed e)
 added-length : (h : tie.After-add-histories) → length (h .add-histories .last .0) ≡ bins
 added-length h = omega (arith, h .add-histories .kept .0, zeros-length)
 
-checked-requires : tie.Need-checked-requires
-checked-requires c κs = search needs
-
 returns : tie.Need-returns
 returns c = let k = c .before in histogram-refused (given k) (k .checked .result) (k .checked .ensures) (c .if1 .taken)
 
 -- every histogram ends within the counters
 within : (e : tie.Else1) → countersInside (length (given (e .before) .counters)) (chosen (given (e .before)))
 within e = let h = given (e .before) in all-counters-inside (length (h .counters)) (length (h .energies)) (chosen h) (well e .inside)
-
-array-copy-out-entry : tie.Need-array-copy-out-entry
-array-copy-out-entry c = search needs
 
 alone-requires : tie.Need-alone-requires
 alone-requires c κs =
@@ -65,9 +59,6 @@ returns-2 c =
     c .alone .ensures
     ∙ ap (λ (l : List ℕ). says (countedSpan l)) (one-added (h .counters) (h .energies) (h .entries) (h .count) (t .if2 .taken) (omega (arith, t .if2 .taken)))
     ∙ sym (ap saidBy (histogram-asked h (passed e)))
-
-slice-aggregate-add-histories : tie.Need-slice-aggregate-add-histories
-slice-aggregate-add-histories c = search needs
 
 add-histories-requires : tie.Need-add-histories-requires
 add-histories-requires c κs =
@@ -96,12 +87,12 @@ pub of-histograms-spec : {M : Type 1} → statement M
 of-histograms-spec =
     tie.close
     (tie.spec
-    checked-requires
+    (search needs)
     returns
-    array-copy-out-entry
+    (search needs)
     alone-requires
     returns-2
-    slice-aggregate-add-histories
+    (search needs)
     add-histories-requires
     slice-aggregate-span-of
     span-of-requires

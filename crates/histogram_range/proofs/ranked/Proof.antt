@@ -12,9 +12,6 @@ use Rattle.histogram_range.proofs.Answers.{left-none, left-read}
 use Rattle.histogram_range.proofs.ranked.Statement.{statement}
 use Rattle.histogram_range.proofs.ranked.Tie as tie
 
-below-requires : tie.Need-below-requires
-below-requires c κs = search needs
-
 sub-left : tie.Need-sub-left
 sub-left c =
     let s = c .before .before in
@@ -26,33 +23,6 @@ returns c =
     let a = b .before .before .args in
     ap {B = Said Span} says (sym (left-none (now (a .counters)) (b .below .result) (a .count - b .below .result) (c .if1 .taken))
     ∙ ap (λ (n : ℕ). leftIn (now (a .counters)) n (a .count - n)) (b .below .ensures))
-
-sub-low-rank : tie.Need-sub-low-rank
-sub-low-rank c = search needs
-
-low-rank-requires : tie.Need-low-rank-requires
-low-rank-requires c κs = search needs
-
-add-first-past : tie.Need-add-first-past
-add-first-past c = search needs
-
-first-past-requires : tie.Need-first-past-requires
-first-past-requires c κs = search needs
-
-sub-high-rank : tie.Need-sub-high-rank
-sub-high-rank c = search needs
-
-high-rank-requires : tie.Need-high-rank-requires
-high-rank-requires c κs = search needs
-
-add-first-past-2 : tie.Need-add-first-past-2
-add-first-past-2 c = search needs
-
-first-past-requires-2 : tie.Need-first-past-requires-2
-first-past-requires-2 c κs = search needs
-
-of-bins-requires : tie.Need-of-bins-requires
-of-bins-requires c κs = search needs
 
 returns-2 : tie.Need-returns-2
 returns-2 c =
@@ -71,5 +41,5 @@ returns-2 c =
 pub ranked-spec : {M : Type 1} → statement M
 ranked-spec =
     tie.close
-    (tie.spec below-requires sub-left returns sub-low-rank low-rank-requires add-first-past first-past-requires sub-high-rank high-rank-requires
-    add-first-past-2 first-past-requires-2 of-bins-requires returns-2)
+    (tie.spec (search needs) sub-left returns (search needs) (search needs) (search needs) (search needs) (search needs) (search needs)
+    (search needs) (search needs) (search needs) returns-2)

@@ -25,17 +25,8 @@ counters t = now (t .before .before .args .counters)
 start-is : (b : tie.After-start-bin) → b .start-bin .result ≡ startBin (gateEnergy (b .before .before .before .sum-up .result))
 start-is b = b .start-bin .ensures ∙ ap startBin (b .before .gate-energy .ensures)
 
-sum-up-requires : tie.Need-sum-up-requires
-sum-up-requires c κs = search needs
-
 returns : tie.Need-returns
 returns c = let t = c .before in ap says (sym (counted-none (counters t) (ap (λ (totals : Totals). totals .count) (sym (t .sum-up .ensures)) ∙ c .if1 .taken)))
-
-gate-energy-requires : tie.Need-gate-energy-requires
-gate-energy-requires c κs = search needs
-
-start-bin-requires : tie.Need-start-bin-requires
-start-bin-requires c κs = search needs
 
 ranked-requires : tie.Need-ranked-requires
 ranked-requires c κs =
@@ -57,4 +48,4 @@ returns-2 c =
     (ap (λ (n : ℕ). blocksIn (take n (counters t))) (start-is b))))
 
 pub span-of-spec : {M : Type 1} → statement M
-span-of-spec = tie.close (tie.spec sum-up-requires returns gate-energy-requires start-bin-requires ranked-requires returns-2)
+span-of-spec = tie.close (tie.spec (search needs) returns (search needs) (search needs) ranked-requires returns-2)

@@ -23,17 +23,8 @@ Inv-loop counters energies count₀ sum₀ bin₀ count sum bin =
 abbrev μ-loop : tie.MeasureT-loop
 μ-loop counters energies count₀ sum₀ bin₀ count sum bin = bins - bin
 
-all-energies-requires : tie.Need-all-energies-requires Inv-loop μ-loop
-all-energies-requires c κs = search needs
-
 loop-holds : tie.Need-loop-holds Inv-loop μ-loop
 loop-holds c = (omega arith, omega arith, refl)
-
-mul-blocks : tie.Need-mul-blocks Inv-loop μ-loop
-mul-blocks c = search needs
-
-shared-slice-read-blocks : tie.Need-shared-slice-read-blocks Inv-loop μ-loop
-shared-slice-read-blocks c = search needs
 
 -- the blocks read are at most what a bin of 16 histograms has
 read : (c : tie.In-loop Inv-loop μ-loop) →
@@ -44,20 +35,8 @@ read c = let l = c .before in l .before .before .before .pre .1 (l .loop .bin)
 float-requires : tie.Need-float-requires Inv-loop μ-loop
 float-requires c κs = read (c .before)
 
-mul-sum : tie.Need-mul-sum Inv-loop μ-loop
-mul-sum c = search needs
-
-array-read-sum : tie.Need-array-read-sum Inv-loop μ-loop
-array-read-sum c = search needs
-
 add-count : tie.Need-add-count Inv-loop μ-loop
 add-count c = omega (arith, read (c .before .before))
-
-add-bin : tie.Need-add-bin Inv-loop μ-loop
-add-bin c = search needs
-
-loop-less : tie.Need-loop-less Inv-loop μ-loop
-loop-less c = search needs
 
 loop-again : tie.Need-loop-again Inv-loop μ-loop
 loop-again c =
@@ -87,15 +66,15 @@ sum-up-spec =
     (tie.spec
     Inv-loop
     μ-loop
-    all-energies-requires
+    (search needs)
     loop-holds
-    mul-blocks
-    shared-slice-read-blocks
+    (search needs)
+    (search needs)
     float-requires
-    mul-sum
-    array-read-sum
+    (search needs)
+    (search needs)
     add-count
-    add-bin
-    loop-less
+    (search needs)
+    (search needs)
     loop-again
     returns)

@@ -26,12 +26,6 @@ abbrev μ-loop : tie.MeasureT-loop
 loop-holds : tie.Need-loop-holds Inv-loop μ-loop
 loop-holds c = (omega arith, refl, omega arith, refl)
 
-mul-entry : tie.Need-mul-entry Inv-loop μ-loop
-mul-entry c = search needs
-
-array-copy-out-entry : tie.Need-array-copy-out-entry Inv-loop μ-loop
-array-copy-out-entry c = search needs
-
 copy-held-requires : tie.Need-copy-held-requires Inv-loop μ-loop
 copy-held-requires c κs =
     let l = c .before .before .before in
@@ -41,12 +35,6 @@ copy-held-requires c κs =
       suits-sound energies (getD (s .args .t1) (l .loop .i) past-the-last .shape) (sound-at energies (s .args .t1) (s .args .count) (l .loop .i) (omega arith) (omega arith) (s .pre .2)),
       omega (arith, held-count energies (s .args .t1) (s .args .count) (l .loop .i) (omega arith) (omega arith)),
     )
-
-add-i : tie.Need-add-i Inv-loop μ-loop
-add-i c = search needs
-
-loop-less : tie.Need-loop-less Inv-loop μ-loop
-loop-less c = search needs
 
 loop-again : tie.Need-loop-again Inv-loop μ-loop
 loop-again c =
@@ -61,9 +49,6 @@ loop-again c =
           ∙ l .loop .inv .3,
     )
 
-same-length : tie.Need-same-length Inv-loop μ-loop
-same-length c = search needs
-
 returns : tie.Need-returns Inv-loop μ-loop
 returns c =
     let l = c .before in
@@ -77,11 +62,11 @@ copy-all-spec =
     Inv-loop
     μ-loop
     loop-holds
-    mul-entry
-    array-copy-out-entry
+    (search needs)
+    (search needs)
     copy-held-requires
-    add-i
-    loop-less
+    (search needs)
+    (search needs)
     loop-again
-    same-length
+    (search needs)
     returns)

@@ -30,9 +30,6 @@ count p =
     let s = p .before .before .before in
     omega (arith, s .pre .2, parts-count (now (s .args .energies)) (s .args .entry) (p .parts-of .result) (stand p))
 
-parts-of-requires : tie.Need-parts-of-requires
-parts-of-requires c κs = search needs
-
 sub-middle : tie.Need-sub-middle
 sub-middle c = let f = stand (c .before) .places in omega arith
 
@@ -61,9 +58,6 @@ add-result c =
     let f = stand p .places in
     omega (arith, count p)
 
-same-length : tie.Need-same-length
-same-length c = search needs
-
 returns : tie.Need-returns
 returns c =
     let second = c .before .before .before in
@@ -83,12 +77,12 @@ pub copy-held-spec : {M : Type 1} → statement M
 copy-held-spec =
     tie.close
     (tie.spec
-    parts-of-requires
+    (search needs)
     sub-middle
     add-middle
     copy-requires
     copy-requires-2
     sub-result
     add-result
-    same-length
+    (search needs)
     returns)

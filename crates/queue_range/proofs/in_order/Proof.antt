@@ -112,9 +112,6 @@ slice-relend-prefix-order c = let p = c .before .before in omega (arith, copied-
 slice-aggregate-order : tie.Need-slice-aggregate-order
 slice-aggregate-order c = let p = c .before .before .before in sym (length-take-le (blocks p) (copied p) (omega (arith, copied-length p, count (seen p), fits p)))
 
-order-requires : tie.Need-order-requires
-order-requires c κs = search needs
-
 slice-reshare-prefix-span-in-order : tie.Need-slice-reshare-prefix-span-in-order
 slice-reshare-prefix-span-in-order c =
     let o = c .before .before in
@@ -125,9 +122,6 @@ slice-aggregate-span-in-order : tie.Need-slice-aggregate-span-in-order
 slice-aggregate-span-in-order c =
     let o = c .before .before .before in
     sym (ap length (first-places o) ∙ ordered-length o)
-
-span-in-order-requires : tie.Need-span-in-order-requires
-span-in-order-requires c κs = search needs
 
 same-length : tie.Need-same-length
 same-length c =
@@ -156,9 +150,9 @@ in-order-spec =
     copy-all-requires
     slice-relend-prefix-order
     slice-aggregate-order
-    order-requires
+    (search needs)
     slice-reshare-prefix-span-in-order
     slice-aggregate-span-in-order
-    span-in-order-requires
+    (search needs)
     same-length
     returns-3)

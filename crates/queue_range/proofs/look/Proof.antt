@@ -28,23 +28,11 @@ abbrev μ-loop : tie.MeasureT-loop
 loop-holds : tie.Need-loop-holds Inv-loop μ-loop
 loop-holds c = (omega arith, omega arith, refl, λ e. refl)
 
-mul-entry : tie.Need-mul-entry Inv-loop μ-loop
-mul-entry c = search needs
-
-array-copy-out-entry : tie.Need-array-copy-out-entry Inv-loop μ-loop
-array-copy-out-entry c = search needs
-
 look-in-requires : tie.Need-look-in-requires Inv-loop μ-loop
 look-in-requires c κs =
     let l = c .before .before in
     let s = l .before .before in
     (store-at (length (now (s .args .energies))) (s .args .t1) (s .args .count) (l .loop .i) (omega arith) (omega arith) (s .pre .1), omega arith)
-
-add-i : tie.Need-add-i Inv-loop μ-loop
-add-i c = search needs
-
-loop-less : tie.Need-loop-less Inv-loop μ-loop
-loop-less c = search needs
 
 loop-again : tie.Need-loop-again Inv-loop μ-loop
 loop-again c =
@@ -81,10 +69,10 @@ look-spec =
     Inv-loop
     μ-loop
     loop-holds
-    mul-entry
-    array-copy-out-entry
+    (search needs)
+    (search needs)
     look-in-requires
-    add-i
-    loop-less
+    (search needs)
+    (search needs)
     loop-again
     returns)

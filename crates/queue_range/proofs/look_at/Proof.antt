@@ -25,23 +25,8 @@ Inv-loop before energies from until least fine₀ found₀ i₀ fine found i =
 abbrev μ-loop : tie.MeasureT-loop
 μ-loop before energies from until least fine₀ found₀ i₀ fine found i = until - i
 
-lowest-boundary-requires : tie.Need-lowest-boundary-requires Inv-loop μ-loop
-lowest-boundary-requires c κs = search needs
-
 loop-holds : tie.Need-loop-holds Inv-loop μ-loop
 loop-holds c = (omega arith, refl, refl)
-
-mul-energy : tie.Need-mul-energy Inv-loop μ-loop
-mul-energy c = search needs
-
-shared-slice-read-energy : tie.Need-shared-slice-read-energy Inv-loop μ-loop
-shared-slice-read-energy c = search needs
-
-add-i : tie.Need-add-i Inv-loop μ-loop
-add-i c = search needs
-
-loop-less : tie.Need-loop-less Inv-loop μ-loop
-loop-less c = search needs
 
 loop-again : tie.Need-loop-again Inv-loop μ-loop
 loop-again c =
@@ -54,12 +39,6 @@ loop-again c =
           ∙ l .loop .inv .1,
       nan-turn (now (a .energies)) (l .loop .i) (a .until) (l .loop .nan) nan (omega arith) (omega arith) ∙ l .loop .inv .2,
     )
-
-sub-t15 : tie.Need-sub-t15 Inv-loop μ-loop
-sub-t15 c = search needs
-
-add-t16 : tie.Need-add-t16 Inv-loop μ-loop
-add-t16 c = search needs
 
 returns : tie.Need-returns Inv-loop μ-loop
 returns c =
@@ -77,13 +56,13 @@ look-at-spec =
     (tie.spec
     Inv-loop
     μ-loop
-    lowest-boundary-requires
+    (search needs)
     loop-holds
-    mul-energy
-    shared-slice-read-energy
-    add-i
-    loop-less
+    (search needs)
+    (search needs)
+    (search needs)
+    (search needs)
     loop-again
-    sub-t15
-    add-t16
+    (search needs)
+    (search needs)
     returns)

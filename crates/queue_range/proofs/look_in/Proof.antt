@@ -22,12 +22,6 @@ stand p =
     let s = p .before .before .before .before in
     stand-in (now (s .args .energies)) (s .args .entry .shape) (p .parts-of .result) (p .parts-of .ensures) (s .pre .0) (suits-here (p .before))
 
-suits-requires : tie.Need-suits-requires
-suits-requires c κs = search needs
-
-parts-of-requires : tie.Need-parts-of-requires
-parts-of-requires c κs = search needs
-
 look-at-requires : tie.Need-look-at-requires
 look-at-requires c κs =
     let f = stand c .places in
@@ -70,4 +64,4 @@ returns-2 c =
 pub look-in-spec : {M : Type 1} → statement M
 look-in-spec =
     tie.close
-    (tie.spec suits-requires parts-of-requires look-at-requires look-at-requires-2 returns returns-2)
+    (tie.spec (search needs) (search needs) look-at-requires look-at-requires-2 returns returns-2)

@@ -33,9 +33,6 @@ inside e = sym (e .before .outside-set .ensures) ∙ e .if1 .left
 sound : (f : tie.Then2) → let h = given (f .before .before .before) in allSound (h .energies) (chosen h) ≡ true
 sound f = sym (f .before .look .ensures .0) ∙ f .if2 .taken
 
-outside-set-requires : tie.Need-outside-set-requires
-outside-set-requires c κs = search needs
-
 returns : tie.Need-returns
 returns c =
     let k = c .before in
@@ -54,9 +51,6 @@ in-order-requires c κs =
     let h = given (f .before .before .before) in
     let w = none-outside h (inside (f .before .before)) in
     (w .0, stores-inside (length (h .counters)) (length (h .energies)) (chosen h) (w .1), sound f, f .before .look .ensures .1 (sound f))
-
-same-length : tie.Need-same-length
-same-length c = search needs
 
 returns-2 : tie.Need-returns-2
 returns-2 c =
@@ -80,10 +74,10 @@ pub of-queues-spec : {M : Type 1} → statement M
 of-queues-spec =
     tie.close
     (tie.spec
-    outside-set-requires
+    (search needs)
     returns
     look-requires
     in-order-requires
-    same-length
+    (search needs)
     returns-2
     returns-3)

@@ -6,15 +6,6 @@ use borrow.Author.Needs.{needs}
 use Rattle.queue_range.proofs.parts_of.Statement.{statement}
 use Rattle.queue_range.proofs.parts_of.Tie as tie
 
-enum-told : tie.Need-enum-told
-enum-told c = search needs
-
-enum-known-shape : tie.Need-enum-known-shape
-enum-known-shape c = search needs
-
-parts-requires : tie.Need-parts-requires
-parts-requires c κs = search needs
-
 returns : tie.Need-returns
 returns c = sym (ap (λ (s : Shape). partsAt s (c .before .before .args .places)) (c .enum-told .given .1))
 
@@ -22,4 +13,4 @@ returns-2 : tie.Need-returns-2
 returns-2 c = c .parts .ensures ∙ sym (ap (λ (s : Shape). partsAt s (c .before .before .before .before .args .places)) (c .before .before .shape .given .1))
 
 pub parts-of-spec : {M : Type 1} → statement M
-parts-of-spec = tie.close (tie.spec enum-told enum-known-shape parts-requires returns returns-2)
+parts-of-spec = tie.close (tie.spec (search needs) (search needs) (search needs) returns returns-2)

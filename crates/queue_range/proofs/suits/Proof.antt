@@ -5,20 +5,8 @@ use borrow.Author.Needs.{needs}
 use Rattle.queue_range.proofs.suits.Statement.{statement}
 use Rattle.queue_range.proofs.suits.Tie as tie
 
-enum-told : tie.Need-enum-told
-enum-told c = search needs
-
-enum-known-shape : tie.Need-enum-known-shape
-enum-known-shape c = search needs
-
-suits-requires : tie.Need-suits-requires
-suits-requires c κs = search needs
-
-returns : tie.Need-returns
-returns c = search needs
-
 returns-2 : tie.Need-returns-2
 returns-2 c = c .suits .ensures ∙ sym (ap suitsAt (c .before .before .shape .given .1))
 
 pub suits-spec : {M : Type 1} → statement M
-suits-spec = tie.close (tie.spec enum-told enum-known-shape suits-requires returns returns-2)
+suits-spec = tie.close (tie.spec (search needs) (search needs) (search needs) (search needs) returns-2)

@@ -39,24 +39,12 @@ returns c =
     let r = range-refused (given s) (work s) (number SET) (sym (set-refused (given s) (too-many (given s) (c .if1 .taken)))) (no-number SET) in
     (r .says, r .keeps)
 
-queues-in-requires : tie.Need-queues-in-requires
-queues-in-requires c κs = search needs
-
-of-histograms-requires : tie.Need-of-histograms-requires
-of-histograms-requires c κs = search needs
-
 returns-2 : tie.Need-returns-2
 returns-2 c =
     let q = c .before .before in
     let s = start q in
     let r = range-histograms (given s) (work s) (sym (queues-are q) ∙ c .before .if2 .taken) in
     (c .of-histograms .ensures ∙ r .0, r .1)
-
-of-queues-requires : tie.Need-of-queues-requires
-of-queues-requires c κs = search needs
-
-same-length : tie.Need-same-length
-same-length c = search needs
 
 returns-3 : tie.Need-returns-3
 returns-3 c =
@@ -66,9 +54,6 @@ returns-3 c =
     let s = start q in
     rw (range-queues (given s) (work s) (λ e. t .before .if2 .left (queues-are q ∙ e)) (sym (queues-are q) ∙ t .if3 .taken ∙ sym (as-many q)))
     (o .of-queues .ensures .0, o .of-queues .ensures .1)
-
-checked-requires : tie.Need-checked-requires
-checked-requires c κs = search needs
 
 returns-4 : tie.Need-returns-4
 returns-4 c =
@@ -92,12 +77,12 @@ loudness-range-spec =
     tie.close
     (tie.spec
     returns
-    queues-in-requires
-    of-histograms-requires
+    (search needs)
+    (search needs)
     returns-2
-    of-queues-requires
-    same-length
+    (search needs)
+    (search needs)
     returns-3
-    checked-requires
+    (search needs)
     returns-4
     returns-5)

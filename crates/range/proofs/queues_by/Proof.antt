@@ -10,12 +10,6 @@ use borrow.Author.Needs.{needs}
 use Rattle.range.proofs.queues_by.Statement.{statement}
 use Rattle.range.proofs.queues_by.Tie as tie
 
-enum-told : tie.Need-enum-told
-enum-told c = search needs
-
-enum-told-2 : tie.Need-enum-told-2
-enum-told-2 c = search needs
-
 returns : tie.Need-returns
 returns c = λ (counters : List ℕ) (energies : List Float). sym (ap (λ (s : Shape). queuesBy (shapeShows counters energies s)) (c .enum-told .given .1))
 
@@ -23,4 +17,4 @@ returns-2 : tie.Need-returns-2
 returns-2 c = λ (counters : List ℕ) (energies : List Float). sym (ap (λ (s : Shape). queuesBy (shapeShows counters energies s)) (c .enum-told2 .given .1))
 
 pub queues-by-spec : {M : Type 1} → statement M
-queues-by-spec = tie.close (tie.spec enum-told enum-told-2 returns returns-2)
+queues-by-spec = tie.close (tie.spec (search needs) (search needs) returns returns-2)

@@ -22,25 +22,10 @@ abbrev μ-loop : tie.MeasureT-loop
 loop-holds : tie.Need-loop-holds Inv-loop μ-loop
 loop-holds c = (omega arith, omega arith, λ counters energies. omega arith)
 
-mul-entry : tie.Need-mul-entry Inv-loop μ-loop
-mul-entry c = search needs
-
-array-copy-out-entry : tie.Need-array-copy-out-entry Inv-loop μ-loop
-array-copy-out-entry c = search needs
-
-queues-by-requires : tie.Need-queues-by-requires Inv-loop μ-loop
-queues-by-requires c κs = search needs
-
 add-queues : tie.Need-add-queues Inv-loop μ-loop
 add-queues c =
     let l = c .before .before .before in
     omega (arith, c .queues-by .ensures [] [], queues-one (shows [] [] (getD (l .before .args .t1) (l .loop .i) past-the-last)))
-
-add-i : tie.Need-add-i Inv-loop μ-loop
-add-i c = search needs
-
-loop-less : tie.Need-loop-less Inv-loop μ-loop
-loop-less c = search needs
 
 loop-again : tie.Need-loop-again Inv-loop μ-loop
 loop-again c =
@@ -64,11 +49,11 @@ queues-in-spec =
     Inv-loop
     μ-loop
     loop-holds
-    mul-entry
-    array-copy-out-entry
-    queues-by-requires
+    (search needs)
+    (search needs)
+    (search needs)
     add-queues
-    add-i
-    loop-less
+    (search needs)
+    (search needs)
     loop-again
     returns)

@@ -30,38 +30,14 @@ abbrev μ-loop2 : tie.MeasureT-loop2
 loop-holds : tie.Need-loop-holds Inv-loop μ-loop Inv-loop2 μ-loop2
 loop-holds c = (omega arith, refl)
 
-sub-loop : tie.Need-sub-loop Inv-loop μ-loop Inv-loop2 μ-loop2
-sub-loop c = search needs
-
-add-all-below : tie.Need-add-all-below Inv-loop μ-loop Inv-loop2 μ-loop2
-add-all-below c = search needs
-
 all-below-requires : tie.Need-all-below-requires Inv-loop μ-loop Inv-loop2 μ-loop2
 all-below-requires c κs = omega arith
-
-add-i : tie.Need-add-i Inv-loop μ-loop Inv-loop2 μ-loop2
-add-i c = search needs
-
-loop-less : tie.Need-loop-less Inv-loop μ-loop Inv-loop2 μ-loop2
-loop-less c = search needs
 
 loop-again : tie.Need-loop-again Inv-loop μ-loop Inv-loop2 μ-loop2
 loop-again c = (omega arith, c .before .all-below .ensures (c .if1 .taken) ∙ c .before .before .before .loop .inv .1)
 
 loop2-holds : tie.Need-loop2-holds Inv-loop μ-loop Inv-loop2 μ-loop2
 loop2-holds c = c .before .loop .inv
-
-mul-if2 : tie.Need-mul-if2 Inv-loop μ-loop Inv-loop2 μ-loop2
-mul-if2 c = search needs
-
-shared-slice-read-if2 : tie.Need-shared-slice-read-if2 Inv-loop μ-loop Inv-loop2 μ-loop2
-shared-slice-read-if2 c = search needs
-
-add-i-2 : tie.Need-add-i-2 Inv-loop μ-loop Inv-loop2 μ-loop2
-add-i-2 c = search needs
-
-loop2-less : tie.Need-loop2-less Inv-loop μ-loop Inv-loop2 μ-loop2
-loop2-less c = search needs
 
 loop2-again : tie.Need-loop2-again Inv-loop μ-loop Inv-loop2 μ-loop2
 loop2-again c =
@@ -90,17 +66,17 @@ skipped-spec =
     Inv-loop2
     μ-loop2
     loop-holds
-    sub-loop
-    add-all-below
+    (search needs)
+    (search needs)
     all-below-requires
-    add-i
-    loop-less
+    (search needs)
+    (search needs)
     loop-again
     loop2-holds
-    mul-if2
-    shared-slice-read-if2
-    add-i-2
-    loop2-less
+    (search needs)
+    (search needs)
+    (search needs)
+    (search needs)
     loop2-again
     returns
     returns-2)

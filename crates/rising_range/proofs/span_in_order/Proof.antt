@@ -23,32 +23,14 @@ gated k =
     k .skipped .ensures .1
     ∙ ap (λ (g : Float). fromGate g (rising k)) (k .before .gate-energy .ensures ∙ gate-of (rising k) (length (rising k)) (k .before .before .sum-of .result) refl (k .before .before .sum-of .ensures))
 
-sum-of-requires : tie.Need-sum-of-requires
-sum-of-requires c κs = search needs
-
-gate-energy-requires : tie.Need-gate-energy-requires
-gate-energy-requires c κs = search needs
-
-skipped-requires : tie.Need-skipped-requires
-skipped-requires c κs = search needs
-
 sub-left : tie.Need-sub-left
 sub-left c = omega (arith, c .skipped .ensures .0)
 
 returns : tie.Need-returns
 returns c = let k = c .before in ap says (sym (ap atRanks (sym (gated k)) ∙ ranks-none (drop (k .skipped .result) (rising k)) (omega (arith, length-drop (k .skipped .result) (rising k)))))
 
-sub-last : tie.Need-sub-last
-sub-last c = search needs
-
-low-rank-requires : tie.Need-low-rank-requires
-low-rank-requires c κs = search needs
-
 add-low : tie.Need-add-low
 add-low c = let k = c .before .before in omega (arith, c .low-rank .ensures, k .skipped .ensures .0)
-
-high-rank-requires : tie.Need-high-rank-requires
-high-rank-requires c κs = search needs
 
 add-high : tie.Need-add-high
 add-high c = let k = c .before .before .before in omega (arith, c .high-rank .ensures, k .skipped .ensures .0)
@@ -80,15 +62,15 @@ pub span-in-order-spec : {M : Type 1} → statement M
 span-in-order-spec =
     tie.close
     (tie.spec
-    sum-of-requires
-    gate-energy-requires
-    skipped-requires
+    (search needs)
+    (search needs)
+    (search needs)
     sub-left
     returns
-    sub-last
-    low-rank-requires
+    (search needs)
+    (search needs)
     add-low
-    high-rank-requires
+    (search needs)
     add-high
     mul-t13
     shared-slice-read-t10

@@ -22,24 +22,12 @@ abbrev μ-loop : tie.MeasureT-loop
 loop-holds : tie.Need-loop-holds Inv-loop μ-loop
 loop-holds c = (omega arith, refl)
 
-mul-entry : tie.Need-mul-entry Inv-loop μ-loop
-mul-entry c = search needs
-
-array-copy-out-entry : tie.Need-array-copy-out-entry Inv-loop μ-loop
-array-copy-out-entry c = search needs
-
 sound-requires : tie.Need-sound-requires Inv-loop μ-loop
 sound-requires c κs =
     let l = c .before .before in
     let s = l .before .before in
     let a = s .args in
     every-at (λ entry. storeEnd (entry .shape) ≤ length (now (a .energies))) (a .t1) (a .count) (l .loop .i) (omega arith) (omega arith) (s .pre .1)
-
-add-i : tie.Need-add-i Inv-loop μ-loop
-add-i c = search needs
-
-loop-less : tie.Need-loop-less Inv-loop μ-loop
-loop-less c = search needs
 
 loop-again : tie.Need-loop-again Inv-loop μ-loop
 loop-again c =
@@ -70,11 +58,11 @@ all-sound-spec =
     Inv-loop
     μ-loop
     loop-holds
-    mul-entry
-    array-copy-out-entry
+    (search needs)
+    (search needs)
     sound-requires
-    add-i
-    loop-less
+    (search needs)
+    (search needs)
     loop-again
     returns
     returns-2)

@@ -17,9 +17,6 @@ given c = histories (c .args .entries) (c .args .count) (now (c .args .counters)
 inside : (c : tie.Else1) → outsideSet (given (c .before .before .before .before)) ≡ false
 inside c = sym (c .before .outside-set .ensures) ∙ c .if1 .left
 
-outside-set-requires : tie.Need-outside-set-requires
-outside-set-requires c κs = search needs
-
 returns : tie.Need-returns
 returns c = sym (set-refused (given (c .before .before .before .before)) (sym (c .before .outside-set .ensures) ∙ c .if1 .taken))
 
@@ -40,4 +37,4 @@ returns-3 c =
     sym (one-unsound (given (e .before .before .before .before)) (inside e) (sym (c .before .all-sound .ensures) ∙ c .if2 .left))
 
 pub checked-spec : {M : Type 1} → statement M
-checked-spec = tie.close (tie.spec outside-set-requires returns all-sound-requires returns-2 returns-3)
+checked-spec = tie.close (tie.spec (search needs) returns all-sound-requires returns-2 returns-3)

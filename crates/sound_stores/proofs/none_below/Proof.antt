@@ -20,23 +20,8 @@ Inv-loop store from until least fine₀ i₀ fine i = (i ≤ until) × (fine && 
 abbrev μ-loop : tie.MeasureT-loop
 μ-loop store from until least fine₀ i₀ fine i = until - i
 
-lowest-boundary-requires : tie.Need-lowest-boundary-requires Inv-loop μ-loop
-lowest-boundary-requires c κs = search needs
-
 loop-holds : tie.Need-loop-holds Inv-loop μ-loop
 loop-holds c = (omega arith, refl)
-
-mul-fine : tie.Need-mul-fine Inv-loop μ-loop
-mul-fine c = search needs
-
-shared-slice-read-fine : tie.Need-shared-slice-read-fine Inv-loop μ-loop
-shared-slice-read-fine c = search needs
-
-add-i : tie.Need-add-i Inv-loop μ-loop
-add-i c = search needs
-
-loop-less : tie.Need-loop-less Inv-loop μ-loop
-loop-less c = search needs
 
 loop-again : tie.Need-loop-again Inv-loop μ-loop
 loop-again c =
@@ -62,11 +47,11 @@ none-below-spec =
     (tie.spec
     Inv-loop
     μ-loop
-    lowest-boundary-requires
+    (search needs)
     loop-holds
-    mul-fine
-    shared-slice-read-fine
-    add-i
-    loop-less
+    (search needs)
+    (search needs)
+    (search needs)
+    (search needs)
     loop-again
     returns)

@@ -19,32 +19,14 @@ inside c =
     let s = c .before .before .before in
     subst (λ (shape : Shape). storeEnd shape ≤ length (now (s .args .energies))) (c .shape .given .1) (s .pre)
 
-enum-told : tie.Need-enum-told
-enum-told c = search needs
-
-enum-known-shape : tie.Need-enum-known-shape
-enum-known-shape c = search needs
-
 add-end : tie.Need-add-end
 add-end c = let w = inside (c .before .before) in omega arith
 
 mul-sound-queue : tie.Need-mul-sound-queue
 mul-sound-queue c = let w = inside (c .before .before) in omega arith
 
-sub-sound-queue : tie.Need-sub-sound-queue
-sub-sound-queue c = search needs
-
-part-sound-queue-start : tie.Need-part-sound-queue-start
-part-sound-queue-start c = search needs
-
 part-sound-queue-end : tie.Need-part-sound-queue-end
 part-sound-queue-end c = let w = inside (c .before .before) in omega arith
-
-sound-queue-requires : tie.Need-sound-queue-requires
-sound-queue-requires c κs = search needs
-
-returns : tie.Need-returns
-returns c = search needs
 
 returns-2 : tie.Need-returns-2
 returns-2 c =
@@ -63,13 +45,13 @@ pub sound-spec : {M : Type 1} → statement M
 sound-spec =
     tie.close
     (tie.spec
-    enum-told
-    enum-known-shape
+    (search needs)
+    (search needs)
     add-end
     mul-sound-queue
-    sub-sound-queue
-    part-sound-queue-start
+    (search needs)
+    (search needs)
     part-sound-queue-end
-    sound-queue-requires
-    returns
+    (search needs)
+    (search needs)
     returns-2)

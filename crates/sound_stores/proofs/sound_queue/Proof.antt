@@ -18,12 +18,6 @@ within c =
     let a = c .before .before .before .before .args in
     parts-within (a .queue) 0 (length (now (a .store))) (c .parts .result) (c .parts .ensures)
 
-suits-requires : tie.Need-suits-requires
-suits-requires c κs = search needs
-
-parts-requires : tie.Need-parts-requires
-parts-requires c κs = search needs
-
 none-below-requires : tie.Need-none-below-requires
 none-below-requires c κs = let w = within c in (w .older, w .inside)
 
@@ -54,4 +48,4 @@ returns-2 c =
 pub sound-queue-spec : {M : Type 1} → statement M
 sound-queue-spec =
     tie.close
-    (tie.spec suits-requires parts-requires none-below-requires none-below-requires-2 returns returns-2)
+    (tie.spec (search needs) (search needs) none-below-requires none-below-requires-2 returns returns-2)

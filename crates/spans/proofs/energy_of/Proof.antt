@@ -8,12 +8,6 @@ use Rattle.tables.proofs.Taken.{energy-entry}
 use Rattle.spans.proofs.energy_of.Statement.{statement}
 use Rattle.spans.proofs.energy_of.Tie as tie
 
-mul-result : tie.Need-mul-result
-mul-result c = search needs
-
-element-copy-out-result : tie.Need-element-copy-out-result
-element-copy-out-result c = search needs
-
 returns : tie.Need-returns
 returns c = let w = c .before .before in energy-entry (now (w .args .table)) (w .args .bin) (w .pre)
 
@@ -22,4 +16,4 @@ unfolding div ofBits
 returns-2 c = sym (energy-past (c .before .args .bin) (search needs))
 
 pub energy-of-spec : {M : Type 1} → statement M
-energy-of-spec = tie.close (tie.spec mul-result element-copy-out-result returns returns-2)
+energy-of-spec = tie.close (tie.spec (search needs) (search needs) returns returns-2)

@@ -13,18 +13,6 @@ use Rattle.gate.proofs.blocks.bins_from.Tie as tie
 returns : tie.Need-returns
 returns c = let a = c .before .before .args in (sym (bins-end (now (a .counters)) (onTopOf (a .sum)) (a .start) (omega arith)), omega arith)
 
-sub-first : tie.Need-sub-first
-sub-first c = search needs
-
-with-stretch-requires : tie.Need-with-stretch-requires
-with-stretch-requires c κs = search needs
-
-add-stretches-from : tie.Need-add-stretches-from
-add-stretches-from c = search needs
-
-stretches-from-requires : tie.Need-stretches-from-requires
-stretches-from-requires c κs = search needs
-
 returns-2 : tie.Need-returns-2
 returns-2 c =
     let a = c .before .before .before .before .args in
@@ -36,4 +24,4 @@ returns-2 c =
     )
 
 pub bins-from-spec : {M : Type 1} → statement M
-bins-from-spec = tie.close (tie.spec returns sub-first with-stretch-requires add-stretches-from stretches-from-requires returns-2)
+bins-from-spec = tie.close (tie.spec returns (search needs) (search needs) (search needs) (search needs) returns-2)

@@ -20,28 +20,10 @@ abbrev μ-loop : tie.MeasureT-loop
 loop-holds : tie.Need-loop-holds Inv-loop μ-loop
 loop-holds c = (omega arith, omega arith, omega arith)
 
-add-wide : tie.Need-add-wide Inv-loop μ-loop
-add-wide c = search needs
-
-mul-wide : tie.Need-mul-wide Inv-loop μ-loop
-mul-wide c = search needs
-
-shared-slice-read-wide : tie.Need-shared-slice-read-wide Inv-loop μ-loop
-shared-slice-read-wide c = search needs
-
-wide-requires : tie.Need-wide-requires Inv-loop μ-loop
-wide-requires c κs = search needs
-
 add-count : tie.Need-add-count Inv-loop μ-loop
 add-count c =
     let l = c .before .before .before in
     omega (arith, c .wide .ensures, l .before .shared-slice-known .given (l .before .before .args .first + l .loop .i))
-
-add-i : tie.Need-add-i Inv-loop μ-loop
-add-i c = search needs
-
-loop-less : tie.Need-loop-less Inv-loop μ-loop
-loop-less c = search needs
 
 loop-again : tie.Need-loop-again Inv-loop μ-loop
 loop-again c =
@@ -69,12 +51,12 @@ count-stretch-spec =
     Inv-loop
     μ-loop
     loop-holds
-    add-wide
-    mul-wide
-    shared-slice-read-wide
-    wide-requires
+    (search needs)
+    (search needs)
+    (search needs)
+    (search needs)
     add-count
-    add-i
-    loop-less
+    (search needs)
+    (search needs)
     loop-again
     returns)

@@ -18,24 +18,6 @@ returns c = let a = c .before .before .args in (sym (not-there (a .sum) (now (a 
 returns-2 : tie.Need-returns-2
 returns-2 c = let a = c .before .before .before .args in (sym (not-there (a .sum) (now (a .counters)) (a .start) (a .bin) (omega arith)), omega arith)
 
-add-end : tie.Need-add-end
-add-end c = search needs
-
-mul-bins-from : tie.Need-mul-bins-from
-mul-bins-from c = search needs
-
-sub-bins-from : tie.Need-sub-bins-from
-sub-bins-from c = search needs
-
-part-bins-from-start : tie.Need-part-bins-from-start
-part-bins-from-start c = search needs
-
-part-bins-from-end : tie.Need-part-bins-from-end
-part-bins-from-end c = search needs
-
-bins-from-requires : tie.Need-bins-from-requires
-bins-from-requires c κs = search needs
-
 returns-3 : tie.Need-returns-3
 returns-3 c =
     let a = c .before .before .before .before .before .args in (
@@ -51,10 +33,10 @@ from-bin-spec =
     (tie.spec
     returns
     returns-2
-    add-end
-    mul-bins-from
-    sub-bins-from
-    part-bins-from-start
-    part-bins-from-end
-    bins-from-requires
+    (search needs)
+    (search needs)
+    (search needs)
+    (search needs)
+    (search needs)
+    (search needs)
     returns-3)

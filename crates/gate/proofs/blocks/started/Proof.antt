@@ -7,17 +7,8 @@ use Rattle.gate.proofs.Nothing.{nothing-steady}
 use Rattle.gate.proofs.blocks.started.Statement.{statement}
 use Rattle.gate.proofs.blocks.started.Tie as tie
 
-all-energies-requires : tie.Need-all-energies-requires
-all-energies-requires c κs = search needs
-
 from-bin-requires : tie.Need-from-bin-requires
 from-bin-requires c κs = (c .before .all-energies .ensures, nothing-steady)
-
-nearest-u64-to-f64-requires : tie.Need-nearest-u64-to-f64-requires
-nearest-u64-to-f64-requires c κs = search needs
-
-start-in-requires : tie.Need-start-in-requires
-start-in-requires c κs = search needs
 
 returns : tie.Need-returns
 returns c =
@@ -28,4 +19,4 @@ returns c =
 
 pub started-spec : {M : Type 1} → statement M
 started-spec =
-    tie.close (tie.spec all-energies-requires from-bin-requires nearest-u64-to-f64-requires start-in-requires returns)
+    tie.close (tie.spec (search needs) from-bin-requires (search needs) (search needs) returns)

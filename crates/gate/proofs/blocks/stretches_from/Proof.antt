@@ -25,15 +25,6 @@ abbrev μ-loop : tie.MeasureT-loop
 loop-holds : tie.Need-loop-holds Inv-loop μ-loop
 loop-holds c = let p = c .before .pre in (p .2, p .3, p .4, p .5, refl)
 
-with-stretch-requires : tie.Need-with-stretch-requires Inv-loop μ-loop
-with-stretch-requires c κs = search needs
-
-add-first : tie.Need-add-first Inv-loop μ-loop
-add-first c = search needs
-
-loop-less : tie.Need-loop-less Inv-loop μ-loop
-loop-less c = search needs
-
 loop-again : tie.Need-loop-again Inv-loop μ-loop
 loop-again c =
     let l = c .before .before in
@@ -54,4 +45,4 @@ returns c =
     (sym (bins-end (now (a .counters)) (l .loop .totals) (l .loop .first) (omega arith)) ∙ l .loop .inv .4, omega (arith, l .loop .inv .2))
 
 pub stretches-from-spec : {M : Type 1} → statement M
-stretches-from-spec = tie.close (tie.spec Inv-loop μ-loop loop-holds with-stretch-requires add-first loop-less loop-again returns)
+stretches-from-spec = tie.close (tie.spec Inv-loop μ-loop loop-holds (search needs) (search needs) (search needs) loop-again returns)

@@ -9,9 +9,6 @@ use Rattle.gate.proofs.Stretches.{passed, carried}
 use Rattle.gate.proofs.blocks.with_stretch.Statement.{statement}
 use Rattle.gate.proofs.blocks.with_stretch.Tie as tie
 
-count-stretch-requires : tie.Need-count-stretch-requires
-count-stretch-requires c κs = search needs
-
 returns : tie.Need-returns
 returns c =
     let w = c .before .before .before in
@@ -23,12 +20,6 @@ returns c =
       omega (arith, w .pre .4),
       w .pre .5,
     )
-
-add-t8 : tie.Need-add-t8
-add-t8 c = search needs
-
-add-stretch-requires : tie.Need-add-stretch-requires
-add-stretch-requires c κs = search needs
 
 returns-2 : tie.Need-returns-2
 returns-2 c =
@@ -42,4 +33,4 @@ returns-2 c =
     )
 
 pub with-stretch-spec : {M : Type 1} → statement M
-with-stretch-spec = tie.close (tie.spec count-stretch-requires returns add-t8 add-stretch-requires returns-2)
+with-stretch-spec = tie.close (tie.spec (search needs) returns (search needs) (search needs) returns-2)

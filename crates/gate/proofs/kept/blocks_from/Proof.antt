@@ -26,15 +26,6 @@ abbrev μ-loop : tie.MeasureT-loop
 loop-holds : tie.Need-loop-holds Inv-loop μ-loop
 loop-holds c = (omega arith, omega arith, omega arith, refl)
 
-mul-kept-blocks : tie.Need-mul-kept-blocks Inv-loop μ-loop
-mul-kept-blocks c = search needs
-
-shared-slice-read-kept-blocks : tie.Need-shared-slice-read-kept-blocks Inv-loop μ-loop
-shared-slice-read-kept-blocks c = search needs
-
-kept-blocks-requires : tie.Need-kept-blocks-requires Inv-loop μ-loop
-kept-blocks-requires c κs = search needs
-
 -- a block at most
 few : (c : tie.After-kept-blocks Inv-loop μ-loop) → c .kept-blocks .result ≤ 1
 few c =
@@ -44,12 +35,6 @@ few c =
 
 add-count : tie.Need-add-count Inv-loop μ-loop
 add-count c = omega (arith, few c)
-
-add-i : tie.Need-add-i Inv-loop μ-loop
-add-i c = search needs
-
-loop-less : tie.Need-loop-less Inv-loop μ-loop
-loop-less c = search needs
 
 loop-again : tie.Need-loop-again Inv-loop μ-loop
 loop-again c =
@@ -76,11 +61,11 @@ blocks-from-spec =
     Inv-loop
     μ-loop
     loop-holds
-    mul-kept-blocks
-    shared-slice-read-kept-blocks
-    kept-blocks-requires
+    (search needs)
+    (search needs)
+    (search needs)
     add-count
-    add-i
-    loop-less
+    (search needs)
+    (search needs)
     loop-again
     returns)

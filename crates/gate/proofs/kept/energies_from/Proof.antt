@@ -23,21 +23,6 @@ abbrev μ-loop : tie.MeasureT-loop
 loop-holds : tie.Need-loop-holds Inv-loop μ-loop
 loop-holds c = (omega arith, omega arith, refl)
 
-mul-kept-energy : tie.Need-mul-kept-energy Inv-loop μ-loop
-mul-kept-energy c = search needs
-
-shared-slice-read-kept-energy : tie.Need-shared-slice-read-kept-energy Inv-loop μ-loop
-shared-slice-read-kept-energy c = search needs
-
-kept-energy-requires : tie.Need-kept-energy-requires Inv-loop μ-loop
-kept-energy-requires c κs = search needs
-
-add-i : tie.Need-add-i Inv-loop μ-loop
-add-i c = search needs
-
-loop-less : tie.Need-loop-less Inv-loop μ-loop
-loop-less c = search needs
-
 loop-again : tie.Need-loop-again Inv-loop μ-loop
 loop-again c =
     let l = c .before .before .before in
@@ -62,10 +47,10 @@ energies-from-spec =
     Inv-loop
     μ-loop
     loop-holds
-    mul-kept-energy
-    shared-slice-read-kept-energy
-    kept-energy-requires
-    add-i
-    loop-less
+    (search needs)
+    (search needs)
+    (search needs)
+    (search needs)
+    (search needs)
     loop-again
     returns)

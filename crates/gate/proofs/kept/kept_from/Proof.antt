@@ -8,12 +8,6 @@ use Rattle.gate.proofs.Keeping.{together}
 use Rattle.gate.proofs.kept.kept_from.Statement.{statement}
 use Rattle.gate.proofs.kept.kept_from.Tie as tie
 
-blocks-from-requires : tie.Need-blocks-from-requires
-blocks-from-requires c κs = search needs
-
-energies-from-requires : tie.Need-energies-from-requires
-energies-from-requires c κs = search needs
-
 returns : tie.Need-returns
 returns c =
     let blocks = c .before .blocks-from .ensures in
@@ -24,4 +18,4 @@ returns c =
     )
 
 pub kept-from-spec : {M : Type 1} → statement M
-kept-from-spec = tie.close (tie.spec blocks-from-requires energies-from-requires returns)
+kept-from-spec = tie.close (tie.spec (search needs) (search needs) returns)

@@ -13,9 +13,6 @@ within c =
     let a = c .before .before .args in
     parts-within (a .queue) (a .start) (length (now (a .energies))) (c .parts .result) (c .parts .ensures)
 
-parts-requires : tie.Need-parts-requires
-parts-requires c κs = search needs
-
 kept-from-requires : tie.Need-kept-from-requires
 kept-from-requires c κs = let w = within c in (w .older, w .inside, omega (arith, w .few))
 
@@ -31,4 +28,4 @@ returns c =
     (older .ensures .0) (c .kept-from2 .ensures .0)
 
 pub of-queue-spec : {M : Type 1} → statement M
-of-queue-spec = tie.close (tie.spec parts-requires kept-from-requires kept-from-requires-2 returns)
+of-queue-spec = tie.close (tie.spec (search needs) kept-from-requires kept-from-requires-2 returns)

@@ -24,23 +24,8 @@ Inv-loop energies from until least sound₀ sum₀ i₀ sound sum i =
 abbrev μ-loop : tie.MeasureT-loop
 μ-loop energies from until least sound₀ sum₀ i₀ sound sum i = until - i
 
-lowest-boundary-requires : tie.Need-lowest-boundary-requires Inv-loop μ-loop
-lowest-boundary-requires c κs = search needs
-
 loop-holds : tie.Need-loop-holds Inv-loop μ-loop
 loop-holds c = (omega arith, refl, refl)
-
-mul-energy : tie.Need-mul-energy Inv-loop μ-loop
-mul-energy c = search needs
-
-shared-slice-read-energy : tie.Need-shared-slice-read-energy Inv-loop μ-loop
-shared-slice-read-energy c = search needs
-
-add-i : tie.Need-add-i Inv-loop μ-loop
-add-i c = search needs
-
-loop-less : tie.Need-loop-less Inv-loop μ-loop
-loop-less c = search needs
 
 loop-again : tie.Need-loop-again Inv-loop μ-loop
 loop-again c =
@@ -70,11 +55,11 @@ look-spec =
     (tie.spec
     Inv-loop
     μ-loop
-    lowest-boundary-requires
+    (search needs)
     loop-holds
-    mul-energy
-    shared-slice-read-energy
-    add-i
-    loop-less
+    (search needs)
+    (search needs)
+    (search needs)
+    (search needs)
     loop-again
     returns)

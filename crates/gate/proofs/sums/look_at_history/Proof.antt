@@ -15,14 +15,8 @@ use Rattle.gate.proofs.Looking.{queue-totals}
 use Rattle.gate.proofs.sums.look_at_history.Statement.{statement}
 use Rattle.gate.proofs.sums.look_at_history.Tie as tie
 
-enum-known-shape : tie.Need-enum-known-shape
-enum-known-shape c = search needs
-
 from-bin-requires : tie.Need-from-bin-requires
 from-bin-requires c κs = (c .before .before .before .before .before .pre .0, nothing-steady)
-
-enum-known-shape-2 : tie.Need-enum-known-shape-2
-enum-known-shape-2 c = search needs
 
 look-at-queue-requires : tie.Need-look-at-queue-requires
 look-at-queue-requires c κs =
@@ -68,9 +62,9 @@ pub look-at-history-spec : {M : Type 1} → statement M
 look-at-history-spec =
     tie.close
     (tie.spec
-    enum-known-shape
+    (search needs)
     from-bin-requires
-    enum-known-shape-2
+    (search needs)
     look-at-queue-requires
     returns
     returns-2)

@@ -16,12 +16,6 @@ within c =
     let a = c .before .before .before .before .args in
     parts-within (a .queue) (a .start) (length (now (a .energies))) (c .parts .result) (c .parts .ensures)
 
-suits-requires : tie.Need-suits-requires
-suits-requires c κs = search needs
-
-parts-requires : tie.Need-parts-requires
-parts-requires c κs = search needs
-
 look-requires : tie.Need-look-requires
 look-requires c κs = let w = within c in (w .older, w .inside)
 
@@ -50,4 +44,4 @@ returns-2 c =
 pub look-at-queue-spec : {M : Type 1} → statement M
 look-at-queue-spec =
     tie.close
-    (tie.spec suits-requires parts-requires look-requires look-requires-2 returns returns-2)
+    (tie.spec (search needs) (search needs) look-requires look-requires-2 returns returns-2)

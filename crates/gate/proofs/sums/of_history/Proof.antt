@@ -26,12 +26,6 @@ sound-is c =
     let a = c .before .before .before .before .before .args in
     history-sound (a .entry) (now (a .counters)) (now (a .energies)) ∙ sym (c .look-at-history .ensures .0)
 
-outside-requires : tie.Need-outside-requires
-outside-requires c κs = search needs
-
-refuse-requires : tie.Need-refuse-requires
-refuse-requires c κs = search needs
-
 returns : tie.Need-returns
 returns c =
     let t = c .before in
@@ -52,9 +46,6 @@ returns-2 c =
       whole = λ _. s .look-at-history .ensures .1 (t .if2 .taken) .0;
     }
 
-refuse-requires-2 : tie.Need-refuse-requires-2
-refuse-requires-2 c κs = search needs
-
 returns-3 : tie.Need-returns-3
 returns-3 c =
     let e = c .before in
@@ -65,10 +56,10 @@ pub of-history-spec : {M : Type 1} → statement M
 of-history-spec =
     tie.close
     (tie.spec
-    outside-requires
-    refuse-requires
+    (search needs)
+    (search needs)
     returns
     look-at-history-requires
     returns-2
-    refuse-requires-2
+    (search needs)
     returns-3)

@@ -51,12 +51,6 @@ there c = omega (arith, within c .0)
 abbrev so-far : tie.At-loop Inv-loop μ-loop → Totals
 so-far l = record { count = l .loop .blocks; sum = l .loop .sum }
 
-outside-set-requires : tie.Need-outside-set-requires Inv-loop μ-loop
-outside-set-requires c κs = search needs
-
-refuse-requires : tie.Need-refuse-requires Inv-loop μ-loop
-refuse-requires c κs = search needs
-
 returns : tie.Need-returns Inv-loop μ-loop
 returns c =
     let t = c .before in
@@ -86,9 +80,6 @@ add-blocks c = let t = c .before in omega (arith, within (t .before .before .bef
 add-i : tie.Need-add-i Inv-loop μ-loop
 add-i c = omega (arith, within (c .before .before .before .before .before .before .before) .0)
 
-loop-less : tie.Need-loop-less Inv-loop μ-loop
-loop-less c = search needs
-
 loop-again : tie.Need-loop-again Inv-loop μ-loop
 unfolding allTotals
 loop-again c =
@@ -105,9 +96,6 @@ loop-again c =
           ∙ sym (ap (allTotals (so-far l)) (shows-next (h .counters) (h .energies) (h .entries) (h .count) (l .loop .i) (omega arith) (omega (arith, few))))
           ∙ l .loop .inv .3,
     )
-
-refuse-requires-2 : tie.Need-refuse-requires-2 Inv-loop μ-loop
-refuse-requires-2 c κs = search needs
 
 returns-2 : tie.Need-returns-2 Inv-loop μ-loop
 returns-2 c =
@@ -135,8 +123,8 @@ of-set-spec =
     (tie.spec
     Inv-loop
     μ-loop
-    outside-set-requires
-    refuse-requires
+    (search needs)
+    (search needs)
     returns
     loop-holds
     mul-entry
@@ -144,8 +132,8 @@ of-set-spec =
     look-at-history-requires
     add-blocks
     add-i
-    loop-less
+    (search needs)
     loop-again
-    refuse-requires-2
+    (search needs)
     returns-2
     returns-3)

@@ -14,16 +14,10 @@ the-lowest = refl
 returns : tie.Need-returns
 returns c = rw (the-lowest, eq-eqb (c .before .before .args .totals .count) 0 (c .if1 .taken))
 
-is-nan-requires : tie.Need-is-nan-requires
-is-nan-requires c κs = search needs
-
 returns-2 : tie.Need-returns-2
 returns-2 c =
     let z = c .before .before in
     rw (ne-eqb (z .before .before .args .totals .count) 0 (z .if1 .left), sym (c .before .is-nan .ensures) ∙ c .if2 .taken)
-
-threshold-of-requires : tie.Need-threshold-of-requires
-threshold-of-requires c κs = search needs
 
 returns-3 : tie.Need-returns-3
 returns-3 c =
@@ -32,4 +26,4 @@ returns-3 c =
     rw (c .threshold-of .ensures, ne-eqb (z .before .before .args .totals .count) 0 (z .if1 .left), sym (n .before .is-nan .ensures) ∙ n .if2 .left)
 
 pub level-spec : {M : Type 1} → statement M
-level-spec = tie.close (tie.spec returns is-nan-requires returns-2 threshold-of-requires returns-3)
+level-spec = tie.close (tie.spec returns (search needs) returns-2 (search needs) returns-3)

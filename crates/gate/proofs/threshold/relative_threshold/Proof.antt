@@ -20,20 +20,11 @@ blocks c = let a = c .before .before .before .before .before .args in totalsOf (
 abbrev rows : tie.After-of-history → List Row
 rows c = let a = c .before .before .before .before .before .args in setRows (alone (a .entry) (now (a .counters)) (now (a .energies)))
 
-all-energies-requires : tie.Need-all-energies-requires
-all-energies-requires c κs = search needs
-
-of-history-requires : tie.Need-of-history-requires
-of-history-requires c κs = search needs
-
 returns : tie.Need-returns
 unfolding relativeOf
 returns c =
     let s = c .before in
     stopped-first (answers (levelOf (blocks s))) (rows s) (levelRows (blocks s)) tt (s .of-history .result .refusal) (s .of-history .ensures .first) (c .if1 .taken) .says
-
-level-requires : tie.Need-level-requires
-level-requires c κs = search needs
 
 returns-2 : tie.Need-returns-2
 unfolding relativeOf
@@ -45,4 +36,4 @@ returns-2 c =
     ∙ sym (ap saidBy (goes-on (answers (levelOf (blocks s))) (rows s) (levelRows (blocks s)) (sym (s .of-history .ensures .first) ∙ e .if1 .left)))
 
 pub relative-threshold-spec : {M : Type 1} → statement M
-relative-threshold-spec = tie.close (tie.spec all-energies-requires of-history-requires returns level-requires returns-2)
+relative-threshold-spec = tie.close (tie.spec (search needs) (search needs) returns (search needs) returns-2)

@@ -10,11 +10,8 @@ the-tenth : ofBits binary64 0x3fb9_9999_9999_999a ≡ tenth
 unfolding tenth ofBits round
 the-tenth = refl
 
-nearest-u64-to-f64-requires : tie.Need-nearest-u64-to-f64-requires
-nearest-u64-to-f64-requires c κs = search needs
-
 returns : tie.Need-returns
 returns c = rw (the-tenth, c .before .nearest-u64-to-f64 .ensures)
 
 pub threshold-of-spec : {M : Type 1} → statement M
-threshold-of-spec = tie.close (tie.spec nearest-u64-to-f64-requires returns)
+threshold-of-spec = tie.close (tie.spec (search needs) returns)

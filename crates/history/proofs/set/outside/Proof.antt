@@ -7,17 +7,11 @@ use Rattle.history.proofs.Entries.{past, left, histogram-outside, queue
 use Rattle.history.proofs.set.outside.Statement.{statement}
 use Rattle.history.proofs.set.outside.Tie as tie
 
-enum-known-shape : tie.Need-enum-known-shape
-enum-known-shape c = search needs
-
 returns : tie.Need-returns
 returns c =
     let s = c .before .before in
     let a = s .before .before .args in
     sym (histogram-outside (a .counters) (a .energies) (a .entry) (s .shape .given .0 .0) (s .shape .given .1) ∙ past (a .counters) (s .shape .given .0 .0) bins (c .if1 .taken))
-
-enum-known-shape-2 : tie.Need-enum-known-shape-2
-enum-known-shape-2 c = search needs
 
 returns-2 : tie.Need-returns-2
 returns-2 c =
@@ -43,4 +37,4 @@ returns-4 c =
 
 pub outside-spec : {M : Type 1} → statement M
 outside-spec =
-    tie.close (tie.spec enum-known-shape returns enum-known-shape-2 returns-2 returns-3 returns-4)
+    tie.close (tie.spec (search needs) returns (search needs) returns-2 returns-3 returns-4)

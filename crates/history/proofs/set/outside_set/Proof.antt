@@ -14,11 +14,8 @@ given c = histories (c .args .entries) (c .args .count) (now (c .args .counters)
 returns : tie.Need-returns
 returns c = sym (too-many (given (c .before .before .before)) (c .if1 .taken))
 
-any-outside-requires : tie.Need-any-outside-requires
-any-outside-requires c κs = search needs
-
 returns-2 : tie.Need-returns-2
 returns-2 c = c .any-outside .ensures ∙ sym (not-too-many (given (c .before .before .before .before)) (c .before .if1 .left))
 
 pub outside-set-spec : {M : Type 1} → statement M
-outside-set-spec = tie.close (tie.spec returns any-outside-requires returns-2)
+outside-set-spec = tie.close (tie.spec returns (search needs) returns-2)
