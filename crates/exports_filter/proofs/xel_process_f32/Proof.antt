@@ -1,7 +1,7 @@
 -- `exports_filter::xel_process_f32` meets its contract: the filter is that of the numbers and arrays, its samples are those of this kind, and what the call comes to is told. Assumes nothing.
 use denote.Ref.{now}
 use borrow.Author.Needs.{needs}
-use Rattle.samples.specs.Kinds.{Samples, f32s, lent}
+use Rattle.samples.specs.Kinds.{f32s, lent}
 use Rattle.filter.specs.Filter.{resting, withArrays}
 use Rattle.filter.specs.Call.{Call, Kept}
 use Rattle.filter.specs.Process.{processed}
@@ -16,17 +16,20 @@ returns c =
     let called = c .before .before .before in
     let on = called .before .before .before .before .before .before .before in
     let a = on .before .before .before .before .args in
-    let asked : Samples → Call = λ x. record {
-      filter =
-          withArrays (resting (a .channels) (a .rate) (switchesOf (a .on)) (record { a = now (a .a); b = now (a .b) }))
-          (record { state = now (a .state); peaks = now (a .peaks); memory = now (a .memory); truePeaks = now (a .true-peaks) });
-      samples = x;
-      map = now (a .map);
-      dest = now (a .dest);
-      start = a .start;
-    } in
-    let h = rw (on .switches-of .ensures) at (called .process-lent .ensures) in
-    told processed (λ (k : Kept). k) asked (called .process-lent .result) (c .number-of .ensures) (f32s (now (a .«data»))) h
+    let filter =
+    withArrays (resting (a .channels) (a .rate) (switchesOf (a .on)) (record { a = now (a .a); b = now (a .b) }))
+    (record { state = now (a .state); peaks = now (a .peaks); memory = now (a .memory); truePeaks = now (a .true-peaks) }) in
+    let call : Call = record { filter = filter; samples = f32s (now (a .«data»)); map = now (a .map); dest = now (a .dest); start = a .start } in
+    told processed (λ (k : Kept). k) (called .process-lent .result) (c .number-of .ensures) call
+    (rw (on .switches-of .ensures) at (called .process-lent .ensures))
 
 pub xel-process-f32-spec : {M : Type 1} → statement M
-xel-process-f32-spec = tie.close (tie.spec (search needs) (search needs) (search needs) (search needs) (search needs) returns)
+xel-process-f32-spec =
+    tie.close
+    (tie.spec
+    (λ c κs. search needs)
+    (λ c. search needs)
+    (λ c κs. search needs)
+    (λ c κs. search needs)
+    (λ c. search needs)
+    returns)

@@ -2,9 +2,9 @@
 use denote.Ref.{now}
 use borrow.Author.Needs.{needs}
 use lib.Ieee.{ofBits}
-use Rattle.samples.specs.Kinds.{Samples, f32s, lent}
+use Rattle.samples.specs.Kinds.{f32s, lent}
 use Rattle.filter.specs.Filter.{noPeaks, resting, withArrays}
-use Rattle.filter.specs.Call.{Call, seedOf, Kept}
+use Rattle.filter.specs.Call.{seedOf, Kept}
 use Rattle.filter.specs.Seed.{seeded}
 use Rattle.exports_filter.specs.Switches.{switchesOf}
 use Rattle.exports_filter.proofs.Told.{told}
@@ -17,12 +17,12 @@ returns c =
     let called = c .before in
     let on = called .before .before .before .before .before .before in
     let a = on .before .before .before .args in
-    let asked : Samples → Call = λ x. seedOf
-    (withArrays (resting (a .channels) (a .rate) (switchesOf (a .on)) (record { a = now (a .a); b = now (a .a) }))
-    (record { state = now (a .state); peaks = noPeaks; memory = now (a .memory); truePeaks = noPeaks }))
-    x (now (a .map)) in
-    let h = rw (on .switches-of .ensures) at (called .seed-lent .ensures) in
-    told seeded (λ (k : Kept). k .filter) asked (called .seed-lent .result) (c .number-of .ensures) (f32s (now (a .«data»))) h
+    let filter =
+    withArrays (resting (a .channels) (a .rate) (switchesOf (a .on)) (record { a = now (a .a); b = now (a .a) }))
+    (record { state = now (a .state); peaks = noPeaks; memory = now (a .memory); truePeaks = noPeaks }) in
+    let call = seedOf filter (f32s (now (a .«data»))) (now (a .map)) in
+    told seeded (λ (k : Kept). k .filter) (called .seed-lent .result) (c .number-of .ensures) call
+    (rw (on .switches-of .ensures) at (called .seed-lent .ensures))
 
 pub xel-seed-f32-spec : {M : Type 1} → statement M
-xel-seed-f32-spec = tie.close (tie.spec (search needs) (search needs) (search needs) (search needs) returns)
+xel-seed-f32-spec = tie.close (tie.spec (λ c κs. search needs) (λ c. search needs) (λ c κs. search needs) (λ c κs. search needs) returns)
