@@ -1,2 +1,0 @@
-pub mod GatedEnergy
-pub mod Inner

@@ -1,3 +1,0 @@
-pub mod Checking
-pub mod Reading
-pub mod Answers

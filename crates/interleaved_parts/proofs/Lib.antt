@@ -1,2 +1,0 @@
-pub mod Splitting
-pub mod Parts

@@ -1,3 +1,0 @@
-pub mod Adding
-pub mod Newest
-pub mod Fed

@@ -1,4 +1,0 @@
-pub mod Standing
-pub mod Looking
-pub mod Copying
-pub mod Answers

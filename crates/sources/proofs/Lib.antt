@@ -1,4 +1,0 @@
-pub mod Stores
-pub mod ByKind
-pub mod Reaching
-pub mod Cutting

@@ -1,4 +1,0 @@
-pub mod Each
-pub mod Memories
-pub mod Runs
-pub mod Alone
