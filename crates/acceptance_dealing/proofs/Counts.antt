@@ -9,11 +9,11 @@ use borrow.Author.Tests.{eq-eqb, ne-eqb}
 use lib.Dec.{eqb}
 use lib.ListN.{length}
 use lib.Ieee.{Float}
-use Rattle.histogram_bins.specs.Bin.{binOf}
-use Rattle.histogram_bins.proofs.Bins.{bin-below}
-use Rattle.histogram_bins.specs.Energy.{dropped}
-use Rattle.rising_order.specs.Arrangement.{Reordered, unmoved, under, swap, after}
-use Rattle.histogram_range.specs.Counted.{blocksIn}
+use Rattle.bins.specs.Bin.{binOf}
+use Rattle.bins.proofs.Bins.{bin-below}
+use Rattle.bins.specs.Energy.{dropped}
+use Rattle.order_rules.specs.Arrangement.{Reordered, unmoved, under, swap, after}
+use Rattle.range_histograms.specs.Counted.{blocksIn}
 use Rattle.acceptance_dealing.specs.Dealing.{countIn, isIn, tally, countersOf, droppedOf, inOneRun}
 use Rattle.acceptance_dealing.proofs.Tallies.{tally-blocks-zero, tally-blocks-sum, tally-blocks-one, tally-same}
 

@@ -6,12 +6,12 @@ use Prim.Native.Nat.{ℕ, _≤_, _<_}
 use native.Mathlib.Omega.{arith}
 use lib.ListN.{length, getD}
 use lib.Ieee.{Float}
-use Rattle.refusals.specs.Outcome.{Outcome, went, NoValues, done, keptBy}
-use Rattle.histogram_bins.specs.Bin.{bins}
-use Rattle.histogram.specs.Histogram.{largestCount, empty}
-use Rattle.history.specs.Set.{mostHistories, Histories}
-use Rattle.rising_order.proofs.Perms.{perm-length}
-use Rattle.histogram_range.specs.Counted.{countedSpan, blocksIn}
+use Rattle.base_refusals.specs.Outcome.{Outcome, went, NoValues, done, keptBy}
+use Rattle.bins.specs.Bin.{bins}
+use Rattle.history_histogram.specs.Histogram.{largestCount, empty}
+use Rattle.history_set.specs.Set.{mostHistories, Histories}
+use Rattle.order_rules.proofs.Perms.{perm-length}
+use Rattle.range_histograms.specs.Counted.{countedSpan, blocksIn}
 use Rattle.range.specs.Range.{rangeOf}
 use Rattle.acceptance_dealing.specs.Dealing.{countIn, countersOf, Plan, fresh, filled, run, storeOf, storesOf, energiesOf, inOneRun, Dealt, Asks, ForEach, rangeOfBins, Demand3}
 use Rattle.acceptance_dealing.proofs.Tallies.{tally-length, tally-at, tally-same}

@@ -11,14 +11,14 @@ use borrow.Author.Tests.{le-leb}
 use lib.ListN.{length, getD, length-set}
 use lib.Seq.{getD-set-same, getD-set-other}
 use lib.Ieee.{Float}
-use Rattle.refusals.specs.Outcome.{Outcome, went, NoValues, done}
-use Rattle.histogram_bins.specs.Bin.{bins, binOf}
-use Rattle.histogram_bins.proofs.Bins.{bin-below}
-use Rattle.histogram_bins.specs.Energy.{dropped}
-use Rattle.histogram.specs.Histogram.{largestCount, oneMore, addTo}
-use Rattle.histogram_merge.specs.Merge.{room, mergeInto}
-use Rattle.histogram.proofs.Counters.{add-dropped, add-went}
-use Rattle.histogram_merge.proofs.Cases.{merge-went}
+use Rattle.base_refusals.specs.Outcome.{Outcome, went, NoValues, done}
+use Rattle.bins.specs.Bin.{bins, binOf}
+use Rattle.bins.proofs.Bins.{bin-below}
+use Rattle.bins.specs.Energy.{dropped}
+use Rattle.history_histogram.specs.Histogram.{largestCount, oneMore, addTo}
+use Rattle.history_histogram.specs.Merge.{room, mergeInto}
+use Rattle.history_histogram.proofs.Counters.{add-dropped, add-went}
+use Rattle.history_histogram.proofs.Cases.{merge-went}
 use Rattle.acceptance_dealing.specs.Dealing.{countIn, tally, next, addEach, Plan, fresh, filled, merged, run, energiesOf}
 use Rattle.acceptance_dealing.proofs.Tallies.{tally-length, tally-at, tally-empty, tally-sums, tally-is, tally-same}
 use Rattle.acceptance_dealing.proofs.Counts.{one, one-dropped, one-there, one-elsewhere, count-append}

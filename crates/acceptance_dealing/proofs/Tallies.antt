@@ -6,9 +6,9 @@ use native.Mathlib.Nat.{le-of-suc-le-suc, not-suc-le-zero}
 use native.Mathlib.Omega.{arith}
 use lib.ListN.{length, getD, replicate}
 use lib.Seq.{ext-getD}
-use Rattle.histogram_bins.specs.Bin.{bins}
-use Rattle.histogram.specs.Histogram.{empty, sums}
-use Rattle.histogram_range.specs.Counted.{blocksIn}
+use Rattle.bins.specs.Bin.{bins}
+use Rattle.history_histogram.specs.Histogram.{empty, sums}
+use Rattle.range_histograms.specs.Counted.{blocksIn}
 use Rattle.acceptance_dealing.specs.Dealing.{table, tally}
 
 -- ---- tables

@@ -8,14 +8,14 @@ use native.Mathlib.Omega.{arith}
 use borrow.Author.Tests.{le-ltb}
 use lib.ListN.{length}
 use lib.Ieee.{Float}
-use Rattle.refusals.specs.Outcome.{went}
-use Rattle.histogram_bins.specs.Bin.{bins}
-use Rattle.histogram.specs.Histogram.{empty}
-use Rattle.refusals.specs.Rows.{numberOf}
-use Rattle.history.specs.declared.set.Entry.{Entry}
-use Rattle.history.specs.Set.{mostHistories, History, counted, Histories, chosen, allShow, historiesOf, anyOutside, allSound, setRows}
-use Rattle.history.proofs.Rows.{all-well, not-too-many}
-use Rattle.histogram_range.specs.Counted.{addedTo, countedSpan}
+use Rattle.base_refusals.specs.Outcome.{went}
+use Rattle.bins.specs.Bin.{bins}
+use Rattle.history_histogram.specs.Histogram.{empty}
+use Rattle.base_refusals.specs.Rows.{numberOf}
+use Rattle.history_set.specs.declared.set.Entry.{Entry}
+use Rattle.history_set.specs.Set.{mostHistories, History, counted, Histories, chosen, allShow, historiesOf, anyOutside, allSound, setRows}
+use Rattle.history_set.proofs.Rows.{all-well, not-too-many}
+use Rattle.range_histograms.specs.Counted.{addedTo, countedSpan}
 use Rattle.range.specs.Range.{queuesIn, rangeOf}
 use Rattle.range.proofs.Answers.{range-counted}
 use Rattle.acceptance_dealing.specs.Dealing.{countIn, tally, countersOf, inOneRun, AllStand, Asks}

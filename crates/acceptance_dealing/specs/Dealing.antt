@@ -11,17 +11,17 @@ use mathlib.Core.List.{List, [], _∷_, _++_}
 use lib.Dec.{eqb}
 use lib.ListN.{length, getD}
 use lib.Ieee.{Float}
-use Rattle.refusals.specs.Outcome.{Outcome, went, refused, NoValues, done, keptBy}
-use Rattle.histogram_bins.specs.Bin.{bins, binOf}
-use Rattle.histogram_bins.specs.Energy.{dropped}
-use Rattle.histogram.specs.Histogram.{empty, addTo}
-use Rattle.histogram_merge.specs.Merge.{mergeInto}
-use Rattle.history.specs.declared.set.Entry.{Entry}
-use Rattle.history.specs.declared.set.Shape.the-variants.{Histogram}
-use Rattle.history.specs.Set.{Histories, chosen, countersAt}
-use Rattle.rising_order.specs.Arrangement.{Reordered}
-use Rattle.spans.specs.Span.{Span}
-use Rattle.histogram_range.specs.Counted.{countedSpan, blocksIn}
+use Rattle.base_refusals.specs.Outcome.{Outcome, went, refused, NoValues, done, keptBy}
+use Rattle.bins.specs.Bin.{bins, binOf}
+use Rattle.bins.specs.Energy.{dropped}
+use Rattle.history_histogram.specs.Histogram.{empty, addTo}
+use Rattle.history_histogram.specs.Merge.{mergeInto}
+use Rattle.history_set.specs.declared.set.Entry.{Entry}
+use Rattle.history_set.specs.declared.set.Shape.the-variants.{Histogram}
+use Rattle.history_set.specs.Set.{Histories, chosen, countersAt}
+use Rattle.order_rules.specs.Arrangement.{Reordered}
+use Rattle.range_ranks.specs.Span.{Span}
+use Rattle.range_histograms.specs.Counted.{countedSpan, blocksIn}
 use Rattle.range.specs.Range.{rangeOf}
 
 -- ---- the list's bins

@@ -7,14 +7,14 @@ use Prim.Native.Nat.{ℕ, suc, _+_, _*_, _≤_, _<_, zero-le}
 use native.Mathlib.Omega.{arith}
 use lib.ListN.{length, getD, take, drop, length-take, length-append, replicate}
 use lib.Ieee.{Float}
-use Rattle.refusals.specs.Rows.{numberOf}
-use Rattle.histogram_bins.specs.Bin.{bins}
-use Rattle.histogram.specs.Histogram.{largestCount, empty, sums}
-use Rattle.queue.specs.Queue.{longest, suits, heldOf}
-use Rattle.history.specs.declared.set.Entry.{Entry}
-use Rattle.history.specs.declared.set.Shape.{Shape}
-use Rattle.history.specs.declared.set.Shape.the-variants.{Histogram, Queue as Queue-at}
-use Rattle.history.specs.Set.{
+use Rattle.base_refusals.specs.Rows.{numberOf}
+use Rattle.bins.specs.Bin.{bins}
+use Rattle.history_histogram.specs.Histogram.{largestCount, empty, sums}
+use Rattle.history_queue.specs.Queue.{longest, suits, heldOf}
+use Rattle.history_set.specs.declared.set.Entry.{Entry}
+use Rattle.history_set.specs.declared.set.Shape.{Shape}
+use Rattle.history_set.specs.declared.set.Shape.the-variants.{Histogram, Queue as Queue-at}
+use Rattle.history_set.specs.Set.{
   mostHistories,
   Histories,
   historiesOf,
@@ -29,17 +29,17 @@ use Rattle.history.specs.Set.{
   allSound,
   setRows,
 }
-use Rattle.queue.proofs.Ring.{suited}
-use Rattle.queue.proofs.Held.{held-count}
-use Rattle.history.proofs.Entries.{both}
-use Rattle.history.proofs.Rows.{kept}
-use Rattle.ranks.specs.Ranks.{lowRank, highRank, rankInFloats, lowShare, highShare, exactBelow}
-use Rattle.ranks.proofs.InFloats.{low-rank-is-the-rust's, high-rank-is-the-rust's}
-use Rattle.histogram_range.specs.Counted.{withHistory, addedTo, blocksIn}
-use Rattle.queue_range.specs.Listed.{heldBy, allHeld}
-use Rattle.histogram_range.specs.Counted.{AtMost, mostInBin}
-use Rattle.histogram_range.proofs.Adding.{sums-length, sums-most, part-most, zeros-length, zeros-most}
-use Rattle.histogram_range.proofs.Counting.{blocks-all-most}
+use Rattle.history_queue.proofs.Ring.{suited}
+use Rattle.history_queue.proofs.Held.{held-count}
+use Rattle.history_set.proofs.Entries.{both}
+use Rattle.history_set.proofs.Rows.{kept}
+use Rattle.range_ranks.specs.Ranks.{lowRank, highRank, rankInFloats, lowShare, highShare, exactBelow}
+use Rattle.range_ranks.proofs.InFloats.{low-rank-is-the-rust's, high-rank-is-the-rust's}
+use Rattle.range_histograms.specs.Counted.{withHistory, addedTo, blocksIn}
+use Rattle.range_queues.specs.Listed.{heldBy, allHeld}
+use Rattle.range_histograms.specs.Counted.{AtMost, mostInBin}
+use Rattle.range_histograms.proofs.Adding.{sums-length, sums-most, part-most, zeros-length, zeros-most}
+use Rattle.range_histograms.proofs.Counting.{blocks-all-most}
 
 -- the two ranks of an n, as the Rust works them
 abbrev pub AsTheRust : ℕ → Type 0

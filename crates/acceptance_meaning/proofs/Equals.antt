@@ -9,8 +9,8 @@ use borrow.Author.Tests.{ltb-true, ltb-false, eq-eqb, not-true}
 use lib.Dec.{T, eqb, ltb}
 use lib.Ieee.{Float, nan, inf, fin, up, down, below, level, lt, eq, isNan}
 use lib.Ieee.Positive.{positive}
-use Rattle.tables.proofs.Rules.{boundary-positive}
-use Rattle.history.proofs.Entries.{both}
+use Rattle.bins_tables.proofs.Rules.{boundary-positive}
+use Rattle.history_set.proofs.Entries.{both}
 use Rattle.acceptance_meaning.specs.Levels.{absoluteGate}
 use Rattle.acceptance_meaning.specs.Bs1770.{
   strict,

@@ -3,14 +3,14 @@ use mathlib.Core.Path.{_≡_, refl, sym, ap, _∙_}
 use mathlib.Core.List.{List, [], _∷_}
 use Prim.Native.Nat.{ℕ}
 use lib.Ieee.{Float}
-use Rattle.refusals.specs.Outcome.{answers}
-use Rattle.refusals.proofs.Behind.{goes-on, made-of}
-use Rattle.history.specs.declared.set.Entry.{Entry}
-use Rattle.history.specs.Set.{History, Histories, historiesOf, shows, allShow, setRows}
+use Rattle.base_refusals.specs.Outcome.{answers}
+use Rattle.base_refusals.proofs.Behind.{goes-on, made-of}
+use Rattle.history_set.specs.declared.set.Entry.{Entry}
+use Rattle.history_set.specs.Set.{History, Histories, historiesOf, shows, allShow, setRows}
 use Rattle.gate.specs.Sums.{totalsOf, allOf, alone}
 use Rattle.gate.specs.Relative.{levelOf, levelRows, relativeOf}
 use Rattle.gate.specs.Gate.{leftOf, gatingRows, gateRows, gateOver, gateOf}
-use Rattle.gated_energy.specs.GatedEnergy.{gatedEnergyOf}
+use Rattle.gate.specs.GatedEnergy.{gatedEnergyOf}
 use Rattle.acceptance_meaning.specs.Bs1770.{equalsKept, meanOf, meanOfThese, measured, measuredGate, Feed, materialOf}
 use Rattle.acceptance_meaning.specs.Gate.{Fed, GateIsBs1770}
 use Rattle.acceptance_meaning.proofs.Meaning.{gate-is-bs1770, threshold-is-gate}

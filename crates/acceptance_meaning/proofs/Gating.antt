@@ -7,15 +7,15 @@ use borrow.Author.Tests.{not-true}
 use lib.Dec.{T}
 use lib.Ieee.{Float, lt, le}
 use lib.Ieee.Positive.{above}
-use Rattle.floats.proofs.Order.{float-le-trans, lt→le, lt-not-le}
-use Rattle.histogram_bins.specs.Energy.{dropped}
-use Rattle.history.specs.Set.{noneBelow}
-use Rattle.history.proofs.Entries.{both}
-use Rattle.rising_order.specs.Order.{put, inOrder}
-use Rattle.rising_order.specs.Arrangement.{All, Above, Rising}
-use Rattle.rising_order.proofs.Energies.{not-below, above-up}
-use Rattle.rising_order.proofs.InOrder.{at-most-all, put-first, in-order-rises}
-use Rattle.rising_range.specs.Rising.{fromGate}
+use Rattle.base_floats.proofs.Order.{float-le-trans, lt→le, lt-not-le}
+use Rattle.bins.specs.Energy.{dropped}
+use Rattle.history_set.specs.Set.{noneBelow}
+use Rattle.history_set.proofs.Entries.{both}
+use Rattle.order_rules.specs.Order.{put, inOrder}
+use Rattle.order_rules.specs.Arrangement.{All, Above, Rising}
+use Rattle.order_rules.proofs.Energies.{not-below, above-up}
+use Rattle.order_rules.proofs.InOrder.{at-most-all, put-first, in-order-rises}
+use Rattle.range_queues.specs.Rising.{fromGate}
 use Rattle.acceptance_meaning.specs.Levels.{absoluteGate}
 use Rattle.acceptance_meaning.specs.Tech3342.{gated}
 

@@ -8,14 +8,14 @@ use native.Mathlib.Omega.{arith}
 use lib.Dec.{eqb}
 use lib.ListN.{length, length-append}
 use lib.Ieee.{Float, binary64, add, lt, isNan, round}
-use Rattle.refusals.specs.Refusal.{NONE, NAN}
-use Rattle.refusals.specs.Outcome.{answers, refused}
-use Rattle.refusals.specs.Rows.{byRows}
-use Rattle.histogram_bins.specs.Energy.{dropped}
-use Rattle.queue.specs.Queue.{over, started, heldOf}
-use Rattle.queue_add.specs.Adding.{fedTo, taken}
-use Rattle.history.specs.Set.{History, listed}
-use Rattle.queue_add.proofs.Fed.{held-of-new}
+use Rattle.base_refusals.specs.Refusal.{NONE, NAN}
+use Rattle.base_refusals.specs.Outcome.{answers, refused}
+use Rattle.base_refusals.specs.Rows.{byRows}
+use Rattle.bins.specs.Energy.{dropped}
+use Rattle.history_queue.specs.Queue.{over, started, heldOf}
+use Rattle.history_queue.specs.Adding.{fedTo, taken}
+use Rattle.history_set.specs.Set.{History, listed}
+use Rattle.history_queue.proofs.Fed.{held-of-new}
 use Rattle.gate.specs.declared.blocks.Totals.{Totals}
 use Rattle.gate.specs.Totals.{none, withBlocks, energiesFrom}
 use Rattle.gate.specs.Sums.{totalsOf, allTotals, allOf}

@@ -12,30 +12,30 @@ use lib.Dec.{T, ltb, eqb}
 use lib.ListN.{length, getD, take, drop, replicate, length-append, length-drop, length-replicate, getD-replicate, List·getD-append}
 use lib.Seq.{drop-nil, getD-append-add}
 use lib.Ieee.{Float, nan, lt, le}
-use Rattle.floats.proofs.Order.{lt-not-le, is-false}
-use Rattle.refusals.specs.Outcome.{went}
-use Rattle.refusals.specs.Rows.{numberOf}
-use Rattle.tables.specs.Tables.{energyAt}
-use Rattle.histogram_bins.specs.Bin.{bins}
-use Rattle.histogram.specs.Histogram.{empty}
-use Rattle.history.specs.Set.{Histories, historiesOf, chosen, setRows}
+use Rattle.base_floats.proofs.Order.{lt-not-le, is-false}
+use Rattle.base_refusals.specs.Outcome.{went}
+use Rattle.base_refusals.specs.Rows.{numberOf}
+use Rattle.bins_tables.specs.Tables.{energyAt}
+use Rattle.bins.specs.Bin.{bins}
+use Rattle.history_histogram.specs.Histogram.{empty}
+use Rattle.history_set.specs.Set.{Histories, historiesOf, chosen, setRows}
 use Rattle.gate.specs.Totals.{none, binsFrom}
 use Rattle.gate.specs.Start.{startBin}
 use Rattle.gate.proofs.Start.{start-most}
-use Rattle.ranks.specs.Ranks.{lowRank, highRank}
-use Rattle.rising_order.specs.Order.{inOrder}
-use Rattle.rising_order.specs.Arrangement.{All, Rising}
-use Rattle.rising_order.proofs.Perms.{all-join}
-use Rattle.rising_order.proofs.InOrder.{rising-is}
-use Rattle.spans.specs.Span.{found, nothing, hundredth, gateEnergy}
-use Rattle.histogram_range.specs.Counted.{blocksIn, runningFrom, firstPast, rankedIn, leftIn, countedSpan, addedTo}
+use Rattle.range_ranks.specs.Ranks.{lowRank, highRank}
+use Rattle.order_rules.specs.Order.{inOrder}
+use Rattle.order_rules.specs.Arrangement.{All, Rising}
+use Rattle.order_rules.proofs.Perms.{all-join}
+use Rattle.order_rules.proofs.InOrder.{rising-is}
+use Rattle.range_ranks.specs.Span.{found, nothing, hundredth, gateEnergy}
+use Rattle.range_histograms.specs.Counted.{blocksIn, runningFrom, firstPast, rankedIn, leftIn, countedSpan, addedTo}
 use Rattle.range.specs.Range.{queuesIn, rangeOf}
 use Rattle.acceptance_meaning.specs.Levels.{absoluteGate}
 use Rattle.acceptance_meaning.specs.Range.{added, binsGate}
 use Rattle.acceptance_meaning.specs.Tech3342.{gated, percentileRank, percentile, percentiles, rangeAbove, blocksFrom}
-use Rattle.histogram_range.proofs.Counting.{count-is}
-use Rattle.histogram_range.proofs.Adding.{zeros-length}
-use Rattle.histogram_range.proofs.Answers.{counted-none, counted-some, left-none}
+use Rattle.range_histograms.proofs.Counting.{count-is}
+use Rattle.range_histograms.proofs.Adding.{zeros-length}
+use Rattle.range_histograms.proofs.Answers.{counted-none, counted-some, left-none}
 use Rattle.range.proofs.Answers.{range-counted}
 use Rattle.acceptance_meaning.proofs.Arising.{added-length}
 use Rattle.acceptance_meaning.proofs.Gating.{gated-all}

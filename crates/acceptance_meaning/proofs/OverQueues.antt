@@ -8,27 +8,27 @@ use native.Mathlib.Omega.{arith}
 use lib.Dec.{eqb}
 use lib.ListN.{length, getD, drop}
 use lib.Ieee.{Float, nan, lt, isNan}
-use Rattle.refusals.specs.Outcome.{went}
-use Rattle.refusals.specs.Rows.{numberOf}
-use Rattle.history.specs.Set.{Histories, historiesOf, chosen, noneBelow, setRows}
-use Rattle.history.proofs.Entries.{either-not}
-use Rattle.history.proofs.Rows.{kept}
+use Rattle.base_refusals.specs.Outcome.{went}
+use Rattle.base_refusals.specs.Rows.{numberOf}
+use Rattle.history_set.specs.Set.{Histories, historiesOf, chosen, noneBelow, setRows}
+use Rattle.history_set.proofs.Entries.{either-not}
+use Rattle.history_set.proofs.Rows.{kept}
 use Rattle.gate.specs.Totals.{none, energiesFrom}
-use Rattle.ranks.specs.Ranks.{lowRank, highRank}
-use Rattle.rising_order.specs.Order.{inOrder}
-use Rattle.rising_order.proofs.Perms.{perm-length, all-perm}
-use Rattle.rising_order.proofs.InOrder.{in-order-perm, in-order-rises}
-use Rattle.rising_order.proofs.AllAbove.{above-all}
-use Rattle.spans.specs.Span.{found, nothing, hundredth, gateEnergy}
-use Rattle.rising_range.specs.Rising.{atRanks, listedSpan}
-use Rattle.queue_range.specs.Listed.{allHeld, anyNan}
+use Rattle.range_ranks.specs.Ranks.{lowRank, highRank}
+use Rattle.order_rules.specs.Order.{inOrder}
+use Rattle.order_rules.proofs.Perms.{perm-length, all-perm}
+use Rattle.order_rules.proofs.InOrder.{in-order-perm, in-order-rises}
+use Rattle.order_rules.proofs.AllAbove.{above-all}
+use Rattle.range_ranks.specs.Span.{found, nothing, hundredth, gateEnergy}
+use Rattle.range_queues.specs.Rising.{atRanks, listedSpan}
+use Rattle.range_queues.specs.Listed.{allHeld, anyNan}
 use Rattle.range.specs.Range.{queuesIn, rangeOf}
 use Rattle.acceptance_meaning.specs.Levels.{absoluteGate, noEnergy, added, mean, twentyLuBelow}
 use Rattle.acceptance_meaning.specs.Bs1770.{equalsKept, through, inOneRun, Feed, materialOf, shownBy}
 use Rattle.acceptance_meaning.specs.Tech3342.{gated, relativeGate, percentileRank, percentiles, loudnessRange}
 use Rattle.acceptance_meaning.specs.Range.{FedQueues}
-use Rattle.queue_range.proofs.Looking.{above-held, none-below-held, held-any}
-use Rattle.queue_range.proofs.Answers.{listed-went, queues-asked}
+use Rattle.range_queues.proofs.Looking.{above-held, none-below-held, held-any}
+use Rattle.range_queues.proofs.Answers.{listed-went, queues-asked}
 use Rattle.range.proofs.Answers.{range-queues}
 use Rattle.acceptance_meaning.proofs.Gating.{absolute-all, leading, gated-order}
 use Rattle.acceptance_meaning.proofs.Meaning.{heldIn, shown-held, all-energies}

@@ -10,17 +10,17 @@ use lib.Dec.{leb}
 use lib.ListN.{length, drop, length-take, length-drop}
 use lib.IntN.{pos}
 use lib.Ieee.{Float, binary64, mul, ofInt}
-use Rattle.refusals.specs.Outcome.{answers}
-use Rattle.refusals.specs.Rows.{numberOf}
-use Rattle.refusals.proofs.Behind.{goes-on}
-use Rattle.tables.specs.Tables.{energyAt}
-use Rattle.histogram_bins.specs.Bin.{bins}
-use Rattle.history.specs.declared.set.Entry.{Entry}
-use Rattle.history.specs.declared.set.Shape.{Shape}
-use Rattle.history.specs.declared.set.Shape.the-variants.{Histogram, Queue as Queue-at}
-use Rattle.history.specs.Set.{History, counted, listed, Histories, chosen, shapeShows, allShow, historiesOf, isOutside, anyOutside, setRows}
-use Rattle.history.proofs.Rows.{kept}
-use Rattle.history.proofs.Entries.{either-not, counters-inside}
+use Rattle.base_refusals.specs.Outcome.{answers}
+use Rattle.base_refusals.specs.Rows.{numberOf}
+use Rattle.base_refusals.proofs.Behind.{goes-on}
+use Rattle.bins_tables.specs.Tables.{energyAt}
+use Rattle.bins.specs.Bin.{bins}
+use Rattle.history_set.specs.declared.set.Entry.{Entry}
+use Rattle.history_set.specs.declared.set.Shape.{Shape}
+use Rattle.history_set.specs.declared.set.Shape.the-variants.{Histogram, Queue as Queue-at}
+use Rattle.history_set.specs.Set.{History, counted, listed, Histories, chosen, shapeShows, allShow, historiesOf, isOutside, anyOutside, setRows}
+use Rattle.history_set.proofs.Rows.{kept}
+use Rattle.history_set.proofs.Entries.{either-not, counters-inside}
 use Rattle.gate.specs.declared.blocks.Totals.{Totals}
 use Rattle.gate.specs.Totals.{none, withBlocks, binsFrom, energiesFrom}
 use Rattle.gate.specs.Start.{startBin}

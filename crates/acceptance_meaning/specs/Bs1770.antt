@@ -13,12 +13,12 @@ use lib.Dec.{eqb}
 use lib.IntN.{pos}
 use lib.ListN.{length}
 use lib.Ieee.{Float, binary64, add, mul, ofInt, lt, eq, isNan, round}
-use Rattle.refusals.specs.Refusal.{NONE, NAN}
-use Rattle.refusals.specs.Outcome.{Question, went, answers, refused}
-use Rattle.tables.specs.Tables.{energyAt}
-use Rattle.queue.specs.Queue.{longest, over, started, heldOf}
-use Rattle.queue_add.specs.Adding.{fedTo, taken}
-use Rattle.history.specs.Set.{History, counted, listed}
+use Rattle.base_refusals.specs.Refusal.{NONE, NAN}
+use Rattle.base_refusals.specs.Outcome.{Question, went, answers, refused}
+use Rattle.bins_tables.specs.Tables.{energyAt}
+use Rattle.history_queue.specs.Queue.{longest, over, started, heldOf}
+use Rattle.history_queue.specs.Adding.{fedTo, taken}
+use Rattle.history_set.specs.Set.{History, counted, listed}
 use Rattle.gate.specs.declared.blocks.Totals.{Totals}
 use Rattle.gate.specs.Relative.{Level, loudness, energy as energyOf}
 use Rattle.acceptance_meaning.specs.Levels.{absoluteGate, noEnergy, added, mean, tenLuBelow}

@@ -6,13 +6,13 @@ use mathlib.Core.Path.{_≡_}
 use mathlib.Core.Bool.{true, false}
 use mathlib.Core.List.{List, [], _∷_}
 use lib.Ieee.{Float, isNan}
-use Rattle.refusals.specs.Rows.{numberOf}
-use Rattle.history.specs.declared.set.Entry.{Entry}
-use Rattle.history.specs.Set.{Histories, historiesOf, setRows}
+use Rattle.base_refusals.specs.Rows.{numberOf}
+use Rattle.history_set.specs.declared.set.Entry.{Entry}
+use Rattle.history_set.specs.Set.{Histories, historiesOf, setRows}
 use Rattle.gate.specs.Sums.{alone}
 use Rattle.gate.specs.Relative.{relativeOf}
 use Rattle.gate.specs.Gate.{gateOf}
-use Rattle.gated_energy.specs.GatedEnergy.{gatedEnergyOf}
+use Rattle.gate.specs.GatedEnergy.{gatedEnergyOf}
 use Rattle.acceptance_meaning.specs.Levels.{absoluteGate}
 use Rattle.acceptance_meaning.specs.Bs1770.{
   strict,

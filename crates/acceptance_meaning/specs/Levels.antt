@@ -5,7 +5,7 @@ use mathlib.Core.Bool.{false}
 use mathlib.Core.List.{List, [], _∷_}
 use lib.IntN.{pos}
 use lib.Ieee.{Float, binary64, add, mul, div, ofInt, ofBits, round}
-use Rattle.tables.specs.Tables.{boundaryAt}
+use Rattle.bins_tables.specs.Tables.{boundaryAt}
 
 -- -70 LUFS, the absolute gate of both
 abbrev pub absoluteGate : Float

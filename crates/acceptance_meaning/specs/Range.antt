@@ -7,13 +7,13 @@ use mathlib.Core.Bool.{true, false}
 use mathlib.Core.List.{List, _++_}
 use lib.ListN.{length, drop}
 use lib.Ieee.{Float}
-use Rattle.refusals.specs.Outcome.{went}
-use Rattle.histogram.specs.Histogram.{empty}
-use Rattle.refusals.specs.Rows.{numberOf}
-use Rattle.history.specs.Set.{Histories, historiesOf, setRows}
-use Rattle.rising_order.specs.Order.{inOrder}
-use Rattle.histogram_range.specs.Counted.{addedTo}
-use Rattle.queue_range.specs.Listed.{allHeld, anyNan}
+use Rattle.base_refusals.specs.Outcome.{went}
+use Rattle.history_histogram.specs.Histogram.{empty}
+use Rattle.base_refusals.specs.Rows.{numberOf}
+use Rattle.history_set.specs.Set.{Histories, historiesOf, setRows}
+use Rattle.order_rules.specs.Order.{inOrder}
+use Rattle.range_histograms.specs.Counted.{addedTo}
+use Rattle.range_queues.specs.Listed.{allHeld, anyNan}
 use Rattle.range.specs.Range.{queuesIn, rangeOf}
 use Rattle.acceptance_meaning.specs.Levels.{absoluteGate, twentyLuBelow}
 use Rattle.acceptance_meaning.specs.Bs1770.{inOneRun, meanOf, noBlocks, binsThrough, Feed, materialOf}

@@ -3,13 +3,13 @@
 use Prim.Native.Nat.{ℕ, _≤_, _<_}
 use mathlib.Core.Path.{_≡_}
 use lib.ListN.{length}
-use Rattle.histogram.specs.Histogram.{largestCount, empty}
-use Rattle.refusals.specs.Rows.{numberOf}
-use Rattle.history.specs.Set.{Histories, historiesOf, setRows}
-use Rattle.ranks.specs.Ranks.{lowRank, highRank, rankInFloats, lowShare, highShare, exactBelow}
-use Rattle.histogram_range.specs.Counted.{AtMost}
-use Rattle.histogram_range.specs.Counted.{addedTo, blocksIn}
-use Rattle.queue_range.specs.Listed.{allHeld}
+use Rattle.history_histogram.specs.Histogram.{largestCount, empty}
+use Rattle.base_refusals.specs.Rows.{numberOf}
+use Rattle.history_set.specs.Set.{Histories, historiesOf, setRows}
+use Rattle.range_ranks.specs.Ranks.{lowRank, highRank, rankInFloats, lowShare, highShare, exactBelow}
+use Rattle.range_histograms.specs.Counted.{AtMost}
+use Rattle.range_histograms.specs.Counted.{addedTo, blocksIn}
+use Rattle.range_queues.specs.Listed.{allHeld}
 
 -- both whole-number ranks of n are the Rust's `(n as f64 * share + 0.5) as u64`
 abbrev pub AsTheRust : ℕ → Type 0

@@ -9,9 +9,9 @@ use mathlib.Core.List.{List, [], _∷_, _++_}
 use lib.Dec.{eqb}
 use lib.ListN.{length, getD, replicate}
 use lib.Ieee.{Float, nan, lt}
-use Rattle.tables.specs.Tables.{energyAt}
-use Rattle.rising_order.specs.Order.{inOrder}
-use Rattle.spans.specs.Span.{Span, found, nothing}
+use Rattle.bins_tables.specs.Tables.{energyAt}
+use Rattle.order_rules.specs.Order.{inOrder}
+use Rattle.range_ranks.specs.Span.{Span, found, nothing}
 use Rattle.acceptance_meaning.specs.Levels.{absoluteGate, noEnergy, added, mean, twentyLuBelow}
 
 -- the blocks that a gate leaves: those that are not below it

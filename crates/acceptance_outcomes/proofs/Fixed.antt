@@ -5,33 +5,33 @@ use mathlib.Core.List.{List}
 use Prim.Native.Nat.{ℕ}
 use lib.IntN.{ℤ}
 use lib.Ieee.{Float}
-use Rattle.refusals.specs.declared.Answer.{Answer}
-use Rattle.refusals.specs.declared.Answer.the-variants.{Done, Refused}
-use Rattle.refusals.specs.Outcome.{Said, says, refusal, NoValues, done}
-use Rattle.refusals.specs.Answer.{said as saidAnswer}
-use Rattle.bin_search.specs.declared.Level.{Level}
-use Rattle.bin_search.specs.declared.Level.the-variants.{Tenths, Refused as Refused-level}
-use Rattle.bin_search.specs.Reading.{readingOf, said as saidLevel}
-use Rattle.histogram.specs.Histogram.{addTo, cleared}
-use Rattle.histogram_merge.specs.Merge.{mergeInto}
-use Rattle.queue_add.specs.Adding.{enqueued}
-use Rattle.queue.specs.Queue.{Stored}
+use Rattle.base_refusals.specs.declared.Answer.{Answer}
+use Rattle.base_refusals.specs.declared.Answer.the-variants.{Done, Refused}
+use Rattle.base_refusals.specs.Outcome.{Said, says, refusal, NoValues, done}
+use Rattle.base_refusals.specs.Answer.{said as saidAnswer}
+use Rattle.bins.specs.declared.search.Level.{Level}
+use Rattle.bins.specs.declared.search.Level.the-variants.{Tenths, Refused as Refused-level}
+use Rattle.bins.specs.Reading.{readingOf, said as saidLevel}
+use Rattle.history_histogram.specs.Histogram.{addTo, cleared}
+use Rattle.history_histogram.specs.Merge.{mergeInto}
+use Rattle.history_queue.specs.Adding.{enqueued}
+use Rattle.history_queue.specs.Queue.{Stored}
 use Rattle.gate.specs.declared.blocks.Totals.{Totals}
 use Rattle.gate.specs.declared.Gated.{Gated}
 use Rattle.gate.specs.declared.Gated.the-variants.{Blocks, Refused as Refused-gated}
-use Rattle.gated_energy.specs.declared.Energy.{Energy}
-use Rattle.gated_energy.specs.declared.Energy.the-variants.{Of, Refused as Refused-energy}
+use Rattle.gate.specs.declared.energy.Energy.{Energy}
+use Rattle.gate.specs.declared.energy.Energy.the-variants.{Of, Refused as Refused-energy}
 use Rattle.gate.specs.declared.threshold.Threshold.{Threshold}
 use Rattle.gate.specs.declared.threshold.Threshold.the-variants.{Loudness, Energy as Energy-at, Refused as Refused-threshold}
 use Rattle.gate.specs.Gate.{gateOf, said as saidGated}
-use Rattle.gated_energy.specs.GatedEnergy.{gatedEnergyOf, said as saidEnergy}
+use Rattle.gate.specs.GatedEnergy.{gatedEnergyOf, said as saidEnergy}
 use Rattle.gate.specs.Relative.{Level as LevelOf, loudness, energy as energy-of, relativeOf, said as saidThreshold}
-use Rattle.spans.specs.declared.Range.{Range}
-use Rattle.spans.specs.declared.Range.the-variants.{Found, Nothing, NotANumber, Refused as Refused-range}
-use Rattle.spans.specs.Span.{Span, found, nothing, notANumber}
-use Rattle.spans.specs.Span.{said as saidRange}
-use Rattle.histogram_range.specs.Counted.{histogramRange}
-use Rattle.queue_range.specs.Listed.{queueRange}
+use Rattle.range_ranks.specs.declared.spans.Range.{Range}
+use Rattle.range_ranks.specs.declared.spans.Range.the-variants.{Found, Nothing, NotANumber, Refused as Refused-range}
+use Rattle.range_ranks.specs.Span.{Span, found, nothing, notANumber}
+use Rattle.range_ranks.specs.Span.{said as saidRange}
+use Rattle.range_histograms.specs.Counted.{histogramRange}
+use Rattle.range_queues.specs.Listed.{queueRange}
 use Rattle.range.specs.Range.{rangeOf}
 use Rattle.acceptance_outcomes.specs.Fixed.{Fixes, EachFixed}
 

@@ -6,21 +6,21 @@ use mathlib.Core.Path.{_≡_}
 use mathlib.Core.List.{List}
 use Prim.Native.Nat.{ℕ}
 use lib.Ieee.{Float}
-use Rattle.refusals.specs.Outcome.{Outcome, Said, saidBy, keptBy}
-use Rattle.refusals.specs.Answer.{said as saidAnswer}
-use Rattle.bin_search.specs.Reading.{readingOf, said as saidLevel}
-use Rattle.histogram.specs.Histogram.{addTo, cleared}
-use Rattle.histogram_merge.specs.Merge.{mergeInto}
-use Rattle.queue.specs.Queue.{Stored}
-use Rattle.queue_add.specs.Adding.{enqueued}
-use Rattle.history.specs.declared.set.Entry.{Entry}
-use Rattle.history.specs.Set.{Histories}
+use Rattle.base_refusals.specs.Outcome.{Outcome, Said, saidBy, keptBy}
+use Rattle.base_refusals.specs.Answer.{said as saidAnswer}
+use Rattle.bins.specs.Reading.{readingOf, said as saidLevel}
+use Rattle.history_histogram.specs.Histogram.{addTo, cleared}
+use Rattle.history_histogram.specs.Merge.{mergeInto}
+use Rattle.history_queue.specs.Queue.{Stored}
+use Rattle.history_queue.specs.Adding.{enqueued}
+use Rattle.history_set.specs.declared.set.Entry.{Entry}
+use Rattle.history_set.specs.Set.{Histories}
 use Rattle.gate.specs.Gate.{gateOf, said as saidGated}
 use Rattle.gate.specs.Relative.{relativeOf, said as saidThreshold}
-use Rattle.gated_energy.specs.GatedEnergy.{gatedEnergyOf, said as saidEnergy}
-use Rattle.spans.specs.Span.{said as saidRange}
-use Rattle.histogram_range.specs.Counted.{histogramRange}
-use Rattle.queue_range.specs.Listed.{queueRange}
+use Rattle.gate.specs.GatedEnergy.{gatedEnergyOf, said as saidEnergy}
+use Rattle.range_ranks.specs.Span.{said as saidRange}
+use Rattle.range_histograms.specs.Counted.{histogramRange}
+use Rattle.range_queues.specs.Listed.{queueRange}
 use Rattle.range.specs.Range.{rangeOf}
 
 -- a call's end meets its statement: this answer, where `kept` stands after the call and `given` stood before

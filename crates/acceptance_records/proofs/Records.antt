@@ -4,25 +4,25 @@ use mathlib.Core.List.{List, _++_}
 use Prim.Native.Nat.{ℕ}
 use lib.ListN.{length, drop}
 use lib.Ieee.{Float}
-use Rattle.refusals.specs.Answer.{said as saidAnswer}
-use Rattle.refusals.specs.Outcome.{done, Said, says, refusal}
-use Rattle.refusals.proofs.Rows.{refused-by}
-use Rattle.queue.specs.declared.Queue.{Queue}
-use Rattle.queue.specs.Queue.{heldOf}
-use Rattle.layout.specs.declared.Kind.the-variants.{Queue as QueueKind}
-use Rattle.layout.specs.declared.Written.{Written}
-use Rattle.layout.specs.declared.Written.the-variants.{Bytes, Refused}
-use Rattle.layout.specs.Layout.{orderOf}
-use Rattle.layout.specs.Written.{said as saidWritten}
-use Rattle.histogram_reader.specs.Record.{countersIn, readHistogramRows, readHistogram}
-use Rattle.histogram_writer.specs.Writing.{histogramRecord, writeHistogramRows, writeHistogram}
-use Rattle.queue_reader.specs.declared.Received.{Received}
-use Rattle.queue_reader.specs.declared.Received.the-variants.{Held, Refused as Refused-received}
-use Rattle.queue_reader.specs.QueueRecord.{stored, queueIn, readQueueRows, readQueue, said as saidReceived}
-use Rattle.queue_writer.specs.Writing.{queueRecord, writeQueueRows, writeQueue}
-use Rattle.summary.specs.declared.Summary.{Summary}
-use Rattle.summary.specs.declared.Summary.the-variants.{Ranged, Rangeless, Refused as Refused-summary}
-use Rattle.summary.specs.Summary.{Figures, ranged, rangeless, summaryOf, said as saidSummary}
+use Rattle.base_refusals.specs.Answer.{said as saidAnswer}
+use Rattle.base_refusals.specs.Outcome.{done, Said, says, refusal}
+use Rattle.base_refusals.proofs.Rows.{refused-by}
+use Rattle.history_queue.specs.declared.Queue.{Queue}
+use Rattle.history_queue.specs.Queue.{heldOf}
+use Rattle.record_layout.specs.declared.Kind.the-variants.{Queue as QueueKind}
+use Rattle.record_layout.specs.declared.Written.{Written}
+use Rattle.record_layout.specs.declared.Written.the-variants.{Bytes, Refused}
+use Rattle.record_layout.specs.Layout.{orderOf}
+use Rattle.record_layout.specs.Written.{said as saidWritten}
+use Rattle.record_histogram.specs.Record.{countersIn, readHistogramRows, readHistogram}
+use Rattle.record_histogram.specs.Writing.{histogramRecord, writeHistogramRows, writeHistogram}
+use Rattle.record_queue_reader.specs.declared.Received.{Received}
+use Rattle.record_queue_reader.specs.declared.Received.the-variants.{Held, Refused as Refused-received}
+use Rattle.record_queue_reader.specs.QueueRecord.{stored, queueIn, readQueueRows, readQueue, said as saidReceived}
+use Rattle.record_queue_writer.specs.Writing.{queueRecord, writeQueueRows, writeQueue}
+use Rattle.record_summary.specs.declared.Summary.{Summary}
+use Rattle.record_summary.specs.declared.Summary.the-variants.{Ranged, Rangeless, Refused as Refused-summary}
+use Rattle.record_summary.specs.Summary.{Figures, ranged, rangeless, summaryOf, said as saidSummary}
 use Rattle.acceptance_outcomes.proofs.Fixed.{fixes, answer-back, answer-there}
 use Rattle.acceptance_records.specs.Records.{RecordCalls}
 

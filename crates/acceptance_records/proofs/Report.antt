@@ -10,18 +10,18 @@ use lib.Dec.{leb}
 use lib.ListN.{length, getD, length-replicate, List·getD-eq-default}
 use lib.Seq.{take-all}
 use lib.Ieee.{Float}
-use Rattle.refusals.specs.Outcome.{Question, went}
-use Rattle.refusals.specs.Rows.{RefusedBy}
-use Rattle.refusals.proofs.Rows.{refused-by}
-use Rattle.histogram_bins.specs.Bin.{bins}
-use Rattle.histogram.specs.Histogram.{empty}
+use Rattle.base_refusals.specs.Outcome.{Question, went}
+use Rattle.base_refusals.specs.Rows.{RefusedBy}
+use Rattle.base_refusals.proofs.Rows.{refused-by}
+use Rattle.bins.specs.Bin.{bins}
+use Rattle.history_histogram.specs.Histogram.{empty}
 use Rattle.range.specs.Range.{rangeOf}
-use Rattle.layout.specs.declared.Kind.the-variants.{Histogram}
-use Rattle.layout.specs.Layout.{frameRows}
-use Rattle.histogram_writer.specs.Writing.{histogramRecord}
-use Rattle.histogram_writer.proofs.Again.{Counting, read-what-was-written}
-use Rattle.summary.specs.Summary.{Figures, alone, figuresBy, figuresOf, figuresRead, summaryOf}
-use Rattle.summary.proofs.Alone.{figuresFrom, summary-is}
+use Rattle.record_layout.specs.declared.Kind.the-variants.{Histogram}
+use Rattle.record_layout.specs.Layout.{frameRows}
+use Rattle.record_histogram.specs.Writing.{histogramRecord}
+use Rattle.record_histogram.proofs.Again.{Counting, read-what-was-written}
+use Rattle.record_summary.specs.Summary.{Figures, alone, figuresBy, figuresOf, figuresRead, summaryOf}
+use Rattle.record_summary.proofs.Alone.{figuresFrom, summary-is}
 use Rattle.acceptance_dealing.specs.Dealing.{Plan, Dealt, storeOf, droppedOf, Asks, rangeOfBins, Met}
 use Rattle.acceptance_dealing.proofs.Dealing.{demand-3}
 use Rattle.acceptance_records.specs.Report.{ReportTells, ReportRefused}

@@ -4,15 +4,15 @@
 use Prim.Native.Nat.{ℕ}
 use mathlib.Core.List.{List}
 use lib.Ieee.{Float}
-use Rattle.refusals.specs.Answer.{said as saidAnswer}
-use Rattle.refusals.specs.Rows.{RefusedBy}
-use Rattle.queue.specs.Queue.{Stored}
-use Rattle.layout.specs.Written.{said as saidWritten}
-use Rattle.histogram_reader.specs.Record.{readHistogramRows, readHistogram}
-use Rattle.histogram_writer.specs.Writing.{writeHistogramRows, writeHistogram}
-use Rattle.queue_reader.specs.QueueRecord.{readQueueRows, readQueue, said as saidReceived}
-use Rattle.queue_writer.specs.Writing.{writeQueueRows, writeQueue}
-use Rattle.summary.specs.Summary.{summaryOf, said as saidSummary}
+use Rattle.base_refusals.specs.Answer.{said as saidAnswer}
+use Rattle.base_refusals.specs.Rows.{RefusedBy}
+use Rattle.history_queue.specs.Queue.{Stored}
+use Rattle.record_layout.specs.Written.{said as saidWritten}
+use Rattle.record_histogram.specs.Record.{readHistogramRows, readHistogram}
+use Rattle.record_histogram.specs.Writing.{writeHistogramRows, writeHistogram}
+use Rattle.record_queue_reader.specs.QueueRecord.{readQueueRows, readQueue, said as saidReceived}
+use Rattle.record_queue_writer.specs.Writing.{writeQueueRows, writeQueue}
+use Rattle.record_summary.specs.Summary.{summaryOf, said as saidSummary}
 use Rattle.acceptance_outcomes.specs.Fixed.{Fixed}
 
 pub record RecordCalls : Type 0 where

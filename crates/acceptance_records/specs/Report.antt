@@ -7,12 +7,12 @@ use mathlib.Core.List.{List, []}
 use Prim.Native.Nat.{ℕ, _-_}
 use lib.ListN.{length}
 use lib.Ieee.{Float}
-use Rattle.refusals.specs.Outcome.{went}
-use Rattle.refusals.specs.Rows.{RefusedBy}
-use Rattle.layout.specs.declared.Kind.the-variants.{Histogram}
-use Rattle.layout.specs.Layout.{frameRows}
-use Rattle.histogram_writer.specs.Writing.{histogramRecord}
-use Rattle.summary.specs.Summary.{figuresBy, summaryOf}
+use Rattle.base_refusals.specs.Outcome.{went}
+use Rattle.base_refusals.specs.Rows.{RefusedBy}
+use Rattle.record_layout.specs.declared.Kind.the-variants.{Histogram}
+use Rattle.record_layout.specs.Layout.{frameRows}
+use Rattle.record_histogram.specs.Writing.{histogramRecord}
+use Rattle.record_summary.specs.Summary.{figuresBy, summaryOf}
 use Rattle.acceptance_dealing.specs.Dealing.{Plan, Dealt, storeOf, droppedOf, rangeOfBins}
 
 abbrev pub ReportTells : Type 0

@@ -1,17 +1,17 @@
 -- Demand 1, proved: "Given exactly when". Each operation is defined by its rows, so that `refused-by` is all there is to say. Assumes nothing.
-use Rattle.refusals.specs.Outcome.{done}
-use Rattle.refusals.proofs.Rows.{refused-by}
-use Rattle.bin_search.specs.Reading.{readingRows, readingOf, tenthsOf}
-use Rattle.histogram_bins.specs.Energy.{received}
-use Rattle.histogram.specs.Histogram.{oneMore, empty, sums, addRows, addTo, resetRows, cleared}
-use Rattle.histogram_merge.specs.Merge.{mergeRows, mergeInto}
-use Rattle.queue_add.specs.Adding.{queueRows, withEnergy, enqueued}
-use Rattle.history.specs.Set.{historiesOf, shows}
+use Rattle.base_refusals.specs.Outcome.{done}
+use Rattle.base_refusals.proofs.Rows.{refused-by}
+use Rattle.bins.specs.Reading.{readingRows, readingOf, tenthsOf}
+use Rattle.bins.specs.Energy.{received}
+use Rattle.history_histogram.specs.Histogram.{oneMore, empty, sums, addRows, addTo, resetRows, cleared}
+use Rattle.history_histogram.specs.Merge.{mergeRows, mergeInto}
+use Rattle.history_queue.specs.Adding.{queueRows, withEnergy, enqueued}
+use Rattle.history_set.specs.Set.{historiesOf, shows}
 use Rattle.gate.specs.Totals.{meanOf}
 use Rattle.gate.specs.Sums.{totalsOf}
 use Rattle.gate.specs.Relative.{levelOf, relativeRows, relativeOf}
 use Rattle.gate.specs.Gate.{leftOf, gateRows, gateOf}
-use Rattle.gated_energy.specs.GatedEnergy.{gatedEnergyOf}
+use Rattle.gate.specs.GatedEnergy.{gatedEnergyOf}
 use Rattle.range.specs.Range.{workAfter, spanOver, rangeRows, rangeOf}
 use Rattle.acceptance_refusals.specs.Table.{Demand1}
 

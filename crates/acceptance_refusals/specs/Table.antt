@@ -4,17 +4,17 @@
 use Prim.Native.Nat.{ℕ}
 use mathlib.Core.List.{List}
 use lib.Ieee.{Float}
-use Rattle.refusals.specs.Rows.{RefusedBy}
-use Rattle.bin_search.specs.Reading.{readingRows, readingOf}
-use Rattle.histogram.specs.Histogram.{addRows, addTo, resetRows, cleared}
-use Rattle.histogram_merge.specs.Merge.{mergeRows, mergeInto}
-use Rattle.queue.specs.Queue.{Stored}
-use Rattle.queue_add.specs.Adding.{queueRows, enqueued}
-use Rattle.history.specs.declared.set.Entry.{Entry}
-use Rattle.history.specs.Set.{Histories}
+use Rattle.base_refusals.specs.Rows.{RefusedBy}
+use Rattle.bins.specs.Reading.{readingRows, readingOf}
+use Rattle.history_histogram.specs.Histogram.{addRows, addTo, resetRows, cleared}
+use Rattle.history_histogram.specs.Merge.{mergeRows, mergeInto}
+use Rattle.history_queue.specs.Queue.{Stored}
+use Rattle.history_queue.specs.Adding.{queueRows, enqueued}
+use Rattle.history_set.specs.declared.set.Entry.{Entry}
+use Rattle.history_set.specs.Set.{Histories}
 use Rattle.gate.specs.Relative.{relativeRows, relativeOf}
 use Rattle.gate.specs.Gate.{gateRows, gateOf}
-use Rattle.gated_energy.specs.GatedEnergy.{gatedEnergyOf}
+use Rattle.gate.specs.GatedEnergy.{gatedEnergyOf}
 use Rattle.range.specs.Range.{rangeRows, rangeOf}
 
 pub record Demand1 : Type 0 where

@@ -5,22 +5,22 @@ use mathlib.Core.Bool.{Bool, true, false, cond}
 use mathlib.Core.List.{List, [], _∷_}
 use lib.Dec.{eqb}
 use lib.ListN.{length}
-use Rattle.refusals.specs.Answer.{said}
-use Rattle.refusals.specs.Outcome.{Outcome, went, refused, Said, says, refusal, NoValues, done}
-use Rattle.refusals.specs.Rows.{Row, byRows, RefusedBy}
-use Rattle.refusals.proofs.Rows.{refused-by}
+use Rattle.base_refusals.specs.Answer.{said}
+use Rattle.base_refusals.specs.Outcome.{Outcome, went, refused, Said, says, refusal, NoValues, done}
+use Rattle.base_refusals.specs.Rows.{Row, byRows, RefusedBy}
+use Rattle.base_refusals.proofs.Rows.{refused-by}
 use Rattle.filter.specs.Call.{Call, Kept, given}
 use Rattle.filter.specs.Process.{processRows, processed}
 use Rattle.filter.specs.Seed.{seedRows, seeded}
 use Rattle.true_peak_state.specs.declared.TruePeak.{TruePeak}
 use Rattle.true_peak.specs.TruePeak.{peakRows, processed as peakProcessed, seeded as peakSeeded}
-use Rattle.calls.specs.Calls.{frameRows}
-use Rattle.interleaved_frames.specs.Shown.{Place, at, pastTheEnd, framesIn, sampleIn}
-use Rattle.interleaved_frames.specs.Said.{framesSaid, sampleSaid}
-use Rattle.interleaved_frames.specs.declared.Frames.{Frames}
-use Rattle.interleaved_frames.specs.declared.Frames.the-variants.{Whole, Refused as Refused-frames}
-use Rattle.interleaved_frames.specs.declared.Sample.{Sample}
-use Rattle.interleaved_frames.specs.declared.Sample.the-variants.{At, PastTheEnd, Refused as Refused-sample}
+use Rattle.filter_checks.specs.Calls.{frameRows}
+use Rattle.interleaved_slices.specs.Shown.{Place, at, pastTheEnd, framesIn, sampleIn}
+use Rattle.interleaved_slices.specs.Said.{framesSaid, sampleSaid}
+use Rattle.interleaved_slices.specs.declared.Frames.{Frames}
+use Rattle.interleaved_slices.specs.declared.Frames.the-variants.{Whole, Refused as Refused-frames}
+use Rattle.interleaved_slices.specs.declared.Sample.{Sample}
+use Rattle.interleaved_slices.specs.declared.Sample.the-variants.{At, PastTheEnd, Refused as Refused-sample}
 use Rattle.interleaved_filter.specs.Over.{Taken, taken, otherChannels, whole, over}
 use Rattle.interleaved_filter.specs.Said.{saidOf}
 use Rattle.interleaved_filter.specs.declared.Took.{Took}

@@ -7,17 +7,17 @@ use mathlib.Core.List.{List, []}
 use lib.Dec.{eqb}
 use lib.ListN.{length}
 use lib.Ieee.{Float}
-use Rattle.refusals.specs.Answer.{said}
-use Rattle.refusals.specs.Rows.{Row, RefusedBy}
-use Rattle.calls.specs.Calls.{frameRows}
+use Rattle.base_refusals.specs.Answer.{said}
+use Rattle.base_refusals.specs.Rows.{Row, RefusedBy}
+use Rattle.filter_checks.specs.Calls.{frameRows}
 use Rattle.filter.specs.Call.{Call, given}
 use Rattle.filter.specs.Process.{processRows, processed}
 use Rattle.filter.specs.Seed.{seedRows, seeded}
 use Rattle.true_peak_state.specs.declared.TruePeak.{TruePeak}
 use Rattle.true_peak_state.specs.TruePeak.{Block}
 use Rattle.true_peak.specs.TruePeak.{peakRows, processed as peakProcessed, seeded as peakSeeded}
-use Rattle.interleaved_frames.specs.Shown.{framesIn, sampleIn}
-use Rattle.interleaved_frames.specs.Said.{framesSaid, sampleSaid}
+use Rattle.interleaved_slices.specs.Shown.{framesIn, sampleIn}
+use Rattle.interleaved_slices.specs.Said.{framesSaid, sampleSaid}
 use Rattle.interleaved_filter.specs.Over.{over}
 use Rattle.interleaved_filter.specs.Said.{saidOf}
 use Rattle.acceptance_outcomes.specs.Fixed.{Fixed}

@@ -1,9 +1,9 @@
 -- The numbers of 01 beside the definitions', by one computed check. Assumes nothing.
 use mathlib.Core.Path.{refl}
 use lib.Ieee.{ofBits, toBits, round, lt, neg, div, ofInt}
-use Rattle.queue.specs.Queue.{suits}
+use Rattle.history_queue.specs.Queue.{suits}
 use Rattle.gate.specs.Relative.{tenth, lowest}
-use Rattle.spans.specs.Span.{hundredth}
+use Rattle.range_ranks.specs.Span.{hundredth}
 use Rattle.samples.specs.Sample.{sampleIn}
 use Rattle.acceptance_worked.specs.Literals.{AsWritten}
 

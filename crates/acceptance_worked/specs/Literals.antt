@@ -6,21 +6,21 @@ use mathlib.Core.Bool.{Bool, true, false}
 use mathlib.Core.List.{List, [], _∷_, map}
 use lib.IntN.{ℤ, pos, negsuc}
 use lib.Ieee.{Float, nan, binary64, ofBits, toBits}
-use Rattle.refusals.specs.Refusal.{number, CHANNELS, SAMPLES, MAP, DEST, STORE, FULL, SET, MODE, NONE, NAN, SCALE, LENGTH, KIND, CONTENT, ROOM}
-use Rattle.histogram_bins.specs.Bin.{bins}
-use Rattle.bin_search.specs.Reading.{lowest}
-use Rattle.histogram.specs.Histogram.{largestCount}
-use Rattle.queue.specs.Queue.{suits, started}
-use Rattle.history.specs.Set.{mostHistories}
+use Rattle.base_refusals.specs.Refusal.{number, CHANNELS, SAMPLES, MAP, DEST, STORE, FULL, SET, MODE, NONE, NAN, SCALE, LENGTH, KIND, CONTENT, ROOM}
+use Rattle.bins.specs.Bin.{bins}
+use Rattle.bins.specs.Reading.{lowest}
+use Rattle.history_histogram.specs.Histogram.{largestCount}
+use Rattle.history_queue.specs.Queue.{suits, started}
+use Rattle.history_set.specs.Set.{mostHistories}
 use Rattle.gate.specs.Relative.{tenth, lowest as lowestLoudness}
-use Rattle.spans.specs.Span.{hundredth}
+use Rattle.range_ranks.specs.Span.{hundredth}
 use Rattle.samples.specs.Sample.{sampleOf16}
-use Rattle.calls.specs.Calls.{wrongChannels, admits, used}
-use Rattle.recurrence.specs.Recurrence.{flush}
-use Rattle.interp.specs.Interp.{Kind, upsampled, noTruePeak, kindOf}
-use Rattle.layout.specs.declared.Kind.the-variants.{Histogram, Queue}
-use Rattle.layout.specs.Layout.{kindNumber, canBe}
-use Rattle.queue_reader.specs.QueueRecord.{nanPattern}
+use Rattle.filter_checks.specs.Calls.{wrongChannels, admits, used}
+use Rattle.filter_recurrence.specs.Recurrence.{flush}
+use Rattle.true_peak_interp.specs.Interp.{Kind, upsampled, noTruePeak, kindOf}
+use Rattle.record_layout.specs.declared.Kind.the-variants.{Histogram, Queue}
+use Rattle.record_layout.specs.Layout.{kindNumber, canBe}
+use Rattle.record_queue_reader.specs.QueueRecord.{nanPattern}
 
 -- what a line compares
 pub data Literal : Type 0 where

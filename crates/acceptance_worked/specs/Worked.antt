@@ -9,13 +9,13 @@ use mathlib.Core.Bool.{true, false}
 use mathlib.Core.List.{List, [], _∷_, map}
 use lib.IntN.{pos}
 use lib.Ieee.{Float, nan, inf, binary64, round}
-use Rattle.floats.specs.Entry.{plusZero}
-use Rattle.tables.specs.Tables.{boundaryAt}
-use Rattle.histogram_bins.specs.Bin.{binOf}
-use Rattle.ranks.specs.Ranks.{lowRank, highRank}
+use Rattle.base_floats.specs.Entry.{plusZero}
+use Rattle.bins_tables.specs.Tables.{boundaryAt}
+use Rattle.bins.specs.Bin.{binOf}
+use Rattle.range_ranks.specs.Ranks.{lowRank, highRank}
 use Rattle.samples.specs.Sample.{samplesOf16}
-use Rattle.recurrence.specs.declared.Memory.{Memory}
-use Rattle.recurrence.specs.Recurrence.{outs}
+use Rattle.filter_recurrence.specs.declared.Memory.{Memory}
+use Rattle.filter_recurrence.specs.Recurrence.{outs}
 
 -- what a case comes to: a bin or a rank, or the outputs of a filter
 pub data Result : Type 0 where

@@ -9,7 +9,7 @@ use borrow.Author.Tests.{ltb-true}
 use lib.Dec.{ltb}
 use lib.Pow.{pow-mono, pow-add}
 use lib.ListN.{length, getD, List·getD-eq-default}
-use Rattle.fields.specs.Field.{fieldAt, narrowed}
+use Rattle.base_fields.specs.Field.{fieldAt, narrowed}
 
 -- how many numbers a field one byte wider tells apart
 pub times-256 : (width : ℕ) → 2 ^ (8 * suc width) ≡ 256 * 2 ^ (8 * width)

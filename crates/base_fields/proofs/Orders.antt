@@ -5,11 +5,11 @@ use mathlib.Core.List.{List, _++_}
 use Prim.Native.Nat.{ℕ, _*_, _^_, _<_, _≤_}
 use native.Mathlib.Omega.{arith}
 use lib.ListN.{length, getD, take}
-use Rattle.fields.specs.declared.Order.{Order}
-use Rattle.fields.specs.declared.Order.the-variants.{LowFirst}
-use Rattle.fields.specs.Field.{numberIn, bytesOf}
-use Rattle.fields.proofs.Fields.{small}
-use Rattle.fields.proofs.Written.{low-length, field-within, read-low, low-field}
+use Rattle.base_fields.specs.declared.Order.{Order}
+use Rattle.base_fields.specs.declared.Order.the-variants.{LowFirst}
+use Rattle.base_fields.specs.Field.{numberIn, bytesOf}
+use Rattle.base_fields.proofs.Fields.{small}
+use Rattle.base_fields.proofs.Written.{low-length, field-within, read-low, low-field}
 
 -- the one order that there is
 pub low-first : (order : Order) → order ≡ LowFirst

@@ -8,8 +8,8 @@ use native.Mathlib.Numerals.{add-one}
 use native.Mathlib.Omega.{arith}
 use lib.ListN.{length, getD, take, drop, set}
 use lib.Seq.{drop-cons, getD-drop, getD-take, take-suc-set, take-all}
-use Rattle.fields.specs.Field.{fieldAt, lowBytes}
-use Rattle.fields.proofs.Fields.{times-256}
+use Rattle.base_fields.specs.Field.{fieldAt, lowBytes}
+use Rattle.base_fields.proofs.Fields.{times-256}
 
 pub low-length : (width number : ℕ) → length (lowBytes width number) ≡ width
 unfolding lowBytes

@@ -4,8 +4,8 @@ use mathlib.Core.List.{List, [], _∷_}
 use mathlib.Core.Bool.{cond}
 use lib.Dec.{ltb}
 use lib.ListN.{getD}
-use Rattle.fields.specs.declared.Order.{Order}
-use Rattle.fields.specs.declared.Order.the-variants.{LowFirst}
+use Rattle.base_fields.specs.declared.Order.{Order}
+use Rattle.base_fields.specs.declared.Order.the-variants.{LowFirst}
 
 -- the bytes of a number of 32 bits, and of one of 64, the widest field
 abbrev pub wordWidth : ℕ

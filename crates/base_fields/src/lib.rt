@@ -1,7 +1,9 @@
 // Numbers in bytes: the fields of records and of lists of energies.
 ghost use mathlib.Core.Path.{_≡_};
 ghost use lib.ListN.{length, getD};
-ghost use Rattle.fields.specs.Field.{fieldAt, narrowed, lowBytes, bytesOf};
+ghost use Rattle.base_fields.specs.Field.{fieldAt, narrowed, lowBytes, bytesOf};
+
+pub mod words;
 
 // The order in which the bytes of a field stand.
 pub enum Order {

@@ -1,9 +1,9 @@
 // The numbers in fields of four and of eight bytes, as records have them one after the other.
-use fields::Order;
+use crate::Order;
 ghost use mathlib.Core.Path.{_≡_};
 ghost use Prim.Native.Nat.{_+_, _≤_};
 ghost use lib.ListN.{length};
-ghost use Rattle.fields.specs.Field.{fieldAt, numberIn, wordWidth, widest};
+ghost use Rattle.base_fields.specs.Field.{fieldAt, numberIn, wordWidth, widest};
 
 const WORD: usize = 4;
 
@@ -22,7 +22,7 @@ fn low_word(field: &[u8]) -> u32
     ensures { λ r. ⌜ r ≡ fieldAt (now (field .entry)) 0 wordWidth ⌝ }
 {
     if field.len() < WORD {
-        return fields::number_at(field, 0, WORD) as u32;
+        return crate::number_at(field, 0, WORD) as u32;
     }
     word_at(field, 0)
 }
@@ -31,7 +31,7 @@ fn low_double_word(field: &[u8]) -> u64
     ensures { λ r. ⌜ r ≡ fieldAt (now (field .entry)) 0 widest ⌝ }
 {
     if field.len() < DOUBLE_WORD {
-        return fields::number_at(field, 0, DOUBLE_WORD);
+        return crate::number_at(field, 0, DOUBLE_WORD);
     }
     word_at(field, 0) as u64 + 4294967296 * (word_at(field, WORD) as u64)
 }

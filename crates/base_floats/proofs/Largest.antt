@@ -6,9 +6,9 @@ use mathlib.Core.List.{List, [], _∷_}
 use mathlib.Core.Bool.{Bool, true, false, cond}
 use lib.Dec.{T}
 use lib.Ieee.{Float, lt}
-use Rattle.floats.specs.Largest.{greater, greatest}
-use Rattle.floats.specs.Inner.{Raised}
-use Rattle.floats.proofs.Order.{is-true, right-number, irreflexive, lt-lt, beaten}
+use Rattle.base_floats.specs.Largest.{greater, greatest}
+use Rattle.base_floats.specs.Inner.{Raised}
+use Rattle.base_floats.proofs.Order.{is-true, right-number, irreflexive, lt-lt, beaten}
 
 -- ---- q is at or above p: what beats q beats p
 abbrev pub Over : Float → Float → Type 0

@@ -11,8 +11,8 @@ use lib.Dec.{T, ltb}
 use lib.IntN.{ℤ}
 use lib.Ieee.{Float, Format, nan, inf, fin, up, down, lt, neg, fits}
 use lib.Ieee.Fits.{up-pos, down-pos}
-use Rattle.floats.specs.Entry.{plusZero}
-use Rattle.floats.specs.Largest.{magnitude, greater, greatest, largest}
+use Rattle.base_floats.specs.Entry.{plusZero}
+use Rattle.base_floats.specs.Largest.{magnitude, greater, greatest, largest}
 
 pub magnitude-fits : (f : Format) (x : Float) → T (fits f x) → T (fits f (magnitude x))
 unfolding fits

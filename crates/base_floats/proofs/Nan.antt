@@ -6,8 +6,8 @@ use native.Mathlib.Omega.{arith}
 use lib.Dec.{T, eqb, eqb-refl}
 use lib.Ieee.{Float, nan, inf, fin, up, down, ne, isNan, nanBits, ofBits, ofFields, binary64}
 use borrow.Author.Tests.{ne-eqb, eq-eqb, eqb-true, eqb-false}
-use Rattle.floats.specs.Entry.{plusZero}
-use Rattle.floats.proofs.Order.{is-true}
+use Rattle.base_floats.specs.Entry.{plusZero}
+use Rattle.base_floats.proofs.Order.{is-true}
 
 pub differs : (x : Float) → ne x x ≡ isNan x
 unfolding ne isNan

@@ -5,11 +5,11 @@ use mathlib.Core.Bool.{Bool, true, false, cond}
 use mathlib.Core.List.{List, [], _∷_, _++_}
 use Prim.Native.Nat.{ℕ}
 use native.Mathlib.Omega.{arith}
-use Rattle.refusals.specs.Refusal.{Refusal, number}
-use Rattle.refusals.specs.Outcome.{Outcome, went, refused, Said, says, refusal, NoValues, done, answers, saidBy, keptBy}
-use Rattle.refusals.specs.Rows.{Row, byRows, numberOf}
-use Rattle.refusals.proofs.Numbers.{no-number}
-use Rattle.refusals.proofs.Rows.{Refuses, stopped, goes, rows-then, number-first}
+use Rattle.base_refusals.specs.Refusal.{Refusal, number}
+use Rattle.base_refusals.specs.Outcome.{Outcome, went, refused, Said, says, refusal, NoValues, done, answers, saidBy, keptBy}
+use Rattle.base_refusals.specs.Rows.{Row, byRows, numberOf}
+use Rattle.base_refusals.proofs.Numbers.{no-number}
+use Rattle.base_refusals.proofs.Rows.{Refuses, stopped, goes, rows-then, number-first}
 
 module _ {Kept Values : Type 0} (outcome : Outcome Kept Values) where
   -- the first rows refuse a call, whatever follows them

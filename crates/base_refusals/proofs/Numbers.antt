@@ -1,7 +1,7 @@
 -- 0 is the number of no refusal, so an operation may answer it for none. Assumes nothing.
 use mathlib.Core.Path.{_≡_}
 use native.Mathlib.Omega.{arith}
-use Rattle.refusals.specs.Refusal.{
+use Rattle.base_refusals.specs.Refusal.{
   Refusal,
   CHANNELS,
   SAMPLES,

@@ -6,10 +6,10 @@ use mathlib.Core.Bool.{Bool, true, false, cond, true≢false}
 use mathlib.Core.List.{List, [], _∷_, _++_}
 use Prim.Native.Nat.{ℕ, zero, suc}
 use lib.Dec.{eqb}
-use Rattle.refusals.specs.Refusal.{Refusal, number}
-use Rattle.refusals.specs.Outcome.{Outcome, went, refused, Said, says, refusal, saidBy, keptBy}
-use Rattle.refusals.specs.Rows.{Row, byRows, numberOf, holdsAfter, holdsOf, FirstIs, RefusedBy}
-use Rattle.refusals.proofs.Numbers.{no-number}
+use Rattle.base_refusals.specs.Refusal.{Refusal, number}
+use Rattle.base_refusals.specs.Outcome.{Outcome, went, refused, Said, says, refusal, saidBy, keptBy}
+use Rattle.base_refusals.specs.Rows.{Row, byRows, numberOf, holdsAfter, holdsOf, FirstIs, RefusedBy}
+use Rattle.base_refusals.proofs.Numbers.{no-number}
 
 -- ---- "given exactly when, in table order, and nothing has changed"
 number-said : {Values : Type 0} → Said Values → ℕ

@@ -3,11 +3,11 @@
 use mathlib.Core.Path.{_≡_, refl}
 use Prim.Native.Nat.{ℕ}
 use native.Mathlib.Omega.{arith}
-use Rattle.refusals.specs.Outcome.{Outcome, went, refused, says, refusal, saidBy, NoValues}
-use Rattle.refusals.specs.Answer.{said}
-use Rattle.refusals.specs.declared.Answer.{Answer}
-use Rattle.refusals.specs.declared.Answer.the-variants.{Done, Refused}
-use Rattle.codes.specs.Codes.{code, valueOr, numberSaid}
+use Rattle.base_refusals.specs.Outcome.{Outcome, went, refused, says, refusal, saidBy, NoValues}
+use Rattle.base_refusals.specs.Answer.{said}
+use Rattle.base_refusals.specs.declared.Answer.{Answer}
+use Rattle.base_refusals.specs.declared.Answer.the-variants.{Done, Refused}
+use Rattle.base_refusals.specs.Codes.{code, valueOr, numberSaid}
 
 pub values-told : {Kept Values : Type 0} (o : Outcome Kept Values) (old v : Values) → says v ≡ saidBy o → (0 ≡ code o) × (v ≡ valueOr old o)
 values-told (went kept w) old v h = (refl, cc)

@@ -1,9 +1,9 @@
 -- How the C interface tells an outcome: its result is 0, or the refusal's number; a value goes through a pointer, and a refusal leaves there what was there.
 use Prim.Native.Nat.{ℕ}
-use Rattle.refusals.specs.Refusal.{number}
-use Rattle.refusals.specs.Outcome.{Outcome, went, refused}
-use Rattle.refusals.specs.declared.Answer.{Answer}
-use Rattle.refusals.specs.declared.Answer.the-variants.{Done, Refused}
+use Rattle.base_refusals.specs.Refusal.{number}
+use Rattle.base_refusals.specs.Outcome.{Outcome, went, refused}
+use Rattle.base_refusals.specs.declared.Answer.{Answer}
+use Rattle.base_refusals.specs.declared.Answer.the-variants.{Done, Refused}
 
 abbrev pub code : {Kept Values : Type 0} → Outcome Kept Values → ℕ
 code (went kept values) = 0

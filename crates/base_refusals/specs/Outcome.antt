@@ -1,7 +1,7 @@
 -- What a call of an operation comes to, and what is read off it: the answer, and what lent memory and states hold afterwards.
 -- "A refusal answers its number only. Lent memory and states passed by value come back as given." So `saidBy` and `keptBy` say it, for every operation at once.
 use Prim.Native.Nat.{ℕ}
-use Rattle.refusals.specs.Refusal.{Refusal, number}
+use Rattle.base_refusals.specs.Refusal.{Refusal, number}
 
 -- the operation went, leaves `Kept` in what it was lent, and answers `Values`; or it is refused
 pub data Outcome (Kept Values : Type 0) : Type 0 where

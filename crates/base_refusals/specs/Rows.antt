@@ -6,8 +6,8 @@ use mathlib.Core.Logic.{_⊎_}
 use mathlib.Core.Bool.{Bool, true, false, cond}
 use mathlib.Core.List.{List, [], _∷_}
 use lib.Dec.{eqb}
-use Rattle.refusals.specs.Refusal.{Refusal, number}
-use Rattle.refusals.specs.Outcome.{Outcome, refused, refusal, saidBy, keptBy}
+use Rattle.base_refusals.specs.Refusal.{Refusal, number}
+use Rattle.base_refusals.specs.Outcome.{Outcome, refused, refusal, saidBy, keptBy}
 
 pub record Row : Type 0 where
   pub refuses : Refusal

@@ -1,7 +1,7 @@
 // How the C interface tells an answer: 0, or the refusal's number.
 ghost use mathlib.Core.Path.{_≡_};
-ghost use Rattle.codes.specs.Codes.{numberSaid};
-use refusals::Answer;
+ghost use Rattle.base_refusals.specs.Codes.{numberSaid};
+use crate::Answer;
 
 // 0, or the refusal's number.
 pub fn number_of(answer: Answer) -> u8

@@ -1,4 +1,7 @@
 // The refusals of document 01, by number. Every crate answers these and no others.
+
+pub mod codes;
+
 pub const CHANNELS: u8 = 1;
 
 pub const SAMPLES: u8 = 2;

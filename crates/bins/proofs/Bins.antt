@@ -9,10 +9,10 @@ use native.Mathlib.Nat.{le-of-suc-le-suc, not-suc-le-zero, eq-or-lt-of-le, lt-su
 use native.Mathlib.Omega.{arith}
 use lib.Dec.{T}
 use lib.Ieee.{Float, nan, le, lt}
-use Rattle.floats.proofs.Order.{is-true, is-false, float-le-trans, lt→le, lt-not-le, le-nan}
-use Rattle.tables.specs.Tables.{boundaryAt, energyAt}
-use Rattle.histogram_bins.specs.Bin.{lastNotAbove, binOf}
-use Rattle.tables.proofs.Rules.{boundaries-rise, boundary-below-energy, energy-below-next}
+use Rattle.base_floats.proofs.Order.{is-true, is-false, float-le-trans, lt→le, lt-not-le, le-nan}
+use Rattle.bins_tables.specs.Tables.{boundaryAt, energyAt}
+use Rattle.bins.specs.Bin.{lastNotAbove, binOf}
+use Rattle.bins_tables.proofs.Rules.{boundaries-rise, boundary-below-energy, energy-below-next}
 
 -- r is the last of the first n bins whose boundary is not above x, or 0
 pub last-is : (x : Float) (n r : ℕ) → r < n → (r ≡ 0) ⊎ (le (boundaryAt r) x ≡ true)

@@ -7,10 +7,10 @@ use Prim.Native.Nat.{ℕ, _+_, _-_, _/_, _≤_, _<_}
 use native.Mathlib.Omega.{arith}
 use lib.Dec.{T}
 use lib.Ieee.{Float, le}
-use Rattle.floats.proofs.Order.{is-false}
-use Rattle.tables.specs.Tables.{boundaryAt}
-use Rattle.histogram_bins.specs.Bin.{binOf}
-use Rattle.histogram_bins.proofs.Bins.{last-is, later-above}
+use Rattle.base_floats.proofs.Order.{is-false}
+use Rattle.bins_tables.specs.Tables.{boundaryAt}
+use Rattle.bins.specs.Bin.{binOf}
+use Rattle.bins.proofs.Bins.{last-is, later-above}
 
 -- the boundary `min` is not above x, or min is 0; each boundary from `max` on is above x
 pub record Bracket (x : Float) (min max : ℕ) : Type 0 where

@@ -8,10 +8,10 @@ use lib.IntN.{pos, negsuc, _+ℤ_}
 use lib.Ieee.{Float, lt, le, isNan}
 use mir.Syntax.{w32}
 use mir.Val.{SFits}
-use Rattle.refusals.specs.Refusal.{SCALE}
-use Rattle.refusals.specs.Outcome.{refused, answers}
-use Rattle.tables.specs.Tables.{boundaryAt}
-use Rattle.bin_search.specs.Reading.{offScale, readingOf, tenthsOf}
+use Rattle.base_refusals.specs.Refusal.{SCALE}
+use Rattle.base_refusals.specs.Outcome.{refused, answers}
+use Rattle.bins_tables.specs.Tables.{boundaryAt}
+use Rattle.bins.specs.Reading.{offScale, readingOf, tenthsOf}
 
 module _ (energy : Float) where
   pub off-scale : offScale energy ≡ true → readingOf energy ≡ refused SCALE

@@ -2,7 +2,7 @@
 use Prim.Native.Nat.{ℕ, zero, suc}
 use mathlib.Core.Bool.{cond}
 use lib.Ieee.{Float, le}
-use Rattle.tables.specs.Tables.{boundaryAt}
+use Rattle.bins_tables.specs.Tables.{boundaryAt}
 
 -- how many bins a histogram has
 abbrev pub bins : ℕ

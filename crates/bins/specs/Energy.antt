@@ -1,7 +1,7 @@
 -- What becomes of an energy that is added to a history (01, step 7): "An energy below boundary 0 is dropped, with answer done."
 use mathlib.Core.Bool.{Bool, cond}
 use lib.Ieee.{Float, lt}
-use Rattle.tables.specs.Tables.{boundaryAt}
+use Rattle.bins_tables.specs.Tables.{boundaryAt}
 
 abbrev pub dropped : Float → Bool
 dropped energy = lt energy (boundaryAt 0)

@@ -1,2 +1,3 @@
 pub mod Bin
 pub mod Energy
+pub mod Reading

@@ -3,13 +3,13 @@ use mathlib.Core.Bool.{Bool, _||_}
 use mathlib.Core.List.{List, [], _∷_}
 use lib.IntN.{ℤ, pos, negℤ, _+ℤ_}
 use lib.Ieee.{Float, lt, le, isNan}
-use Rattle.refusals.specs.Refusal.{SCALE}
-use Rattle.refusals.specs.Outcome.{Question, answers, Said, says, refusal}
-use Rattle.refusals.specs.Rows.{Row, row, byRows}
-use Rattle.bin_search.specs.declared.Level.{Level}
-use Rattle.bin_search.specs.declared.Level.the-variants.{Tenths, Refused}
-use Rattle.tables.specs.Tables.{boundaryAt}
-use Rattle.histogram_bins.specs.Bin.{binOf, bins}
+use Rattle.base_refusals.specs.Refusal.{SCALE}
+use Rattle.base_refusals.specs.Outcome.{Question, answers, Said, says, refusal}
+use Rattle.base_refusals.specs.Rows.{Row, row, byRows}
+use Rattle.bins.specs.declared.search.Level.{Level}
+use Rattle.bins.specs.declared.search.Level.the-variants.{Tenths, Refused}
+use Rattle.bins_tables.specs.Tables.{boundaryAt}
+use Rattle.bins.specs.Bin.{binOf, bins}
 
 -- the reading of bin 0, in tenths: -70.0 LUFS
 abbrev pub lowest : ℤ

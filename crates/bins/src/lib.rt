@@ -1,6 +1,8 @@
 // The histogram's bins: where each begins, and the energy that stands for it.
 ghost use mathlib.Core.Path.{_≡_};
-ghost use Rattle.tables.specs.Tables.{boundaryAt, energyAt};
+ghost use Rattle.bins_tables.specs.Tables.{boundaryAt, energyAt};
+
+pub mod search;
 
 // The count of a bin.
 pub type Count = u32;
@@ -19,7 +21,7 @@ pub fn lowest_boundary() -> f64
     LOWEST
 }
 
-pub fn highest_boundary() -> f64
+pub(crate) fn highest_boundary() -> f64
     ensures { λ r. ⌜ r ≡ boundaryAt 1000 ⌝ }
 {
     HIGHEST
@@ -30,7 +32,7 @@ pub fn boundary(i: usize) -> f64
     ensures { λ r. ⌜ r ≡ boundaryAt i ⌝ }
 {
     if i <= BINS {
-        let boundaries = tables::all_boundaries();
+        let boundaries = bins_tables::all_boundaries();
         boundaries[i]
     } else {
         0.0 / 0.0
@@ -42,7 +44,7 @@ pub fn energy(i: usize) -> f64
     ensures { λ r. ⌜ r ≡ energyAt i ⌝ }
 {
     if i < BINS {
-        let energies = tables::all_energies();
+        let energies = bins_tables::all_energies();
         energies[i]
     } else {
         0.0 / 0.0

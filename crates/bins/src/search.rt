@@ -1,8 +1,8 @@
 // The search for the bin of an energy, and the energy's reading in tenths, which is told from its bin.
 ghost use mathlib.Core.Path.{_≡_};
-ghost use Rattle.refusals.specs.Outcome.{saidBy};
-ghost use Rattle.histogram_bins.specs.Bin.{binOf};
-ghost use Rattle.bin_search.specs.Reading.{readingOf, said};
+ghost use Rattle.base_refusals.specs.Outcome.{saidBy};
+ghost use Rattle.bins.specs.Bin.{binOf};
+ghost use Rattle.bins.specs.Reading.{readingOf, said};
 
 // The answer of `reading`.
 pub enum Level {
@@ -14,9 +14,9 @@ pub enum Level {
 pub fn find_histogram_index(energy: f64) -> usize
     ensures { λ r. ⌜ r ≡ binOf energy ⌝ }
 {
-    let boundaries = tables::all_boundaries();
+    let boundaries = bins_tables::all_boundaries();
     let mut min = 0;
-    let mut max = histogram_bins::BINS;
+    let mut max = crate::BINS;
     loop {
         let mid = (min + max) / 2;
         if energy >= boundaries[mid] {
@@ -36,13 +36,13 @@ pub fn reading(energy: f64) -> Level
     ensures { λ r. ⌜ said r ≡ saidBy (readingOf energy) ⌝ }
 {
     if energy != energy {
-        return Level::Refused(refusals::SCALE);
+        return Level::Refused(base_refusals::SCALE);
     }
-    if energy < histogram_bins::lowest_boundary() {
-        return Level::Refused(refusals::SCALE);
+    if energy < crate::lowest_boundary() {
+        return Level::Refused(base_refusals::SCALE);
     }
-    if energy >= histogram_bins::highest_boundary() {
-        return Level::Refused(refusals::SCALE);
+    if energy >= crate::highest_boundary() {
+        return Level::Refused(base_refusals::SCALE);
     }
     let bin = find_histogram_index(energy);
     Level::Tenths(-700 + bin as i32)

@@ -7,7 +7,7 @@ use lib.Dec.{T}
 use lib.ListN.{length, getD}
 use lib.Ieee.{Float}
 use lib.Ieee.Fits.{and-l, and-r}
-use Rattle.tables.specs.Rules.{pairs}
+use Rattle.bins_tables.specs.Rules.{pairs}
 
 pub at : (f : Float → Float → Bool) (d : Float) (xs ys : List Float) → T (pairs f xs ys)
     → (k : ℕ) → k < length xs → k < length ys → T (f (getD xs k d) (getD ys k d))

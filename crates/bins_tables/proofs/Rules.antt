@@ -15,10 +15,10 @@ use lib.Seq.{getD-drop}
 use lib.Ieee.{Float, nan, lt, le, ofBits}
 use lib.Ieee.Fits.{and-l, and-r}
 use lib.Ieee.Positive.{positive, num, den, cross→le}
-use Rattle.floats.proofs.Order.{float-le-trans, lt→le, lt-not-le}
-use Rattle.tables.specs.Tables.{boundaries, energies, boundaryAt, energyAt}
-use Rattle.tables.specs.Rules.{pairs, firstPositive, tenfold, scaled, interleaved, rulesKept}
-use Rattle.tables.proofs.Pairs.{at}
+use Rattle.base_floats.proofs.Order.{float-le-trans, lt→le, lt-not-le}
+use Rattle.bins_tables.specs.Tables.{boundaries, energies, boundaryAt, energyAt}
+use Rattle.bins_tables.specs.Rules.{pairs, firstPositive, tenfold, scaled, interleaved, rulesKept}
+use Rattle.bins_tables.proofs.Pairs.{at}
 
 checked : T rulesKept
 unfolding rulesKept ofBits

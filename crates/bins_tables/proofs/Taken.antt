@@ -4,7 +4,7 @@ use mathlib.Core.List.{List}
 use Prim.Native.Nat.{ℕ}
 use lib.ListN.{getD}
 use lib.Ieee.{Float, nan}
-use Rattle.tables.specs.Tables.{boundaries, energies, boundaryAt, energyAt}
+use Rattle.bins_tables.specs.Tables.{boundaries, energies, boundaryAt, energyAt}
 
 module _ (taken : List Float) (i : ℕ) where
   pub energy-entry : taken ≡ energies → getD taken i nan ≡ energyAt i

@@ -7,7 +7,7 @@ use lib.Dec.{leb}
 use lib.ListN.{drop}
 use lib.Ieee.{Float, lt}
 use lib.Ieee.Positive.{positive, num, den}
-use Rattle.tables.specs.Tables.{boundaries, energies}
+use Rattle.bins_tables.specs.Tables.{boundaries, energies}
 
 -- a rule between the entries of two lists at each place that both have
 abbrev pub pairs : (Float → Float → Bool) → List Float → List Float → Bool

@@ -1,6 +1,6 @@
 // The two tables of the histogram's bins. Written by tools/make-tables from the Rust's histogram_bins.rs: edit that program and not this file.
 ghost use mathlib.Core.Path.{_≡_};
-ghost use Rattle.tables.specs.Tables.{boundaries, energies};
+ghost use Rattle.bins_tables.specs.Tables.{boundaries, energies};
 
 // The energies that stand for the bins: energy i at -69.95 + i/10 LUFS.
 const ENERGIES: [f64; 1000] = [

@@ -6,13 +6,13 @@ use Prim.Native.Nat.{ℕ, _%_}
 use borrow.Author.Tests.{eq-eqb, ne-eqb}
 use lib.ListN.{length}
 use lib.Ieee.{Float}
-use Rattle.refusals.specs.Refusal.{SET}
-use Rattle.refusals.specs.Outcome.{Outcome, Question, refused}
-use Rattle.queue.specs.declared.Queue.{Queue}
-use Rattle.history.specs.declared.set.Entry.{Entry}
-use Rattle.history.specs.declared.set.Shape.the-variants.{Histogram, Queue as Queue-at}
-use Rattle.history.specs.Set.{Histories}
-use Rattle.entries.specs.Sets.{numbersAnEntry, nowhere, entryOf, entryAt, setOf, asked, askedAlone}
+use Rattle.base_refusals.specs.Refusal.{SET}
+use Rattle.base_refusals.specs.Outcome.{Outcome, Question, refused}
+use Rattle.history_queue.specs.declared.Queue.{Queue}
+use Rattle.history_set.specs.declared.set.Entry.{Entry}
+use Rattle.history_set.specs.declared.set.Shape.the-variants.{Histogram, Queue as Queue-at}
+use Rattle.history_set.specs.Set.{Histories}
+use Rattle.exports_entries.specs.Sets.{numbersAnEntry, nowhere, entryOf, entryAt, setOf, asked, askedAlone}
 
 -- ---- an entry by its kind
 pub histogram-entry : (kind start : ℕ) (queue : Queue) → kind ≡ 0 → record { shape = Histogram start } ≡ entryOf kind start queue

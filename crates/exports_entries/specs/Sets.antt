@@ -5,13 +5,13 @@ use mathlib.Core.List.{List, [], _∷_}
 use lib.Dec.{eqb}
 use lib.ListN.{length, getD}
 use lib.Ieee.{Float}
-use Rattle.refusals.specs.Refusal.{SET}
-use Rattle.refusals.specs.Outcome.{Outcome, Question}
-use Rattle.refusals.specs.Rows.{Row, row, byRows}
-use Rattle.queue.specs.declared.Queue.{Queue}
-use Rattle.history.specs.declared.set.Entry.{Entry}
-use Rattle.history.specs.declared.set.Shape.the-variants.{Histogram, Queue as Queue-at}
-use Rattle.history.specs.Set.{mostHistories, Histories, histories}
+use Rattle.base_refusals.specs.Refusal.{SET}
+use Rattle.base_refusals.specs.Outcome.{Outcome, Question}
+use Rattle.base_refusals.specs.Rows.{Row, row, byRows}
+use Rattle.history_queue.specs.declared.Queue.{Queue}
+use Rattle.history_set.specs.declared.set.Entry.{Entry}
+use Rattle.history_set.specs.declared.set.Shape.the-variants.{Histogram, Queue as Queue-at}
+use Rattle.history_set.specs.Set.{mostHistories, Histories, histories}
 
 -- how many numbers an entry has
 abbrev pub numbersAnEntry : ℕ

@@ -1,12 +1,12 @@
 // A set of histories as the C interface takes it: five numbers an entry.
-use history::set::Entry;
-use history::set::Shape;
-use queue::Queue;
+use history_queue::Queue;
+use history_set::set::Entry;
+use history_set::set::Shape;
 ghost use mathlib.Core.Path.{_≡_};
 ghost use Prim.Native.Nat.{_≤_};
 ghost use lib.ListN.{getD};
-ghost use Rattle.history.specs.Set.{mostHistories};
-ghost use Rattle.entries.specs.Sets.{entryAt, entriesFrom};
+ghost use Rattle.history_set.specs.Set.{mostHistories};
+ghost use Rattle.exports_entries.specs.Sets.{entryAt, entriesFrom};
 
 // How many numbers an entry has.
 pub const NUMBERS: usize = 5;

@@ -3,13 +3,13 @@ use mathlib.Core.Path.{_≡_, refl, ap, _∙_}
 use mathlib.Core.List.{List, []}
 use Prim.Native.Nat.{ℕ}
 use lib.IntN.{ℤ}
-use Rattle.refusals.specs.Answer.{said}
-use Rattle.refusals.specs.Outcome.{Outcome, saidBy, keptBy, NoValues}
-use Rattle.refusals.specs.declared.Answer.{Answer}
+use Rattle.base_refusals.specs.Answer.{said}
+use Rattle.base_refusals.specs.Outcome.{Outcome, saidBy, keptBy, NoValues}
+use Rattle.base_refusals.specs.declared.Answer.{Answer}
 use Rattle.samples.specs.Kinds.{Samples, i16s, f32s, sizeOf, asF64, asF32, lent}
 use Rattle.samples.proofs.ByKind.{only-i16}
-use Rattle.codes.specs.Codes.{code, numberSaid}
-use Rattle.codes.proofs.Told.{answer-told}
+use Rattle.base_refusals.specs.Codes.{code, numberSaid}
+use Rattle.base_refusals.proofs.Told.{answer-told}
 use Rattle.filter.specs.Call.{Call, Kept, given, kept}
 use Rattle.filter.specs.Process.{processed}
 use Rattle.filter.specs.Seed.{seeded}

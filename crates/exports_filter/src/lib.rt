@@ -1,13 +1,13 @@
 // The C interface of the filter. include/xelamphoun.h declares it.
 ghost use mathlib.Core.Path.{_≡_};
 ghost use Rattle.samples.specs.Kinds.{i16s, f32s};
-ghost use Rattle.codes.specs.Codes.{code};
+ghost use Rattle.base_refusals.specs.Codes.{code};
 ghost use Rattle.filter.specs.Filter.{noPeaks, resting, withArrays};
 ghost use Rattle.filter.specs.Call.{Call, seedOf, standing, kept};
 ghost use Rattle.filter.specs.Process.{processed};
 ghost use Rattle.filter.specs.Seed.{seeded};
 ghost use Rattle.exports_filter.specs.Switches.{switchesOf};
-use codes::number_of;
+use base_refusals::codes::number_of;
 use filter::Switches;
 
 fn switches_of(on: u8) -> Switches

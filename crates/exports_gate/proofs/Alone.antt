@@ -4,12 +4,12 @@ use mathlib.Core.List.{List}
 use Prim.Native.Nat.{ℕ, _/_}
 use lib.ListN.{length}
 use lib.Ieee.{Float}
-use Rattle.refusals.specs.Outcome.{Question}
-use Rattle.history.specs.Set.{Histories, histories, mostHistories}
+use Rattle.base_refusals.specs.Outcome.{Question}
+use Rattle.history_set.specs.Set.{Histories, histories, mostHistories}
 use Rattle.gate.specs.Sums.{alone}
 use Rattle.gate.specs.Gate.{gateOf}
-use Rattle.gated_energy.specs.GatedEnergy.{gatedEnergyOf}
-use Rattle.entries.specs.Sets.{numbersAnEntry, entryAt, entriesFrom, setOf}
+use Rattle.gate.specs.GatedEnergy.{gatedEnergyOf}
+use Rattle.exports_entries.specs.Sets.{numbersAnEntry, entryAt, entriesFrom, setOf}
 
 module _ (numbers counters : List ℕ) (energies : List Float) (five : length numbers ≡ numbersAnEntry) where
   abbrev first : Histories

@@ -3,10 +3,10 @@ use mathlib.Core.Path.{_≡_, refl}
 use Prim.Native.Nat.{ℕ}
 use native.Mathlib.Omega.{arith}
 use lib.Ieee.{Float}
-use Rattle.refusals.specs.Outcome.{went, refused, says, refusal, saidBy, Question}
+use Rattle.base_refusals.specs.Outcome.{went, refused, says, refusal, saidBy, Question}
 use Rattle.gate.specs.Relative.{Level}
-use Rattle.codes.specs.Codes.{code}
-use Rattle.exports_threshold.specs.Levels.{floatOf, floatOr}
+use Rattle.base_refusals.specs.Codes.{code}
+use Rattle.exports_gate.specs.Levels.{floatOf, floatOr}
 
 pub level-told : (o : Question Level) (old : Float) (level : Level) → says level ≡ saidBy o → (0 ≡ code o) × (floatOf level ≡ floatOr old o)
 level-told (went kept l) old level h = (refl, cc)

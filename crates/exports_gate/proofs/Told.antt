@@ -2,10 +2,10 @@
 use mathlib.Core.Path.{_≡_, ap}
 use Prim.Native.Nat.{ℕ}
 use lib.Ieee.{Float}
-use Rattle.refusals.specs.Outcome.{says, refusal, saidBy, Question}
+use Rattle.base_refusals.specs.Outcome.{says, refusal, saidBy, Question}
 use Rattle.gate.specs.declared.blocks.Totals.{Totals}
-use Rattle.codes.specs.Codes.{code, valueOr}
-use Rattle.codes.proofs.Told.{values-told, refusal-told}
+use Rattle.base_refusals.specs.Codes.{code, valueOr}
+use Rattle.base_refusals.proofs.Told.{values-told, refusal-told}
 use Rattle.exports_gate.specs.Measures.{totalsOver}
 
 pub totals-told : (o : Question Totals) (blocks count : ℕ) (sum total : Float) → says (totalsOver count total) ≡ saidBy o

@@ -1,6 +1,6 @@
 -- How the C interface tells a relative threshold: as one float, through a pointer.
 use lib.Ieee.{Float}
-use Rattle.refusals.specs.Outcome.{went, refused, Question}
+use Rattle.base_refusals.specs.Outcome.{went, refused, Question}
 use Rattle.gate.specs.Relative.{Level, loudness, energy as levelEnergy}
 
 -- a threshold as one float: an energy is never below 0, so -70.0 is told from it

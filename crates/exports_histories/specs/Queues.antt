@@ -2,9 +2,9 @@
 use Prim.Native.Nat.{ℕ}
 use mathlib.Core.List.{List}
 use lib.Ieee.{Float}
-use Rattle.refusals.specs.Outcome.{keptBy}
-use Rattle.queue.specs.Queue.{Stored, over}
-use Rattle.queue_add.specs.Adding.{enqueued}
+use Rattle.base_refusals.specs.Outcome.{keptBy}
+use Rattle.history_queue.specs.Queue.{Stored, over}
+use Rattle.history_queue.specs.Adding.{enqueued}
 
 abbrev pub queueOver : ℕ → ℕ → ℕ → List Float → Stored
 queueOver maximum head held store = over (record { maximum = maximum; head = head; held = held }) store

@@ -1,22 +1,22 @@
 // The C interface of the histories. include/xelamphoun.h declares it.
 ghost use mathlib.Core.Path.{_≡_};
-ghost use Rattle.refusals.specs.Outcome.{keptBy};
-ghost use Rattle.codes.specs.Codes.{code};
-ghost use Rattle.histogram.specs.Histogram.{addTo, cleared};
-ghost use Rattle.histogram_merge.specs.Merge.{mergeInto};
-ghost use Rattle.queue_add.specs.Adding.{enqueued};
+ghost use Rattle.base_refusals.specs.Outcome.{keptBy};
+ghost use Rattle.base_refusals.specs.Codes.{code};
+ghost use Rattle.history_histogram.specs.Histogram.{addTo, cleared};
+ghost use Rattle.history_histogram.specs.Merge.{mergeInto};
+ghost use Rattle.history_queue.specs.Adding.{enqueued};
 ghost use Rattle.exports_histories.specs.Queues.{queueOver, afterAdd};
-use codes::number_of;
-use histogram_bins::Count;
-use queue::Queue;
-use refusals::Answer;
+use base_refusals::Answer;
+use base_refusals::codes::number_of;
+use bins::Count;
+use history_queue::Queue;
 
 #[no_mangle]
 pub extern "C" fn xel_histogram_add(counters: &mut [Count], energy: f64) -> u8
     ensures { λ r. ⌜ (r ≡ code (addTo (now (counters .entry)) energy))
         × (now (counters .exit) ≡ keptBy (now (counters .entry)) (addTo (now (counters .entry)) energy)) ⌝ }
 {
-    number_of(histogram::add(counters, energy))
+    number_of(history_histogram::add(counters, energy))
 }
 
 #[no_mangle]
@@ -24,7 +24,7 @@ pub extern "C" fn xel_histogram_merge(into: &mut [Count], from: &[Count]) -> u8
     ensures { λ r. ⌜ (r ≡ code (mergeInto (now (into .entry)) (now (from .entry))))
         × (now (into .exit) ≡ keptBy (now (into .entry)) (mergeInto (now (into .entry)) (now (from .entry)))) ⌝ }
 {
-    number_of(histogram_merge::merge(into, from))
+    number_of(history_histogram::merging::merge(into, from))
 }
 
 #[no_mangle]
@@ -32,7 +32,7 @@ pub extern "C" fn xel_histogram_reset(counters: &mut [Count]) -> u8
     ensures { λ r. ⌜ (r ≡ code (cleared (now (counters .entry))))
         × (now (counters .exit) ≡ keptBy (now (counters .entry)) (cleared (now (counters .entry)))) ⌝ }
 {
-    number_of(histogram::reset(counters))
+    number_of(history_histogram::reset(counters))
 }
 
 // A refused call stores nothing: head, held and store may be read-only, or be read meanwhile.
@@ -54,7 +54,7 @@ pub extern "C" fn xel_queue_add(
         head: *head,
         held: *held,
     };
-    let queued = queue_add::add(given, store, energy);
+    let queued = history_queue::adding::add(given, store, energy);
     let answer = queued.answer;
     match answer {
         Answer::Done => {

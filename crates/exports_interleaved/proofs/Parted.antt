@@ -2,7 +2,7 @@
 use mathlib.Core.Path.{_≡_, refl}
 use Prim.Native.Nat.{ℕ}
 use mathlib.Core.List.{List}
-use Rattle.interleaved_parts.specs.Parts.{upTo, fromOn}
+use Rattle.interleaved_slices.specs.Parts.{upTo, fromOn}
 use Rattle.exports_interleaved.specs.Part.{partOf}
 
 module _ {A : Type 0} (channels first end : ℕ) (samples : List A) where

@@ -3,8 +3,8 @@ use mathlib.Core.Path.{_≡_, refl}
 use Prim.Native.Nat.{ℕ}
 use native.Mathlib.Omega.{arith}
 use lib.Ieee.{Float}
-use Rattle.refusals.specs.Outcome.{Question, went, refused, says, refusal, saidBy}
-use Rattle.interleaved_frames.specs.Shown.{Place, at, pastTheEnd}
+use Rattle.base_refusals.specs.Outcome.{Question, went, refused, says, refusal, saidBy}
+use Rattle.interleaved_slices.specs.Shown.{Place, at, pastTheEnd}
 use Rattle.exports_interleaved.specs.Part.{placeCode, sampleElse}
 
 pub at-told : (o : Question Place) (old x : Float) → says (at x) ≡ saidBy o → (0 ≡ placeCode o) × (x ≡ sampleElse old o)

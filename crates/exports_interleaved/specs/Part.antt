@@ -3,10 +3,10 @@ use Prim.Native.Nat.{ℕ}
 use mathlib.Core.List.{List}
 use lib.ListN.{length}
 use lib.Ieee.{Float}
-use Rattle.refusals.specs.Refusal.{number}
-use Rattle.refusals.specs.Outcome.{Question, went, refused}
-use Rattle.interleaved_frames.specs.Shown.{framesIn, sampleIn, Place, at, pastTheEnd}
-use Rattle.interleaved_parts.specs.Parts.{upTo, fromOn}
+use Rattle.base_refusals.specs.Refusal.{number}
+use Rattle.base_refusals.specs.Outcome.{Question, went, refused}
+use Rattle.interleaved_slices.specs.Shown.{framesIn, sampleIn, Place, at, pastTheEnd}
+use Rattle.interleaved_slices.specs.Parts.{upTo, fromOn}
 
 -- what an `Interleaved` holds
 pub record Part (A : Type 0) : Type 0 where

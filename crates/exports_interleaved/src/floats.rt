@@ -1,12 +1,12 @@
 // Interleaved f32 samples of which a part is asked about. Each function makes the struct and asks it.
 ghost use mathlib.Core.Path.{_≡_};
-ghost use Rattle.refusals.specs.Outcome.{saidBy};
+ghost use Rattle.base_refusals.specs.Outcome.{saidBy};
 ghost use Rattle.samples.specs.Sample.{samplesOfF32};
-ghost use Rattle.interleaved_frames.specs.Said.{framesSaid, sampleSaid};
+ghost use Rattle.interleaved_slices.specs.Said.{framesSaid, sampleSaid};
 ghost use Rattle.exports_interleaved.specs.Part.{partOf, framesOfPart, sampleOfPart};
-use interleaved_floats::Interleaved;
-use interleaved_frames::Frames;
-use interleaved_frames::Sample;
+use interleaved::floats::Interleaved;
+use interleaved_slices::Frames;
+use interleaved_slices::Sample;
 
 fn part<'a>(samples: &'a [f32], channels: usize, first: usize, end: usize) -> Interleaved<'a>
     ensures { λ r. ⌜ (now (r .samples) ≡ partOf channels first end (now (samples .entry)) .samples) × (r .channels ≡ partOf channels first end (now (samples .entry)) .channels) ⌝ }
@@ -14,19 +14,19 @@ fn part<'a>(samples: &'a [f32], channels: usize, first: usize, end: usize) -> In
     Interleaved::new(samples, channels).up_to(end).from(first)
 }
 
-pub fn channels(samples: &[f32], channels: usize, first: usize, end: usize) -> usize
+pub(crate) fn channels(samples: &[f32], channels: usize, first: usize, end: usize) -> usize
     ensures { λ n. ⌜ n ≡ partOf channels first end (now (samples .entry)) .channels ⌝ }
 {
     part(samples, channels, first, end).channels()
 }
 
-pub fn frames(samples: &[f32], channels: usize, first: usize, end: usize) -> Frames
+pub(crate) fn frames(samples: &[f32], channels: usize, first: usize, end: usize) -> Frames
     ensures { λ r. ⌜ framesSaid r ≡ saidBy (framesOfPart (partOf channels first end (now (samples .entry)))) ⌝ }
 {
     part(samples, channels, first, end).frames()
 }
 
-pub fn sample(
+pub(crate) fn sample(
     samples: &[f32],
     channels: usize,
     first: usize,

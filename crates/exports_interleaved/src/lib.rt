@@ -2,10 +2,10 @@
 // so each takes the slice and the numbers, makes the struct, and asks it; the modules have that part, for each kind.
 ghost use mathlib.Core.Path.{_≡_};
 ghost use Rattle.samples.specs.Sample.{samplesOf16, samplesOfF32};
-ghost use Rattle.codes.specs.Codes.{code, valueOr};
+ghost use Rattle.base_refusals.specs.Codes.{code, valueOr};
 ghost use Rattle.exports_interleaved.specs.Part.{partOf, framesOfPart, sampleOfPart, placeCode, sampleElse};
-use interleaved_frames::Frames;
-use interleaved_frames::Sample;
+use interleaved_slices::Frames;
+use interleaved_slices::Sample;
 
 mod floats;
 mod ints;

@@ -1,8 +1,8 @@
 // The C interface of the interpolator. include/xelamphoun.h declares it.
 ghost use mathlib.Core.Path.{_≡_};
-ghost use Rattle.interp.specs.Interp.{fourfold, twofold};
-ghost use Rattle.interp.specs.Phase.{phases};
-use interp::Interp;
+ghost use Rattle.true_peak_interp.specs.Interp.{fourfold, twofold};
+ghost use Rattle.true_peak_interp.specs.Phase.{phases};
+use true_peak_interp::Interp;
 
 // The phases of a frame by factor 4, from its own sample and the 11 before it, newest first.
 #[no_mangle]

@@ -7,24 +7,24 @@ use borrow.Author.Tests.{ltb-false}
 use lib.Dec.{ltb}
 use lib.Ieee.{Float}
 use lib.ListN.{length}
-use Rattle.refusals.specs.Refusal.{SET, number}
-use Rattle.refusals.specs.Outcome.{went, refused, answers, saidBy, keptBy}
-use Rattle.refusals.proofs.Numbers.{no-number}
-use Rattle.histogram_bins.specs.Bin.{bins}
-use Rattle.histogram.specs.Histogram.{empty, sums}
-use Rattle.history.specs.declared.set.Entry.{Entry}
-use Rattle.history.specs.declared.set.Shape.{Shape}
-use Rattle.history.specs.declared.set.Shape.the-variants.{Histogram}
-use Rattle.history.specs.Set.{mostHistories, Histories, histories, historiesOf, chosen, outsideSet, anyOutside, allSound, allShow, countersAt}
-use Rattle.history.proofs.Entries.{histogram-outside}
-use Rattle.history.proofs.Rows.{set-refused, all-well}
-use Rattle.block_range.specs.Counted.{spanAt}
-use Rattle.block_range.proofs.Answers.{span-there}
-use Rattle.histogram_range.specs.Counted.{addedTo, countedSpan}
-use Rattle.histogram_range.proofs.Single.{counters-alone}
+use Rattle.base_refusals.specs.Refusal.{SET, number}
+use Rattle.base_refusals.specs.Outcome.{went, refused, answers, saidBy, keptBy}
+use Rattle.base_refusals.proofs.Numbers.{no-number}
+use Rattle.bins.specs.Bin.{bins}
+use Rattle.history_histogram.specs.Histogram.{empty, sums}
+use Rattle.history_set.specs.declared.set.Entry.{Entry}
+use Rattle.history_set.specs.declared.set.Shape.{Shape}
+use Rattle.history_set.specs.declared.set.Shape.the-variants.{Histogram}
+use Rattle.history_set.specs.Set.{mostHistories, Histories, histories, historiesOf, chosen, outsideSet, anyOutside, allSound, allShow, countersAt}
+use Rattle.history_set.proofs.Entries.{histogram-outside}
+use Rattle.history_set.proofs.Rows.{set-refused, all-well}
+use Rattle.range_one.specs.Counted.{spanAt}
+use Rattle.range_one.proofs.Answers.{span-there}
+use Rattle.range_histograms.specs.Counted.{addedTo, countedSpan}
+use Rattle.range_histograms.proofs.Single.{counters-alone}
 use Rattle.range.specs.Range.{Span, queuesIn, rangeOf}
 use Rattle.range.proofs.Answers.{range-refused, range-counted}
-use Rattle.entries.specs.Sets.{numbersAnEntry, entryAt, entriesFrom, setOf}
+use Rattle.exports_entries.specs.Sets.{numbersAnEntry, entryAt, entriesFrom, setOf}
 use Rattle.exports_range.specs.Spans.{histogramAt}
 
 module _ (rest : List Entry) (counters : List ℕ) (energies work : List Float) (start : ℕ) where

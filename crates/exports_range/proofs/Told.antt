@@ -3,7 +3,7 @@ use mathlib.Core.Path.{_≡_, refl}
 use Prim.Native.Nat.{ℕ}
 use native.Mathlib.Omega.{arith}
 use lib.Ieee.{Float}
-use Rattle.refusals.specs.Outcome.{Outcome, went, refused, says, refusal, saidBy, answers}
+use Rattle.base_refusals.specs.Outcome.{Outcome, went, refused, says, refusal, saidBy, answers}
 use Rattle.range.specs.Range.{Span, found, nothing, notANumber}
 use Rattle.exports_range.specs.Spans.{spanCode, lowOr, highOr}
 

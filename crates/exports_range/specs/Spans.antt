@@ -5,13 +5,13 @@ use mathlib.Core.List.{List}
 use lib.Dec.{ltb}
 use lib.Ieee.{Float}
 use lib.ListN.{length}
-use Rattle.refusals.specs.Refusal.{SET, number}
-use Rattle.refusals.specs.Outcome.{Outcome, went, refused, Question, answers}
-use Rattle.histogram_bins.specs.Bin.{bins}
-use Rattle.history.specs.Set.{Histories}
-use Rattle.block_range.specs.Counted.{spanAt}
+use Rattle.base_refusals.specs.Refusal.{SET, number}
+use Rattle.base_refusals.specs.Outcome.{Outcome, went, refused, Question, answers}
+use Rattle.bins.specs.Bin.{bins}
+use Rattle.history_set.specs.Set.{Histories}
+use Rattle.range_one.specs.Counted.{spanAt}
 use Rattle.range.specs.Range.{Span, found, nothing, notANumber, rangeOf}
-use Rattle.entries.specs.Sets.{asked}
+use Rattle.exports_entries.specs.Sets.{asked}
 
 -- the range of a set given as its numbers, over a work slice
 abbrev pub rangeAsked : List ℕ → List ℕ → List Float → List Float → Outcome (List Float) Span

@@ -1,14 +1,14 @@
 // The C interface of the range. include/xelamphoun.h declares it.
 ghost use mathlib.Core.Path.{_≡_};
 ghost use lib.ListN.{length};
-ghost use Rattle.refusals.specs.Outcome.{saidBy, keptBy};
-ghost use Rattle.spans.specs.Span.{said};
+ghost use Rattle.base_refusals.specs.Outcome.{saidBy, keptBy};
+ghost use Rattle.range_ranks.specs.Span.{said};
 ghost use Rattle.range.specs.Range.{rangeOf};
-ghost use Rattle.entries.specs.Sets.{numbersAnEntry, setOf};
+ghost use Rattle.exports_entries.specs.Sets.{numbersAnEntry, setOf};
 ghost use Rattle.exports_range.specs.Spans.{rangeAsked, histogramAt, spanCode, lowOr, highOr};
-use histogram_bins::Count;
-use history::set::Shape;
-use spans::Range;
+use bins::Count;
+use history_set::set::Shape;
+use range_ranks::spans::Range;
 
 // The codes of a range that answers no energies.
 const NOTHING: u8 = 128;
@@ -20,12 +20,12 @@ fn of_histogram(counters: &[Count], start: usize) -> Range
     ensures { λ r. ⌜ said r ≡ saidBy (histogramAt (now (counters .entry)) start) ⌝ }
 {
     if counters.len() < start {
-        return Range::Refused(refusals::SET);
+        return Range::Refused(base_refusals::SET);
     }
-    if counters.len() - start < histogram_bins::BINS {
-        return Range::Refused(refusals::SET);
+    if counters.len() - start < bins::BINS {
+        return Range::Refused(base_refusals::SET);
     }
-    block_range::of_counters(counters, start)
+    range_one::of_counters(counters, start)
 }
 
 // The range of the set of the numbers.
@@ -34,8 +34,8 @@ fn of_set(entries: &[usize], counters: &[Count], energies: &[f64], work: &mut [f
         × (now (work .exit) ≡ keptBy (now (work .entry)) (rangeOf (setOf (now (entries .entry)) (now (counters .entry)) (now (energies .entry))) (now (work .entry)))) ⌝ }
 {
     range::loudness_range(
-        entries::entries_of(entries),
-        entries.len() / entries::NUMBERS,
+        exports_entries::entries_of(entries),
+        entries.len() / exports_entries::NUMBERS,
         counters,
         energies,
         work,
@@ -48,7 +48,7 @@ fn of_one(entries: &[usize], counters: &[Count], energies: &[f64], work: &mut [f
     ensures { λ r. ⌜ (said r ≡ saidBy (rangeOf (setOf (now (entries .entry)) (now (counters .entry)) (now (energies .entry))) (now (work .entry))))
         × (now (work .exit) ≡ keptBy (now (work .entry)) (rangeOf (setOf (now (entries .entry)) (now (counters .entry)) (now (energies .entry))) (now (work .entry)))) ⌝ }
 {
-    let entry = entries::first_of(entries);
+    let entry = exports_entries::first_of(entries);
     let shape = entry.shape;
     match shape {
         Shape::Histogram(start) => of_histogram(counters, start),
@@ -61,11 +61,11 @@ fn asked(entries: &[usize], counters: &[Count], energies: &[f64], work: &mut [f6
     ensures { λ r. ⌜ (said r ≡ saidBy (rangeAsked (now (entries .entry)) (now (counters .entry)) (now (energies .entry)) (now (work .entry))))
         × (now (work .exit) ≡ keptBy (now (work .entry)) (rangeAsked (now (entries .entry)) (now (counters .entry)) (now (energies .entry)) (now (work .entry)))) ⌝ }
 {
-    if entries.len() == entries::NUMBERS {
+    if entries.len() == exports_entries::NUMBERS {
         return of_one(entries, counters, energies, work);
     }
-    if entries.len() % entries::NUMBERS != 0 {
-        return Range::Refused(refusals::SET);
+    if entries.len() % exports_entries::NUMBERS != 0 {
+        return Range::Refused(base_refusals::SET);
     }
     of_set(entries, counters, energies, work)
 }

@@ -9,7 +9,7 @@ use lib.Ieee.{Float}
 use Rattle.samples.specs.Sample.{samplesOf16, samplesOfF32}
 use Rattle.samples.specs.Kinds.{i16s, f32s, sizeOf, asF64, asF32, lent}
 use Rattle.samples.proofs.ByKind.{size-f64, as-they-stand}
-use Rattle.sources.specs.Source.{sourceOf}
+use Rattle.samples.specs.Source.{sourceOf}
 
 module _ (ints : List ℤ) (floats : List Float) where
   pub lent-f64 : sourceOf ints floats ≡ asF64 (lent ints floats)

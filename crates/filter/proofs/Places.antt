@@ -6,10 +6,10 @@ use mathlib.Core.Path.{_≡_, sym}
 use mathlib.Core.List.{List}
 use lib.ListN.{length, getD, List·getD-eq-default}
 use lib.Ieee.{Float, nan}
-use Rattle.floats.specs.Entry.{plusZero}
+use Rattle.base_floats.specs.Entry.{plusZero}
 use Rattle.samples.proofs.Columns.{within}
 use Rattle.filter.specs.declared.Filter.{Filter}
-use Rattle.filter_peaks.specs.Peaks.{peakOf}
+use Rattle.filter.specs.Peaks.{peakOf}
 
 module _ (f : Filter) (stored : List Float) (channel : ℕ) where
   pub no-channel : f .channels ≤ channel → plusZero ≡ peakOf f stored channel

@@ -3,10 +3,10 @@ use Prim.Native.Nat.{ℕ}
 use mathlib.Core.Bool.{cond}
 use mathlib.Core.List.{List, []}
 use lib.Ieee.{Float}
-use Rattle.refusals.specs.Outcome.{Outcome, keptBy, NoValues}
+use Rattle.base_refusals.specs.Outcome.{Outcome, keptBy, NoValues}
 use Rattle.samples.specs.Kinds.{Samples, asF64, asF32}
-use Rattle.states.specs.declared.State.{State}
-use Rattle.states.specs.Channels as recurrence
+use Rattle.filter_recurrence.specs.declared.states.State.{State}
+use Rattle.filter_recurrence.specs.Channels as recurrence
 use Rattle.true_peak_state.specs.TruePeak.{Block}
 use Rattle.filter.specs.declared.Filter.{Filter}
 use Rattle.filter.specs.Filter.{Arrays, withArrays}

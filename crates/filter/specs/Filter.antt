@@ -3,16 +3,16 @@ use Prim.Native.Nat.{ℕ}
 use mathlib.Core.List.{List}
 use lib.ListN.{replicate}
 use lib.Ieee.{Float}
-use Rattle.floats.specs.Entry.{plusZero}
-use Rattle.calls.specs.Calls.{mostChannels}
-use Rattle.recurrence.specs.declared.Coefficients.{Coefficients}
-use Rattle.states.specs.declared.State.{State}
-use Rattle.states.specs.Channels.{statePlaces}
-use Rattle.sample_peak.specs.declared.Peaks.{Peaks}
+use Rattle.base_floats.specs.Entry.{plusZero}
+use Rattle.filter_recurrence.specs.declared.Coefficients.{Coefficients}
+use Rattle.filter_recurrence.specs.declared.states.State.{State}
+use Rattle.filter_recurrence.specs.Channels.{statePlaces}
+use Rattle.filter_sample_peak.specs.declared.Peaks.{Peaks}
 use Rattle.true_peak_state.specs.declared.TruePeak.{TruePeak}
 use Rattle.true_peak_state.specs.TruePeak.{silent}
 use Rattle.filter.specs.declared.Switches.{Switches}
 use Rattle.filter.specs.declared.Filter.{Filter}
+use Rattle.samples.specs.Frames.{mostChannels}
 
 -- every channel's weighting at rest, and every channel's peak 0
 abbrev pub atRest : State

@@ -2,3 +2,4 @@ pub mod Filter
 pub mod Call
 pub mod Process
 pub mod Seed
+pub mod Peaks

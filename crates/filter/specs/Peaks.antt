@@ -5,8 +5,8 @@ use mathlib.Core.List.{List}
 use lib.Dec.{ltb}
 use lib.ListN.{getD}
 use lib.Ieee.{Float}
-use Rattle.floats.specs.Entry.{plusZero}
+use Rattle.base_floats.specs.Entry.{plusZero}
 use Rattle.filter.specs.declared.Filter.{Filter}
 
 -- a channel's peak among those stored, and 0 where the filter has no such channel
 abbrev pub peakOf : Filter → List Float → ℕ → Float

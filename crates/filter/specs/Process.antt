@@ -4,14 +4,14 @@ use mathlib.Core.Bool.{cond}
 use mathlib.Core.List.{List}
 use lib.ListN.{length}
 use lib.Ieee.{Float}
-use Rattle.refusals.specs.Outcome.{Outcome, went, NoValues, done}
-use Rattle.refusals.specs.Rows.{Row, byRows}
+use Rattle.base_refusals.specs.Outcome.{Outcome, went, NoValues, done}
+use Rattle.base_refusals.specs.Rows.{Row, byRows}
 use Rattle.samples.specs.Kinds.{sizeOf, asF64}
-use Rattle.calls.specs.Calls as calls
-use Rattle.weighting.specs.Weighting.{destAfter}
-use Rattle.sample_peak.specs.declared.Peaks.{Peaks}
-use Rattle.sample_peak.specs.Peak.{peaksAfter}
-use Rattle.interp.specs.Interp.{kindOf}
+use Rattle.filter_checks.specs.Calls as calls
+use Rattle.filter_weighting.specs.Weighting.{destAfter}
+use Rattle.filter_sample_peak.specs.declared.Peaks.{Peaks}
+use Rattle.filter_sample_peak.specs.Peak.{peaksAfter}
+use Rattle.true_peak_interp.specs.Interp.{kindOf}
 use Rattle.true_peak_state.specs.declared.TruePeak.{TruePeak}
 use Rattle.true_peak_state.specs.TruePeak.{measured}
 use Rattle.filter.specs.Filter.{moved}

@@ -2,11 +2,11 @@
 -- "`seed` moves filter and interpolator state and writes no peak and no destination."
 use mathlib.Core.Bool.{cond}
 use mathlib.Core.List.{List}
-use Rattle.refusals.specs.Outcome.{Outcome, went, NoValues, done}
-use Rattle.refusals.specs.Rows.{Row, byRows}
+use Rattle.base_refusals.specs.Outcome.{Outcome, went, NoValues, done}
+use Rattle.base_refusals.specs.Rows.{Row, byRows}
 use Rattle.samples.specs.Kinds.{sizeOf}
-use Rattle.calls.specs.Calls as calls
-use Rattle.interp.specs.Interp.{kindOf}
+use Rattle.filter_checks.specs.Calls as calls
+use Rattle.true_peak_interp.specs.Interp.{kindOf}
 use Rattle.true_peak_state.specs.declared.TruePeak.{TruePeak}
 use Rattle.true_peak_state.specs.TruePeak.{measured}
 use Rattle.filter.specs.Filter.{moved}

@@ -2,10 +2,12 @@
 ghost use mathlib.Core.Path.{_≡_};
 ghost use Rattle.true_peak_state.specs.TruePeak.{silent};
 ghost use Rattle.filter.specs.Filter.{atRest, noPeaks, resting, moved};
-use recurrence::Coefficients;
-use sample_peak::Peaks;
-use states::State;
+use filter_recurrence::Coefficients;
+use filter_recurrence::states::State;
+use filter_sample_peak::Peaks;
 use true_peak_state::TruePeak;
+
+pub mod peaks;
 
 // What a call works out. What is off alters nothing.
 pub struct Switches {
@@ -27,7 +29,7 @@ pub struct Filter {
 
 // What a call comes to, with the filter as it is afterwards. A refused call leaves it as given.
 pub struct Filtered {
-    pub answer: refusals::Answer,
+    pub answer: base_refusals::Answer,
     pub filter: Filter,
 }
 

@@ -1,7 +1,7 @@
 // What a filter's caller reads of it: a channel's peaks.
 ghost use mathlib.Core.Path.{_≡_};
-ghost use Rattle.filter_peaks.specs.Peaks.{peakOf};
-use filter::Filter;
+ghost use Rattle.filter.specs.Peaks.{peakOf};
+use crate::Filter;
 
 // A channel's sample peak, and 0 where the filter has no such channel.
 pub fn sample_peak(filter: Filter, channel: usize) -> f64

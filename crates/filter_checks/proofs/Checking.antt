@@ -11,11 +11,13 @@ use borrow.Author.Tests.{eqb-true, eqb-false, eq-eqb, ne-eqb, ltb-false, not-fal
 use lib.Dec.{ltb, eqb}
 use lib.ListN.{length, getD, drop}
 use lib.Seq.{drop-cons}
-use Rattle.refusals.specs.Refusal.{CHANNELS, SAMPLES, MAP, DEST}
-use Rattle.refusals.specs.Rows.{numberOf}
-use Rattle.refusals.proofs.Rows.{not-held, number-parts}
-use Rattle.calls.specs.declared.Sizes.{Sizes}
-use Rattle.calls.specs.Calls.{mostChannels, allAdmitted, wrongChannels, wrongSamples, wrongMap, wrongDest, frameRows, mapRows, destRows, seedRows, processRows}
+use Rattle.base_refusals.specs.Refusal.{CHANNELS, SAMPLES, MAP, DEST}
+use Rattle.base_refusals.specs.Rows.{numberOf}
+use Rattle.base_refusals.proofs.Rows.{not-held, number-parts}
+use Rattle.filter_checks.specs.declared.Sizes.{Sizes}
+use Rattle.filter_checks.specs.Calls.{allAdmitted, wrongChannels, wrongSamples, wrongMap, wrongDest, frameRows, mapRows, destRows, seedRows, processRows}
+use Rattle.samples.specs.Frames.{mostChannels}
+use Rattle.samples.proofs.Cutting.{Framed}
 
 -- ---- map bytes
 
@@ -46,12 +48,6 @@ has-room p f s h g = le-ltb p (s + f) (omega arith)
 neither : (a b : Bool) → (a || b) ≡ false → (a ≡ false) × (b ≡ false)
 neither true b e = absurd (true≢false e)
 neither false b e = (refl, e)
-
--- the samples are whole frames of few channels
-pub record Framed (channels samples : ℕ) : Type 0 where
-  pub some : 0 < channels
-  pub few : channels ≤ mostChannels
-  pub whole : samples / channels * channels ≡ samples
 
 framed : (channels samples : ℕ) → wrongChannels channels ≡ false → wrongSamples channels samples ≡ false → Framed channels samples
 framed channels samples c s =

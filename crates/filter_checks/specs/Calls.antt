@@ -4,13 +4,10 @@ use mathlib.Core.Bool.{Bool, true, not, _&&_, _||_}
 use mathlib.Core.List.{List, [], _∷_, _++_}
 use lib.Dec.{leb, ltb, eqb}
 use lib.ListN.{length}
-use Rattle.refusals.specs.Refusal.{CHANNELS, SAMPLES, MAP, DEST}
-use Rattle.refusals.specs.Rows.{Row, row}
-use Rattle.calls.specs.declared.Sizes.{Sizes}
-
--- the channels that states and peaks have places for
-abbrev pub mostChannels : ℕ
-mostChannels = 8
+use Rattle.base_refusals.specs.Refusal.{CHANNELS, SAMPLES, MAP, DEST}
+use Rattle.base_refusals.specs.Rows.{Row, row}
+use Rattle.filter_checks.specs.declared.Sizes.{Sizes}
+use Rattle.samples.specs.Frames.{mostChannels}
 
 -- the bytes that a map admits: 0 for an unused channel, 1 for a used one
 abbrev pub admits : ℕ → Bool

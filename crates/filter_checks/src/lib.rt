@@ -1,8 +1,8 @@
 // The checks of a call over samples, in the order of the table. Each answers the number of the first refusal, and 0 where there is none.
 ghost use mathlib.Core.Path.{_≡_};
 ghost use Prim.Native.Nat.{_<_};
-ghost use Rattle.refusals.specs.Rows.{numberOf};
-ghost use Rattle.calls.specs.Calls.{allAdmitted, frameRows, mapRows, destRows, seedRows, processRows};
+ghost use Rattle.base_refusals.specs.Rows.{numberOf};
+ghost use Rattle.filter_checks.specs.Calls.{allAdmitted, frameRows, mapRows, destRows, seedRows, processRows};
 
 // The channels that states and peaks have places for.
 const MOST_CHANNELS: usize = 8;
@@ -33,13 +33,13 @@ pub fn refused_frames(channels: usize, samples: usize) -> u8
     ensures { λ r. ⌜ r ≡ numberOf (frameRows channels samples) ⌝ }
 {
     if channels == 0 {
-        return refusals::CHANNELS;
+        return base_refusals::CHANNELS;
     }
     if MOST_CHANNELS < channels {
-        return refusals::CHANNELS;
+        return base_refusals::CHANNELS;
     }
     if samples % channels != 0 {
-        return refusals::SAMPLES;
+        return base_refusals::SAMPLES;
     }
     0
 }
@@ -48,10 +48,10 @@ fn refused_map(channels: usize, map: &[u8]) -> u8
     ensures { λ r. ⌜ r ≡ numberOf (mapRows channels (now (map .entry))) ⌝ }
 {
     if map.len() != channels {
-        return refusals::MAP;
+        return base_refusals::MAP;
     }
     if !all_admitted(map) {
-        return refusals::MAP;
+        return base_refusals::MAP;
     }
     0
 }
@@ -65,18 +65,18 @@ fn refused_dest(loudness: bool, sizes: Sizes) -> u8
         return 0;
     }
     if sizes.room == 0 {
-        return refusals::DEST;
+        return base_refusals::DEST;
     }
     if sizes.room % sizes.channels != 0 {
-        return refusals::DEST;
+        return base_refusals::DEST;
     }
     let frames = sizes.samples / sizes.channels;
     let part = sizes.room / sizes.channels;
     if part < frames {
-        return refusals::DEST;
+        return base_refusals::DEST;
     }
     if part - frames < sizes.start {
-        return refusals::DEST;
+        return base_refusals::DEST;
     }
     0
 }

@@ -5,19 +5,19 @@ use mathlib.Core.Bool.{Bool, true, false, cond}
 use mathlib.Core.List.{List}
 use lib.ListN.{length}
 use lib.Ieee.{Float}
-use Rattle.refusals.specs.Outcome.{Outcome, keptBy, went, NoValues, done}
-use Rattle.refusals.specs.Rows.{numberOf}
-use Rattle.refusals.proofs.Rows.{goes}
+use Rattle.base_refusals.specs.Outcome.{Outcome, keptBy, went, NoValues, done}
+use Rattle.base_refusals.specs.Rows.{numberOf}
+use Rattle.base_refusals.proofs.Rows.{goes}
 use Rattle.samples.specs.Kinds.{sizeOf, asF64, asF32}
 use Rattle.samples.proofs.ByKind.{size-f64, size-f32}
-use Rattle.calls.specs.Calls.{sizes, frameRows}
-use Rattle.calls.specs.Calls as calls
-use Rattle.calls.proofs.Checking.{seed-frames, process-seeds}
-use Rattle.states.specs.Channels as recurrence
-use Rattle.weighting.specs.Weighting as weighting
-use Rattle.sample_peak.specs.declared.Peaks.{Peaks}
-use Rattle.sample_peak.specs.Peak.{peaksAfter, raised}
-use Rattle.interp.specs.Interp.{kindOf}
+use Rattle.filter_checks.specs.Calls.{sizes, frameRows}
+use Rattle.filter_checks.specs.Calls as calls
+use Rattle.filter_checks.proofs.Checking.{seed-frames, process-seeds}
+use Rattle.filter_recurrence.specs.Channels as recurrence
+use Rattle.filter_weighting.specs.Weighting as weighting
+use Rattle.filter_sample_peak.specs.declared.Peaks.{Peaks}
+use Rattle.filter_sample_peak.specs.Peak.{peaksAfter, raised}
+use Rattle.true_peak_interp.specs.Interp.{kindOf}
 use Rattle.true_peak_state.specs.declared.TruePeak.{TruePeak}
 use Rattle.true_peak_state.specs.TruePeak.{measured}
 use Rattle.true_peak.specs.TruePeak as trues

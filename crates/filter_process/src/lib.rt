@@ -1,28 +1,28 @@
 // One call of the filter: sample peak, true peak and weighting over interleaved samples, each switched on by itself.
 ghost use mathlib.Core.Path.{_≡_};
 ghost use mathlib.Core.Bool.{cond};
-ghost use Rattle.refusals.specs.Answer.{said};
-ghost use Rattle.refusals.specs.Outcome.{saidBy, keptBy};
+ghost use Rattle.base_refusals.specs.Answer.{said};
+ghost use Rattle.base_refusals.specs.Outcome.{saidBy, keptBy};
 ghost use Rattle.samples.specs.Kinds.{i16s, f32s, asF64, asF32, lent};
-ghost use Rattle.states.specs.declared.State.{State};
-ghost use Rattle.states.specs.Channels as recurrence;
-ghost use Rattle.weighting.specs.Weighting as weighting;
-ghost use Rattle.sample_peak.specs.declared.Peaks.{Peaks};
-ghost use Rattle.sample_peak.specs.Peak.{raised};
+ghost use Rattle.filter_recurrence.specs.declared.states.State.{State};
+ghost use Rattle.filter_recurrence.specs.Channels as recurrence;
+ghost use Rattle.filter_weighting.specs.Weighting as weighting;
+ghost use Rattle.filter_sample_peak.specs.declared.Peaks.{Peaks};
+ghost use Rattle.filter_sample_peak.specs.Peak.{raised};
 ghost use Rattle.true_peak_state.specs.declared.TruePeak.{TruePeak};
 ghost use Rattle.true_peak_state.specs.TruePeak.{Block};
 ghost use Rattle.true_peak.specs.TruePeak as trues;
 ghost use Rattle.filter.specs.Filter.{resting, withArrays};
 ghost use Rattle.filter.specs.Call.{Call, standing, kept};
 ghost use Rattle.filter.specs.Process.{processed};
-use calls::Sizes;
+use base_refusals::Answer;
 use filter::Filter;
 use filter::Filtered;
 use filter::Switches;
-use recurrence::Coefficients;
-use refusals::Answer;
-use sample_peak::Peaks;
-use states::State;
+use filter_checks::Sizes;
+use filter_recurrence::Coefficients;
+use filter_recurrence::states::State;
+use filter_sample_peak::Peaks;
 use true_peak_state::TruePeak;
 
 // The sample peaks after the call. Where the sample peak is off they are not looked at.
@@ -34,7 +34,7 @@ fn raise(on: bool, peaks: &mut [f64; 8], channels: usize, ints: &[i16], floats: 
     if !on {
         return;
     }
-    let m = sample_peak::process(Peaks { values: *peaks }, channels, ints, floats);
+    let m = filter_sample_peak::process(Peaks { values: *peaks }, channels, ints, floats);
     let after = m.peaks.values;
     *peaks = after;
 }
@@ -61,7 +61,7 @@ fn listen(
         memory: *memory,
         peaks: *peaks,
     };
-    let m = true_peaks::process(rate, stored, channels, ints, floats);
+    let m = true_peak::calls::process(rate, stored, channels, ints, floats);
     let memory_after = m.state.memory;
     *memory = memory_after;
     let peaks_after = m.state.peaks;
@@ -89,7 +89,7 @@ fn weigh(
     }
     let channels = sizes.channels;
     let start = sizes.start;
-    weighting::process_lent(c, state, channels, ints, floats, map, dest, start);
+    filter_weighting::process_lent(c, state, channels, ints, floats, map, dest, start);
 }
 
 // One call for samples of either kind, integers, or floats where there are no integers, on arrays that are lent each by itself.
@@ -118,14 +118,14 @@ pub fn process_lent(
         (said r ≡ saidBy (processed call)) × (left ≡ kept processed call)) ⌝ }
 {
     let loudness = switches.loudness;
-    let samples = sources::size_of(ints, floats);
+    let samples = samples::sources::size_of(ints, floats);
     let sizes = Sizes {
         channels: channels,
         samples: samples,
         room: dest.len(),
         start: start,
     };
-    let number = calls::refused_process(loudness, sizes, map);
+    let number = filter_checks::refused_process(loudness, sizes, map);
     if number != 0 {
         return Answer::Refused(number);
     }

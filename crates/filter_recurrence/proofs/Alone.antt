@@ -5,10 +5,11 @@ use native.Mathlib.Omega.{arith}
 use mathlib.Core.Path.{_≡_, subst}
 use mathlib.Core.Bool.{cond}
 use lib.ListN.{length, getD}
-use Rattle.calls.specs.Calls.{mostChannels, used}
-use Rattle.recurrence.specs.Recurrence.{after, flushed}
-use Rattle.states.specs.Channels.{Call, statePlaces, memoryOf, heard, stateAfter}
-use Rattle.states.proofs.Memories.{over-own}
+use Rattle.filter_checks.specs.Calls.{used}
+use Rattle.filter_recurrence.specs.Recurrence.{after, flushed}
+use Rattle.filter_recurrence.specs.Channels.{Call, statePlaces, memoryOf, heard, stateAfter}
+use Rattle.filter_recurrence.proofs.Memories.{over-own}
+use Rattle.samples.specs.Frames.{mostChannels}
 
 pub own-state : (call : Call) (k : ℕ) → k < length (call .map) → k < mostChannels → length (call .state .values) ≡ statePlaces
     → memoryOf (stateAfter call) k

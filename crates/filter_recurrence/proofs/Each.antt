@@ -8,8 +8,8 @@ use mathlib.Core.List.{List, [], _∷_}
 use mathlib.Core.Bool.{Bool, true, false, cond}
 use lib.ListN.{length, getD, drop, drop-of-length-le}
 use lib.Seq.{drop-cons}
-use Rattle.calls.specs.Calls.{used}
-use Rattle.states.specs.Channels.{eachUsed}
+use Rattle.filter_checks.specs.Calls.{used}
+use Rattle.filter_recurrence.specs.Channels.{eachUsed}
 
 module _ {S : Type 0} where
   -- one channel more

@@ -1,1 +1,5 @@
 pub mod Moving
+pub mod Each
+pub mod Memories
+pub mod Runs
+pub mod Alone

@@ -9,14 +9,15 @@ use mathlib.Core.Bool.{Bool, true, false, cond}
 use lib.ListN.{length, getD, set, List·getD-eq-default}
 use lib.Seq.{length-sets, set-getD}
 use lib.Ieee.{Float, nan}
-use Rattle.fills.proofs.Fill.{past-end}
-use Rattle.calls.specs.Calls.{mostChannels, used}
+use Rattle.samples.proofs.Fill.{past-end}
+use Rattle.filter_checks.specs.Calls.{used}
 use Rattle.samples.proofs.Stored.{at-before, at-after, at-within}
-use Rattle.sources.proofs.Stores.{five-stores, sets-comm, sets-again}
-use Rattle.recurrence.specs.declared.Memory.{Memory}
-use Rattle.floats.specs.Entry.{at}
-use Rattle.states.specs.Channels.{statePlaces, memoryOf, withMemory, eachUsed, overUsed}
-use Rattle.states.proofs.Each.{each-twice}
+use Rattle.samples.proofs.Stores.{five-stores, sets-comm, sets-again}
+use Rattle.samples.specs.Frames.{mostChannels}
+use Rattle.filter_recurrence.specs.declared.Memory.{Memory}
+use Rattle.base_floats.specs.Entry.{at}
+use Rattle.filter_recurrence.specs.Channels.{statePlaces, memoryOf, withMemory, eachUsed, overUsed}
+use Rattle.filter_recurrence.proofs.Each.{each-twice}
 
 abbrev five : Memory → List Float
 five m = m .s0 ∷ m .s1 ∷ m .s2 ∷ m .s3 ∷ m .s4 ∷ []

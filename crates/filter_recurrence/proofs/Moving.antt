@@ -9,9 +9,9 @@ use lib.Seq.{sets}
 use lib.Ieee.{Float, nan}
 use Rattle.samples.specs.Frames.{silence, column}
 use Rattle.samples.proofs.Columns.{within}
-use Rattle.sources.proofs.Reaching.{one-less}
-use Rattle.recurrence.specs.declared.Memory.{Memory}
-use Rattle.recurrence.specs.Recurrence.{head, output, shift, next, out, after, outs}
+use Rattle.samples.proofs.Reaching.{one-less}
+use Rattle.filter_recurrence.specs.declared.Memory.{Memory}
+use Rattle.filter_recurrence.specs.Recurrence.{head, output, shift, next, out, after, outs}
 
 -- ---- one turn: x is the sample, g the new s0, y the output and m′ the memory after it
 

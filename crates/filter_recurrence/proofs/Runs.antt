@@ -5,14 +5,13 @@ use mathlib.Core.Path.{_≡_, refl, ap, sym, _∙_}
 use mathlib.Core.List.{List}
 use lib.ListN.{length}
 use lib.Ieee.{Float}
-use Rattle.samples.specs.Frames.{column, channelOf}
-use Rattle.calls.specs.Calls.{mostChannels}
-use Rattle.sources.proofs.Cutting.{Next, joined, frames-are}
-use Rattle.recurrence.specs.Recurrence.{after, flushed}
-use Rattle.recurrence.proofs.Moving.{after-append, none-after}
-use Rattle.states.specs.Channels.{Call, statePlaces, memoryOf, withMemory, overUsed, stateAfter}
-use Rattle.states.proofs.Each.{each-same, each-none}
-use Rattle.states.proofs.Memories.{with-own, over-twice}
+use Rattle.samples.specs.Frames.{column, channelOf, mostChannels}
+use Rattle.samples.proofs.Cutting.{Next, joined, frames-are}
+use Rattle.filter_recurrence.specs.Recurrence.{after, flushed}
+use Rattle.filter_recurrence.proofs.Moving.{after-append, none-after}
+use Rattle.filter_recurrence.specs.Channels.{Call, statePlaces, memoryOf, withMemory, overUsed, stateAfter}
+use Rattle.filter_recurrence.proofs.Each.{each-same, each-none}
+use Rattle.filter_recurrence.proofs.Memories.{with-own, over-twice}
 
 -- ---- the runs
 

@@ -6,12 +6,12 @@ use mathlib.Core.List.{List, [], _∷_}
 use lib.Seq.{sets}
 use lib.Ieee.{Float}
 use Rattle.samples.specs.Frames.{channelOf}
-use Rattle.calls.specs.Calls.{used}
-use Rattle.recurrence.specs.declared.Memory.{Memory}
-use Rattle.recurrence.specs.declared.Coefficients.{Coefficients}
-use Rattle.states.specs.declared.State.{State}
-use Rattle.floats.specs.Entry.{at}
-use Rattle.recurrence.specs.Recurrence.{after, flushed}
+use Rattle.filter_checks.specs.Calls.{used}
+use Rattle.filter_recurrence.specs.declared.Memory.{Memory}
+use Rattle.filter_recurrence.specs.declared.Coefficients.{Coefficients}
+use Rattle.filter_recurrence.specs.declared.states.State.{State}
+use Rattle.base_floats.specs.Entry.{at}
+use Rattle.filter_recurrence.specs.Recurrence.{after, flushed}
 
 -- five places of the flat state a channel
 abbrev pub statePlaces : ℕ

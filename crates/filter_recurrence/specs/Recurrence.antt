@@ -4,9 +4,9 @@ use mathlib.Core.Bool.{cond, false}
 use mathlib.Core.List.{List, [], _∷_}
 use lib.IntN.{negsuc}
 use lib.Ieee.{Float, fin, binary64, add, sub, mul, lt}
-use Rattle.floats.specs.Entry.{plusZero, at}
-use Rattle.floats.specs.Largest.{magnitude}
-use Rattle.recurrence.specs.declared.Memory.{Memory}
+use Rattle.base_floats.specs.Entry.{plusZero, at}
+use Rattle.base_floats.specs.Largest.{magnitude}
+use Rattle.filter_recurrence.specs.declared.Memory.{Memory}
 
 -- ---- one frame of one channel
 

@@ -1,10 +1,10 @@
 // The flush of the weighting's state at the end of a call.
 ghost use mathlib.Core.Path.{_≡_};
 ghost use mathlib.Core.Bool.{cond};
-ghost use Rattle.calls.specs.Calls.{used};
-ghost use Rattle.recurrence.specs.Recurrence.{flush, flushed};
-ghost use Rattle.states.specs.Channels.{memoryOf, withMemory, overUsed};
-use recurrence::Memory;
+ghost use Rattle.filter_checks.specs.Calls.{used};
+ghost use Rattle.filter_recurrence.specs.Recurrence.{flush, flushed};
+ghost use Rattle.filter_recurrence.specs.Channels.{memoryOf, withMemory, overUsed};
+use crate::Memory;
 
 // 2^-1022 and its negative bound the values that are flushed.
 fn flush_one(v: f64) -> f64
@@ -38,8 +38,8 @@ fn flush_channel(state: &mut [f64; 40], byte: u8, k: usize)
     if byte == 0 {
         return;
     }
-    let m = states::load(state, k);
-    states::store(state, k, flush_all(m));
+    let m = crate::states::load(state, k);
+    crate::states::store(state, k, flush_all(m));
 }
 
 // Every used channel's memory, flushed. A map byte of 0 is an unused channel.

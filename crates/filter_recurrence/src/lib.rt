@@ -1,6 +1,9 @@
 // The recurrence of the weighting: a channel's memory, and one frame of it.
 ghost use mathlib.Core.Path.{_≡_};
-ghost use Rattle.recurrence.specs.Recurrence.{head, output, shift};
+ghost use Rattle.filter_recurrence.specs.Recurrence.{head, output, shift};
+
+pub mod flushing;
+pub mod states;
 
 // The weighting's coefficients, as the Rust names them: `a` weighs the state, `b` the output.
 pub struct Coefficients {

@@ -1,8 +1,8 @@
 // The weighting's flat state: each channel's memory in its own five places.
 ghost use mathlib.Core.Path.{_≡_};
 ghost use lib.Ieee.{nan};
-ghost use Rattle.states.specs.Channels.{memoryOf, withMemory};
-use recurrence::Memory;
+ghost use Rattle.filter_recurrence.specs.Channels.{memoryOf, withMemory};
+use crate::Memory;
 
 // The weighting's memory: channel c's s0 to s4 at places 5c to 5c + 4.
 pub struct State {

@@ -7,10 +7,10 @@ use mathlib.Core.List.{List}
 use lib.ListN.{length, getD}
 use lib.Ieee.{Float, nan}
 use Rattle.samples.specs.Frames.{channelOf}
-use Rattle.floats.specs.Entry.{plusZero}
-use Rattle.floats.specs.Largest.{greater, largest}
-use Rattle.sample_peak.specs.Peak.{peaksAfter}
-use Rattle.sample_peak.proofs.Loudest.{channels-first, channels-past}
+use Rattle.base_floats.specs.Entry.{plusZero}
+use Rattle.base_floats.specs.Largest.{greater, largest}
+use Rattle.filter_sample_peak.specs.Peak.{peaksAfter}
+use Rattle.filter_sample_peak.proofs.Loudest.{channels-first, channels-past}
 
 module _ (channels : ℕ) (samples stored : List Float) (k : ℕ) where
   pub own-peak : k < channels → channels ≤ length stored

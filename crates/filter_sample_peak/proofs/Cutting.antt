@@ -6,12 +6,12 @@ use mathlib.Core.List.{List}
 use lib.ListN.{length, getD}
 use lib.Ieee.{Float, nan}
 use Rattle.samples.specs.Frames.{column, channelOf}
-use Rattle.sources.proofs.Cutting.{Next, joined, frames-are}
-use Rattle.floats.specs.Entry.{plusZero}
-use Rattle.floats.specs.Largest.{greater, largest}
-use Rattle.sample_peak.specs.Peak.{overChannels, peaksAfter}
-use Rattle.floats.proofs.Magnitude.{largest-append}
-use Rattle.sample_peak.proofs.Loudest.{peaks, channels-same}
+use Rattle.samples.proofs.Cutting.{Next, joined, frames-are}
+use Rattle.base_floats.specs.Entry.{plusZero}
+use Rattle.base_floats.specs.Largest.{greater, largest}
+use Rattle.filter_sample_peak.specs.Peak.{overChannels, peaksAfter}
+use Rattle.base_floats.proofs.Magnitude.{largest-append}
+use Rattle.filter_sample_peak.proofs.Loudest.{peaks, channels-same}
 
 pub cut-peaks : (src stretch : List Float) (channels done count : ℕ) → Next src stretch channels done count
     → (j : ℕ) (top : Float) → j < channels → top ≡ largest plusZero (column src j channels done)

@@ -10,14 +10,14 @@ use mathlib.Core.List.{List, [], _∷_}
 use lib.Dec.{T}
 use lib.ListN.{length, getD}
 use lib.Ieee.{Float, nan, binary64, lt, isNan, fits}
-use Rattle.floats.proofs.Order.{is-true, is-false, right-number, beaten}
+use Rattle.base_floats.proofs.Order.{is-true, is-false, right-number, beaten}
 use Rattle.samples.specs.Frames.{silence, column}
 use Rattle.samples.proofs.Columns.{within, column-append}
-use Rattle.sources.proofs.Cutting.{some-frames}
-use Rattle.floats.specs.Entry.{plusZero}
-use Rattle.floats.specs.Largest.{magnitude, greater, greatest, largest}
-use Rattle.floats.proofs.Magnitude.{magnitude-again, High, largest-append}
-use Rattle.sample_peak.proofs.Tops.{Top, Stands, top-of, one-top, same-magnitudes}
+use Rattle.samples.proofs.Cutting.{some-frames}
+use Rattle.base_floats.specs.Entry.{plusZero}
+use Rattle.base_floats.specs.Largest.{magnitude, greater, greatest, largest}
+use Rattle.base_floats.proofs.Magnitude.{magnitude-again, High, largest-append}
+use Rattle.filter_sample_peak.proofs.Tops.{Top, Stands, top-of, one-top, same-magnitudes}
 
 -- what a turn from place `at` on does to lane j's top
 abbrev pub turn : List Float → ℕ → ℕ → Float → Float

@@ -9,11 +9,11 @@ use lib.ListN.{length, getD, set, length-set, replicate, getD-replicate}
 use lib.Seq.{getD-set-same, getD-set-other}
 use lib.Ieee.{Float, nan}
 use Rattle.samples.specs.Frames.{silence, column}
-use Rattle.floats.specs.Entry.{plusZero}
-use Rattle.floats.specs.Largest.{magnitude, greater, greatest, largest}
-use Rattle.sample_peak.specs.Peak.{overChannels}
+use Rattle.base_floats.specs.Entry.{plusZero}
+use Rattle.base_floats.specs.Largest.{magnitude, greater, greatest, largest}
+use Rattle.filter_sample_peak.specs.Peak.{overChannels}
 use Rattle.samples.proofs.Columns.{within}
-use Rattle.sources.proofs.Reaching.{one-less}
+use Rattle.samples.proofs.Reaching.{one-less}
 
 -- ---- samples
 

@@ -6,9 +6,9 @@ use mathlib.Core.List.{List}
 use lib.Ieee.{Float}
 use Rattle.samples.specs.Frames.{column}
 use Rattle.samples.proofs.Columns.{column-append}
-use Rattle.floats.specs.Largest.{largest}
-use Rattle.sources.specs.Blocks.{Reach}
-use Rattle.floats.proofs.Magnitude.{largest-append}
+use Rattle.base_floats.specs.Largest.{largest}
+use Rattle.samples.specs.Blocks.{Reach}
+use Rattle.base_floats.proofs.Magnitude.{largest-append}
 
 distributed : (m n step : ℕ) → (m + n) * step ≡ m * step + n * step
 distributed m n step = omega arith

@@ -12,11 +12,11 @@ use lib.Dec.{T}
 use lib.ListN.{getD}
 use lib.Ieee.{Float, nan, inf, fin, binary64, up, down, lt, isNan, fits}
 use lib.Ieee.Fits.{down-pos}
-use Rattle.floats.proofs.Order.{is-true, is-false, right-number, irreflexive, lt-lt}
-use Rattle.floats.proofs.Magnitude.{magnitude-fits}
-use Rattle.floats.proofs.Value.{same-float}
+use Rattle.base_floats.proofs.Order.{is-true, is-false, right-number, irreflexive, lt-lt}
+use Rattle.base_floats.proofs.Magnitude.{magnitude-fits}
+use Rattle.base_floats.proofs.Value.{same-float}
 use Rattle.samples.specs.Frames.{silence, column}
-use Rattle.floats.specs.Largest.{magnitude, greater, greatest, largest}
+use Rattle.base_floats.specs.Largest.{magnitude, greater, greatest, largest}
 
 pub record Top (p : Float) (S : Float → Type 0) (z : Float) : Type 0 where
   pub whence : (z ≡ p) ⊎ (T (lt p z) × S z)

@@ -3,13 +3,13 @@ use Prim.Native.Nat.{ℕ, zero, suc}
 use mathlib.Core.List.{List}
 use lib.ListN.{length, getD, set}
 use lib.Ieee.{Float, nan}
-use Rattle.floats.specs.Entry.{plusZero}
-use Rattle.floats.specs.Largest.{greater, greatest, largest}
-use Rattle.refusals.specs.Outcome.{Outcome, went, NoValues, done}
+use Rattle.base_floats.specs.Entry.{plusZero}
+use Rattle.base_floats.specs.Largest.{greater, greatest, largest}
+use Rattle.base_refusals.specs.Outcome.{Outcome, went, NoValues, done}
 use Rattle.samples.specs.Frames.{channelOf}
-use Rattle.refusals.specs.Rows.{byRows}
-use Rattle.calls.specs.Calls.{frameRows}
-use Rattle.sample_peak.specs.declared.Peaks.{Peaks}
+use Rattle.base_refusals.specs.Rows.{byRows}
+use Rattle.filter_checks.specs.Calls.{frameRows}
+use Rattle.filter_sample_peak.specs.declared.Peaks.{Peaks}
 
 -- n values changed, from channel k on
 unfoldable pub overChannels : (ℕ → Float → Float) → ℕ → ℕ → List Float → List Float

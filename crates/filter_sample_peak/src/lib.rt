@@ -3,15 +3,14 @@ ghost use mathlib.Core.Path.{_≡_};
 ghost use Prim.Native.Nat.{ℕ, _<_, _≤_};
 ghost use lib.ListN.{length, getD};
 ghost use lib.Ieee.{nan};
-ghost use Rattle.refusals.specs.Answer.{said};
-ghost use Rattle.refusals.specs.Outcome.{saidBy, keptBy};
-ghost use Rattle.samples.specs.Frames.{column};
-ghost use Rattle.calls.specs.Calls.{mostChannels};
-ghost use Rattle.sources.specs.Source.{sourceOf};
-ghost use Rattle.sources.specs.Blocks.{Whole};
-ghost use Rattle.floats.specs.Entry.{plusZero};
-ghost use Rattle.floats.specs.Largest.{greater, largest};
-ghost use Rattle.sample_peak.specs.Peak.{overChannels, raised};
+ghost use Rattle.base_refusals.specs.Answer.{said};
+ghost use Rattle.base_refusals.specs.Outcome.{saidBy, keptBy};
+ghost use Rattle.samples.specs.Frames.{column, mostChannels};
+ghost use Rattle.samples.specs.Source.{sourceOf};
+ghost use Rattle.samples.specs.Blocks.{Whole};
+ghost use Rattle.base_floats.specs.Entry.{plusZero};
+ghost use Rattle.base_floats.specs.Largest.{greater, largest};
+ghost use Rattle.filter_sample_peak.specs.Peak.{overChannels, raised};
 
 mod stretch;
 
@@ -22,7 +21,7 @@ pub struct Peaks {
 
 // What a call answers, beside the peaks. A refused call leaves them as given.
 pub struct Peaked {
-    pub answer: refusals::Answer,
+    pub answer: base_refusals::Answer,
     pub peaks: Peaks,
 }
 
@@ -39,8 +38,8 @@ fn largest_all(channels: usize, frames: usize, ints: &[i16], floats: &[f32]) -> 
     let mut tops = Peaks { values: [0.0; 8] };
     let mut done = 0;
     while done < frames {
-        let count = fills::shorter(frames - done, most);
-        sources::fill(&mut stretch, ints, floats, done * channels);
+        let count = samples::fills::shorter(frames - done, most);
+        samples::sources::fill(&mut stretch, ints, floats, done * channels);
         tops = stretch::peak_stretch(tops, channels, count, &stretch);
         done += count;
     }
@@ -74,17 +73,17 @@ pub fn process(stored: Peaks, channels: usize, ints: &[i16], floats: &[f32]) -> 
     ensures { λ r. ⌜ said (r .answer) ≡ saidBy (raised channels (sourceOf (now (ints .entry)) (now (floats .entry))) stored) ⌝ }
     ensures { λ r. ⌜ r .peaks ≡ keptBy stored (raised channels (sourceOf (now (ints .entry)) (now (floats .entry))) stored) ⌝ }
 {
-    let samples = sources::size_of(ints, floats);
-    let number = calls::refused_frames(channels, samples);
+    let samples = samples::sources::size_of(ints, floats);
+    let number = filter_checks::refused_frames(channels, samples);
     if number != 0 {
         return Peaked {
-            answer: refusals::Answer::Refused(number),
+            answer: base_refusals::Answer::Refused(number),
             peaks: stored,
         };
     }
     let frames = samples / channels;
     Peaked {
-        answer: refusals::Answer::Done,
+        answer: base_refusals::Answer::Done,
         peaks: raise_peaks(
             stored,
             largest_all(channels, frames, ints, floats),

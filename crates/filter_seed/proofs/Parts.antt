@@ -5,17 +5,17 @@ use mathlib.Core.Bool.{Bool, true, false, cond}
 use mathlib.Core.List.{List}
 use lib.ListN.{length}
 use lib.Ieee.{Float}
-use Rattle.refusals.specs.Outcome.{Outcome, keptBy, went, NoValues, done}
-use Rattle.refusals.specs.Rows.{numberOf}
-use Rattle.refusals.proofs.Rows.{goes}
+use Rattle.base_refusals.specs.Outcome.{Outcome, keptBy, went, NoValues, done}
+use Rattle.base_refusals.specs.Rows.{numberOf}
+use Rattle.base_refusals.proofs.Rows.{goes}
 use Rattle.samples.specs.Kinds.{sizeOf, asF64}
 use Rattle.samples.proofs.ByKind.{size-f64, size-f32}
-use Rattle.states.specs.declared.State.{State}
-use Rattle.calls.specs.Calls as calls
-use Rattle.calls.proofs.Checking.{seed-frames}
-use Rattle.states.specs.Channels as recurrence
-use Rattle.seeding.specs.Seeding as seeding
-use Rattle.interp.specs.Interp.{kindOf}
+use Rattle.filter_recurrence.specs.declared.states.State.{State}
+use Rattle.filter_checks.specs.Calls as calls
+use Rattle.filter_checks.proofs.Checking.{seed-frames}
+use Rattle.filter_recurrence.specs.Channels as recurrence
+use Rattle.filter_weighting.specs.Seeding as seeding
+use Rattle.true_peak_interp.specs.Interp.{kindOf}
 use Rattle.true_peak_state.specs.declared.TruePeak.{TruePeak}
 use Rattle.true_peak_state.specs.TruePeak.{measured}
 use Rattle.true_peak.specs.TruePeak as trues

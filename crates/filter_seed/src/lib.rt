@@ -1,25 +1,25 @@
 // A call of the filter that moves the weighting's state and the interpolator's memory: no peak and no destination is written.
 ghost use mathlib.Core.Path.{_≡_};
 ghost use mathlib.Core.Bool.{cond};
-ghost use Rattle.refusals.specs.Answer.{said};
-ghost use Rattle.refusals.specs.Outcome.{saidBy, keptBy};
+ghost use Rattle.base_refusals.specs.Answer.{said};
+ghost use Rattle.base_refusals.specs.Outcome.{saidBy, keptBy};
 ghost use Rattle.samples.specs.Kinds.{i16s, f32s, asF64, asF32, lent};
-ghost use Rattle.states.specs.declared.State.{State};
-ghost use Rattle.states.specs.Channels as recurrence;
-ghost use Rattle.seeding.specs.Seeding as seeding;
+ghost use Rattle.filter_recurrence.specs.declared.states.State.{State};
+ghost use Rattle.filter_recurrence.specs.Channels as recurrence;
+ghost use Rattle.filter_weighting.specs.Seeding as seeding;
 ghost use Rattle.true_peak_state.specs.declared.TruePeak.{TruePeak};
 ghost use Rattle.true_peak_state.specs.TruePeak.{Block};
 ghost use Rattle.true_peak.specs.TruePeak as trues;
 ghost use Rattle.filter.specs.Filter.{resting, withArrays};
 ghost use Rattle.filter.specs.Call.{seedOf, kept};
 ghost use Rattle.filter.specs.Seed.{seeded};
+use base_refusals::Answer;
 use filter::Filter;
 use filter::Filtered;
 use filter::Switches;
-use recurrence::Coefficients;
-use refusals::Answer;
-use sample_peak::Peaks;
-use states::State;
+use filter_recurrence::Coefficients;
+use filter_recurrence::states::State;
+use filter_sample_peak::Peaks;
 use true_peak_state::TruePeak;
 
 // The interpolator's memory after the call. Where the true peak is off it is not looked at.
@@ -43,7 +43,7 @@ fn remember(
         memory: *memory,
         peaks: *peaks,
     };
-    let m = true_peaks::seed(rate, stored, channels, ints, floats);
+    let m = true_peak::calls::seed(rate, stored, channels, ints, floats);
     let after = m.state.memory;
     *memory = after;
 }
@@ -69,7 +69,7 @@ fn advance(
     }
     let c = Coefficients { a: *a, b: *b };
     let stored = State { values: *state };
-    let m = seeding::seed(c, stored, channels, ints, floats, map);
+    let m = filter_weighting::seeding::seed(c, stored, channels, ints, floats, map);
     let after = m.state.values;
     *state = after;
 }
@@ -96,8 +96,8 @@ pub fn seed_lent(
         let call = seedOf filter (lent (now (ints .entry)) (now (floats .entry))) (now (map .entry)) in
         (said r ≡ saidBy (seeded call)) × (left ≡ kept seeded call .filter)) ⌝ }
 {
-    let samples = sources::size_of(ints, floats);
-    let number = calls::refused_seed(channels, samples, map);
+    let samples = samples::sources::size_of(ints, floats);
+    let number = filter_checks::refused_seed(channels, samples, map);
     if number != 0 {
         return Answer::Refused(number);
     }

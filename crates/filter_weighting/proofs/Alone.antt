@@ -10,12 +10,12 @@ use lib.ListN.{length, getD}
 use lib.Ieee.{Float}
 use Rattle.samples.specs.Frames.{framesOf, channelOf}
 use Rattle.samples.proofs.Columns.{length-column}
-use Rattle.calls.specs.Calls.{used}
-use Rattle.recurrence.specs.Recurrence.{outs}
-use Rattle.states.specs.Channels.{Call, heard, memoryOf}
-use Rattle.recurrence.proofs.Moving.{length-outs}
-use Rattle.weighting.specs.Weighting.{destAfter}
-use Rattle.weighting.proofs.Destinations.{parts-own, parts-stay}
+use Rattle.filter_checks.specs.Calls.{used}
+use Rattle.filter_recurrence.specs.Recurrence.{outs}
+use Rattle.filter_recurrence.specs.Channels.{Call, heard, memoryOf}
+use Rattle.filter_recurrence.proofs.Moving.{length-outs}
+use Rattle.filter_weighting.specs.Weighting.{destAfter}
+use Rattle.filter_weighting.proofs.Destinations.{parts-own, parts-stay}
 
 module _ (call : Call) (dest : List Float) (start : ℕ) where
   -- channel k's outputs

@@ -11,12 +11,12 @@ use lib.ListN.{length, getD}
 use lib.Seq.{sets, length-sets}
 use lib.Ieee.{Float}
 use Rattle.samples.specs.Frames.{column, channelOf}
-use Rattle.calls.specs.Calls.{used}
+use Rattle.filter_checks.specs.Calls.{used}
 use Rattle.samples.proofs.Stored.{at-before, at-after, at-within}
-use Rattle.sources.proofs.Cutting.{frames-are}
-use Rattle.recurrence.specs.Recurrence.{outs}
-use Rattle.states.specs.Channels.{Call, memoryOf, eachUsed}
-use Rattle.weighting.specs.Weighting.{overParts, destAfter}
+use Rattle.samples.proofs.Cutting.{frames-are}
+use Rattle.filter_recurrence.specs.Recurrence.{outs}
+use Rattle.filter_recurrence.specs.Channels.{Call, memoryOf, eachUsed}
+use Rattle.filter_weighting.specs.Weighting.{overParts, destAfter}
 
 abbrev stored : (ℕ → List Float) → ℕ → ℕ → Bool → ℕ → List Float → List Float
 stored g part start b k d = cond b (sets d (k * part + start) (g k)) d

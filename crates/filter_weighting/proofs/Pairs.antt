@@ -8,19 +8,18 @@ use mathlib.Core.List.{List, [], _∷_}
 use lib.ListN.{length, set, getD}
 use lib.Seq.{sets, length-sets}
 use lib.Ieee.{Float, nan}
-use Rattle.samples.specs.Frames.{column}
+use Rattle.samples.specs.Frames.{column, mostChannels}
 use Rattle.samples.proofs.Columns.{length-column}
-use Rattle.recurrence.specs.declared.Memory.{Memory}
-use Rattle.calls.specs.Calls.{mostChannels}
-use Rattle.sources.specs.Blocks.{Reach}
-use Rattle.recurrence.specs.Recurrence.{head, next, out, after, outs}
-use Rattle.states.specs.Channels.{memoryOf, withMemory}
-use Rattle.states.proofs.Memories.{memory-above}
-use Rattle.weighting.specs.declared.channels.Work.{Work}
-use Rattle.weighting.specs.Inner.{memoryIn, outsIn, givenIn, placeOf, keptOf, weighOne}
-use Rattle.recurrence.proofs.Moving.{turn-after, turn-outs, none-after, none-outs, length-outs}
-use Rattle.sources.proofs.Stores.{sets-comm}
-use Rattle.weighting.proofs.Single.{Single, moved, turn, here, following, end}
+use Rattle.filter_recurrence.specs.declared.Memory.{Memory}
+use Rattle.samples.specs.Blocks.{Reach}
+use Rattle.filter_recurrence.specs.Recurrence.{head, next, out, after, outs}
+use Rattle.filter_recurrence.specs.Channels.{memoryOf, withMemory}
+use Rattle.filter_recurrence.proofs.Memories.{memory-above}
+use Rattle.filter_weighting.specs.declared.channels.Work.{Work}
+use Rattle.filter_weighting.specs.Inner.{memoryIn, outsIn, givenIn, placeOf, keptOf, weighOne}
+use Rattle.filter_recurrence.proofs.Moving.{turn-after, turn-outs, none-after, none-outs, length-outs}
+use Rattle.samples.proofs.Stores.{sets-comm}
+use Rattle.filter_weighting.proofs.Single.{Single, moved, turn, here, following, end}
 
 -- from memories m and n and a destination, `left` frames of two neighbouring channels give these memories and this destination
 pub record Both (a b block : List Float) (step part : ℕ) (one two : Memory) (whole : List Float) (m n : Memory) (i j left : ℕ) (dest : List Float) : Type 0 where

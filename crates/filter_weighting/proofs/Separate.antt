@@ -7,13 +7,13 @@ use mathlib.Core.Bool.{Bool, true, false, cond}
 use mathlib.Core.List.{List, [], _∷_}
 use lib.Seq.{sets}
 use lib.Ieee.{Float}
-use Rattle.calls.specs.Calls.{used}
-use Rattle.recurrence.specs.declared.Memory.{Memory}
-use Rattle.states.specs.Channels.{memoryOf, withMemory, eachUsed, overUsed}
-use Rattle.states.proofs.Memories.{memory-above}
-use Rattle.weighting.specs.declared.channels.Work.{Work}
-use Rattle.weighting.specs.Weighting.{overParts}
-use Rattle.weighting.specs.Inner.{memoryIn, outsIn, givenIn, placeOf, keptOf, weighOne}
+use Rattle.filter_checks.specs.Calls.{used}
+use Rattle.filter_recurrence.specs.declared.Memory.{Memory}
+use Rattle.filter_recurrence.specs.Channels.{memoryOf, withMemory, eachUsed, overUsed}
+use Rattle.filter_recurrence.proofs.Memories.{memory-above}
+use Rattle.filter_weighting.specs.declared.channels.Work.{Work}
+use Rattle.filter_weighting.specs.Weighting.{overParts}
+use Rattle.filter_weighting.specs.Inner.{memoryIn, outsIn, givenIn, placeOf, keptOf, weighOne}
 
 parts-from : (work : Work) (samples v₀ : List Float) (bytes : List ℕ) (k : ℕ) (v d : List Float) → ((j : ℕ) → k ≤ j → memoryOf v j ≡ memoryOf v₀ j)
     → eachUsed (weighOne work samples) bytes k (keptOf v d) ≡ keptOf (overUsed (memoryIn work samples) bytes k v) (overParts (givenIn work samples v₀) (work .part) (work .place) bytes k d)

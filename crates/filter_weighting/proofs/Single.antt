@@ -6,13 +6,12 @@ use mathlib.Core.List.{List}
 use lib.ListN.{length, length-set, set, getD}
 use lib.Seq.{sets}
 use lib.Ieee.{Float, nan}
-use Rattle.samples.specs.Frames.{column}
-use Rattle.recurrence.specs.declared.Memory.{Memory}
-use Rattle.calls.specs.Calls.{mostChannels}
-use Rattle.sources.specs.Blocks.{Reach}
-use Rattle.recurrence.specs.Recurrence.{head, output, next, out, after, outs}
-use Rattle.sources.proofs.Reaching.{reach-here, reach-rest}
-use Rattle.recurrence.proofs.Moving.{turn-after, turn-outs, none-after, none-outs}
+use Rattle.samples.specs.Frames.{column, mostChannels}
+use Rattle.filter_recurrence.specs.declared.Memory.{Memory}
+use Rattle.samples.specs.Blocks.{Reach}
+use Rattle.filter_recurrence.specs.Recurrence.{head, output, next, out, after, outs}
+use Rattle.samples.proofs.Reaching.{reach-here, reach-rest}
+use Rattle.filter_recurrence.proofs.Moving.{turn-after, turn-outs, none-after, none-outs}
 
 -- from memory m and a destination, `left` frames of a channel give this memory and this destination
 pub record Single (a b block : List Float) (step : ℕ) (one : Memory) (whole : List Float) (m : Memory) (i j left : ℕ) (dest : List Float) : Type 0 where

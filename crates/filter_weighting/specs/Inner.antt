@@ -4,13 +4,12 @@ use mathlib.Core.Path.{_≡_}
 use mathlib.Core.List.{List}
 use lib.Seq.{sets}
 use lib.Ieee.{Float}
-use Rattle.samples.specs.Frames.{column}
-use Rattle.calls.specs.Calls.{mostChannels}
-use Rattle.recurrence.specs.declared.Memory.{Memory}
-use Rattle.recurrence.specs.Recurrence.{after, outs}
-use Rattle.states.specs.Channels.{memoryOf, withMemory}
-use Rattle.weighting.specs.declared.channels.Work.{Work}
-use Rattle.weighting.specs.Weighting.{Kept}
+use Rattle.samples.specs.Frames.{column, mostChannels}
+use Rattle.filter_recurrence.specs.declared.Memory.{Memory}
+use Rattle.filter_recurrence.specs.Recurrence.{after, outs}
+use Rattle.filter_recurrence.specs.Channels.{memoryOf, withMemory}
+use Rattle.filter_weighting.specs.declared.channels.Work.{Work}
+use Rattle.filter_weighting.specs.Weighting.{Kept}
 
 -- ---- channel k, by the interleaved samples
 

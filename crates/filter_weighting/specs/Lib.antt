@@ -1,2 +1,3 @@
 pub mod Weighting
 pub mod Inner
+pub mod Seeding

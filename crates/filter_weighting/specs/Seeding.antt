@@ -1,10 +1,10 @@
 -- A call of `seed` (01, step 4): "`seed` moves filter and interpolator state and writes no peak and no destination." Here it is the weighting's state.
 use lib.ListN.{length}
-use Rattle.refusals.specs.Outcome.{Outcome, went, NoValues, done}
-use Rattle.refusals.specs.Rows.{byRows}
-use Rattle.calls.specs.Calls.{seedRows}
-use Rattle.states.specs.declared.State.{State}
-use Rattle.states.specs.Channels.{Call, stateAfter}
+use Rattle.base_refusals.specs.Outcome.{Outcome, went, NoValues, done}
+use Rattle.base_refusals.specs.Rows.{byRows}
+use Rattle.filter_checks.specs.Calls.{seedRows}
+use Rattle.filter_recurrence.specs.declared.states.State.{State}
+use Rattle.filter_recurrence.specs.Channels.{Call, stateAfter}
 
 -- what a call comes to
 unfoldable pub moved : Call → Outcome State NoValues

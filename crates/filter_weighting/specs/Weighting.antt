@@ -6,12 +6,12 @@ use mathlib.Core.List.{List}
 use lib.ListN.{length}
 use lib.Seq.{sets}
 use lib.Ieee.{Float}
-use Rattle.refusals.specs.Outcome.{Outcome, went, keptBy, NoValues, done}
-use Rattle.refusals.specs.Rows.{Row, byRows}
-use Rattle.calls.specs.Calls.{sizes, processRows}
-use Rattle.states.specs.declared.State.{State}
-use Rattle.recurrence.specs.Recurrence.{outs}
-use Rattle.states.specs.Channels.{Call, heard, memoryOf, eachUsed, stateAfter}
+use Rattle.base_refusals.specs.Outcome.{Outcome, went, keptBy, NoValues, done}
+use Rattle.base_refusals.specs.Rows.{Row, byRows}
+use Rattle.filter_checks.specs.Calls.{sizes, processRows}
+use Rattle.filter_recurrence.specs.declared.states.State.{State}
+use Rattle.filter_recurrence.specs.Recurrence.{outs}
+use Rattle.filter_recurrence.specs.Channels.{Call, heard, memoryOf, eachUsed, stateAfter}
 
 -- each used channel's outputs stored in its own equal part of the destination, from the start index
 abbrev pub overParts : (ℕ → List Float) → ℕ → ℕ → List ℕ → ℕ → List Float → List Float

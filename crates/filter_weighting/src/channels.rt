@@ -5,15 +5,16 @@ ghost use Prim.Native.Nat.{_+_, _*_, _<_, _≤_};
 ghost use lib.ListN.{length, set, drop, getD};
 ghost use lib.Ieee.{nan};
 ghost use lib.Seq.{sets};
-ghost use Rattle.calls.specs.Calls.{mostChannels, used};
-ghost use Rattle.sources.specs.Source.{sourceOf};
-ghost use Rattle.sources.specs.Blocks.{Reach};
-ghost use Rattle.recurrence.specs.Recurrence.{next, out, flushed};
-ghost use Rattle.states.specs.Channels.{eachUsed, overUsed};
-ghost use Rattle.weighting.specs.Weighting.{overParts};
-ghost use Rattle.weighting.specs.Inner.{memoryIn, outsIn, givenIn, placeOf, keptOf, weighOne, Parts};
-use recurrence::Coefficients;
-use recurrence::Memory;
+ghost use Rattle.filter_checks.specs.Calls.{used};
+ghost use Rattle.samples.specs.Source.{sourceOf};
+ghost use Rattle.samples.specs.Blocks.{Reach};
+ghost use Rattle.samples.specs.Frames.{mostChannels};
+ghost use Rattle.filter_recurrence.specs.Recurrence.{next, out, flushed};
+ghost use Rattle.filter_recurrence.specs.Channels.{eachUsed, overUsed};
+ghost use Rattle.filter_weighting.specs.Weighting.{overParts};
+ghost use Rattle.filter_weighting.specs.Inner.{memoryIn, outsIn, givenIn, placeOf, keptOf, weighOne, Parts};
+use filter_recurrence::Coefficients;
+use filter_recurrence::Memory;
 
 // What a call's frames are weighed by, and where their outputs go: from `place` of each channel's part of the destination on.
 pub(crate) struct Work {
@@ -43,9 +44,9 @@ fn frame(c: Coefficients, m: Memory, x: f64, dest: &mut [f64], j: usize) -> Memo
 {
     let a = c.a;
     let b = c.b;
-    let s0 = recurrence::head_of(a, m, x);
-    dest[j] = recurrence::output_of(b, m, s0);
-    recurrence::shifted(m, s0)
+    let s0 = filter_recurrence::head_of(a, m, x);
+    dest[j] = filter_recurrence::output_of(b, m, s0);
+    filter_recurrence::shifted(m, s0)
 }
 
 // Channel k's frames, two a turn: its memory after them, and their outputs in its part. Both samples of a turn are taken first.
@@ -106,15 +107,15 @@ fn frame_two(
     let n = p.two;
     let x = sample_at(ints, floats, i);
     let y = sample_at(ints, floats, i + 1);
-    let s = recurrence::head_of(a, m, x);
-    let t = recurrence::head_of(a, n, y);
-    let u = recurrence::output_of(b, m, s);
-    let v = recurrence::output_of(b, n, t);
+    let s = filter_recurrence::head_of(a, m, x);
+    let t = filter_recurrence::head_of(a, n, y);
+    let u = filter_recurrence::output_of(b, m, s);
+    let v = filter_recurrence::output_of(b, n, t);
     dest[j] = u;
     dest[j + part] = v;
     Pair {
-        one: recurrence::shifted(m, s),
-        two: recurrence::shifted(n, t),
+        one: filter_recurrence::shifted(m, s),
+        two: filter_recurrence::shifted(n, t),
     }
 }
 
@@ -165,8 +166,15 @@ fn weigh_channel(
     if byte == 0 {
         return;
     }
-    let m = weigh(work, states::load(state, k), ints, floats, k, dest);
-    states::store(state, k, m);
+    let m = weigh(
+        work,
+        filter_recurrence::states::load(state, k),
+        ints,
+        floats,
+        k,
+        dest,
+    );
+    filter_recurrence::states::store(state, k, m);
 }
 
 // Channels k and k + 1, both used.
@@ -187,8 +195,8 @@ fn weigh_pair(
     let p = weigh_two(
         work,
         Pair {
-            one: states::load(state, k),
-            two: states::load(state, k + 1),
+            one: filter_recurrence::states::load(state, k),
+            two: filter_recurrence::states::load(state, k + 1),
         },
         ints,
         floats,
@@ -197,8 +205,8 @@ fn weigh_pair(
     );
     let m = p.one;
     let n = p.two;
-    states::store(state, k, m);
-    states::store(state, k + 1, n);
+    filter_recurrence::states::store(state, k, m);
+    filter_recurrence::states::store(state, k + 1, n);
 }
 
 // Whether channel k and the one after it are both used.
@@ -267,5 +275,5 @@ pub(crate) fn weigh_all(
             k = weigh_next(work, state, ints, floats, map, dest, k);
         }
     }
-    flushing::flush_used(state, map);
+    filter_recurrence::flushing::flush_used(state, map);
 }

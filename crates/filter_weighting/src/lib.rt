@@ -1,16 +1,18 @@
 // The weighting of a call: the state after it, and every used channel's outputs in the destination.
 ghost use mathlib.Core.Path.{_≡_};
-ghost use Rattle.refusals.specs.Answer.{said};
-ghost use Rattle.refusals.specs.Outcome.{saidBy};
-ghost use Rattle.sources.specs.Source.{sourceOf};
-ghost use Rattle.states.specs.Channels.{callOf};
-ghost use Rattle.weighting.specs.Weighting.{weighed, kept};
-use calls::Sizes;
+ghost use Rattle.base_refusals.specs.Answer.{said};
+ghost use Rattle.base_refusals.specs.Outcome.{saidBy};
+ghost use Rattle.samples.specs.Source.{sourceOf};
+ghost use Rattle.filter_recurrence.specs.Channels.{callOf};
+ghost use Rattle.filter_weighting.specs.Weighting.{weighed, kept};
+use base_refusals::Answer;
 use channels::Work;
-use recurrence::Coefficients;
-use refusals::Answer;
+use filter_checks::Sizes;
+use filter_recurrence::Coefficients;
 
 mod channels;
+pub mod seeding;
+mod seeding_channels;
 
 // One call over interleaved samples, of one kind: integers, or floats where there are no integers, on a state that is lent. Each used
 // channel's outputs go to its own equal part of `dest`, from index `start` of the part on. A map byte of 0 is an unused channel, 1 a used one.
@@ -29,14 +31,14 @@ pub fn process_lent(
         × (now (state .exit) ≡ kept call (now (dest .entry)) start .state .values)
         × (now (dest .exit) ≡ kept call (now (dest .entry)) start .dest)) ⌝ }
 {
-    let samples = sources::size_of(ints, floats);
+    let samples = samples::sources::size_of(ints, floats);
     let sizes = Sizes {
         channels: channels,
         samples: samples,
         room: dest.len(),
         start: start,
     };
-    let number = calls::refused_process(true, sizes, map);
+    let number = filter_checks::refused_process(true, sizes, map);
     if number != 0 {
         return Answer::Refused(number);
     }

@@ -1,18 +1,16 @@
 // The weighting's state after a call whose outputs are not wanted.
 ghost use mathlib.Core.Path.{_≡_};
-ghost use Rattle.refusals.specs.Answer.{said};
-ghost use Rattle.refusals.specs.Outcome.{saidBy, keptBy};
-ghost use Rattle.sources.specs.Source.{sourceOf};
-ghost use Rattle.states.specs.Channels.{callOf};
-ghost use Rattle.seeding.specs.Seeding.{moved};
-use recurrence::Coefficients;
-use states::State;
-
-mod channels;
+ghost use Rattle.base_refusals.specs.Answer.{said};
+ghost use Rattle.base_refusals.specs.Outcome.{saidBy, keptBy};
+ghost use Rattle.samples.specs.Source.{sourceOf};
+ghost use Rattle.filter_recurrence.specs.Channels.{callOf};
+ghost use Rattle.filter_weighting.specs.Seeding.{moved};
+use filter_recurrence::Coefficients;
+use filter_recurrence::states::State;
 
 // What a call answers, beside the state. A refused call leaves it as given.
 pub struct Seeded {
-    pub answer: refusals::Answer,
+    pub answer: base_refusals::Answer,
     pub state: State,
 }
 
@@ -28,20 +26,20 @@ pub fn seed(
     ensures { λ r. ⌜ said (r .answer) ≡ saidBy (moved (callOf c s channels (sourceOf (now (ints .entry)) (now (floats .entry))) (now (map .entry)))) ⌝ }
     ensures { λ r. ⌜ r .state ≡ keptBy s (moved (callOf c s channels (sourceOf (now (ints .entry)) (now (floats .entry))) (now (map .entry)))) ⌝ }
 {
-    let samples = sources::size_of(ints, floats);
-    let number = calls::refused_seed(channels, samples, map);
+    let samples = samples::sources::size_of(ints, floats);
+    let number = filter_checks::refused_seed(channels, samples, map);
     if number != 0 {
         return Seeded {
-            answer: refusals::Answer::Refused(number),
+            answer: base_refusals::Answer::Refused(number),
             state: s,
         };
     }
     let frames = samples / channels;
     let a = c.a;
     let mut state = s.values;
-    channels::advance_all(a, &mut state, channels, frames, ints, floats, map);
+    crate::seeding_channels::advance_all(a, &mut state, channels, frames, ints, floats, map);
     Seeded {
-        answer: refusals::Answer::Done,
+        answer: base_refusals::Answer::Done,
         state: State { values: state },
     }
 }

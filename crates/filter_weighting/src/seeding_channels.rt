@@ -3,13 +3,13 @@ ghost use mathlib.Core.Path.{_≡_};
 ghost use mathlib.Core.Bool.{cond};
 ghost use Prim.Native.Nat.{_*_, _<_, _≤_};
 ghost use lib.ListN.{length};
-ghost use Rattle.samples.specs.Frames.{column};
-ghost use Rattle.calls.specs.Calls.{mostChannels, used};
-ghost use Rattle.sources.specs.Source.{sourceOf};
-ghost use Rattle.sources.specs.Blocks.{Reach, Whole};
-ghost use Rattle.recurrence.specs.Recurrence.{after, flushed};
-ghost use Rattle.states.specs.Channels.{memoryOf, withMemory, overUsed};
-use recurrence::Memory;
+ghost use Rattle.samples.specs.Frames.{column, mostChannels};
+ghost use Rattle.filter_checks.specs.Calls.{used};
+ghost use Rattle.samples.specs.Source.{sourceOf};
+ghost use Rattle.samples.specs.Blocks.{Reach, Whole};
+ghost use Rattle.filter_recurrence.specs.Recurrence.{after, flushed};
+ghost use Rattle.filter_recurrence.specs.Channels.{memoryOf, withMemory, overUsed};
+use filter_recurrence::Memory;
 
 // One channel's frames of a run: its memory after them.
 fn advance(
@@ -27,7 +27,7 @@ fn advance(
     let mut left = count;
     let mut i = first;
     while 0 < left {
-        w = recurrence::shifted(w, recurrence::head_of(a, w, samples[i]));
+        w = filter_recurrence::shifted(w, filter_recurrence::head_of(a, w, samples[i]));
         i += step;
         left -= 1;
     }
@@ -50,8 +50,15 @@ fn advance_channel(
     if byte == 0 {
         return;
     }
-    let m = advance(a, states::load(state, k), samples, k, channels, count);
-    states::store(state, k, m);
+    let m = advance(
+        a,
+        filter_recurrence::states::load(state, k),
+        samples,
+        k,
+        channels,
+        count,
+    );
+    filter_recurrence::states::store(state, k, m);
 }
 
 // Every channel's memory after its frames of a run.
@@ -91,14 +98,14 @@ pub(crate) fn advance_all(
 {
     // As a slice the state is known to have its places.
     let _places = &state[..];
-    let mut run: [f64; sources::RUN] = [0.0; sources::RUN];
-    let most = sources::RUN / channels;
+    let mut run: [f64; samples::sources::RUN] = [0.0; samples::sources::RUN];
+    let most = samples::sources::RUN / channels;
     let mut done = 0;
     while done < frames {
-        let count = fills::shorter(frames - done, most);
-        sources::fill(&mut run, ints, floats, done * channels);
+        let count = samples::fills::shorter(frames - done, most);
+        samples::sources::fill(&mut run, ints, floats, done * channels);
         advance_run(a, state, channels, count, &run, map);
         done += count;
     }
-    flushing::flush_used(state, map);
+    filter_recurrence::flushing::flush_used(state, map);
 }

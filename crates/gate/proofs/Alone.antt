@@ -6,14 +6,14 @@ use Prim.Native.Nat.{ℕ, _+_}
 use native.Mathlib.Omega.{arith}
 use lib.ListN.{length}
 use lib.Ieee.{Float}
-use Rattle.refusals.specs.Rows.{numberOf}
-use Rattle.queue.specs.Queue.{suits, heldOf}
-use Rattle.history.specs.declared.set.Entry.{Entry}
-use Rattle.history.specs.declared.set.Shape.{Shape}
-use Rattle.history.specs.declared.set.Shape.the-variants.{Histogram, Queue as Queue-at}
-use Rattle.history.specs.Set.{countersAt, queueAt, shapeShows, shows, allShow, historiesOf, isOutside, outsideSet, noneBelow, shapeSound, isSound, allSound, setRows}
-use Rattle.history.proofs.Entries.{both, inside-at}
-use Rattle.history.proofs.Rows.{none-outside, kept}
+use Rattle.base_refusals.specs.Rows.{numberOf}
+use Rattle.history_queue.specs.Queue.{suits, heldOf}
+use Rattle.history_set.specs.declared.set.Entry.{Entry}
+use Rattle.history_set.specs.declared.set.Shape.{Shape}
+use Rattle.history_set.specs.declared.set.Shape.the-variants.{Histogram, Queue as Queue-at}
+use Rattle.history_set.specs.Set.{countersAt, queueAt, shapeShows, shows, allShow, historiesOf, isOutside, outsideSet, noneBelow, shapeSound, isSound, allSound, setRows}
+use Rattle.history_set.proofs.Entries.{both, inside-at}
+use Rattle.history_set.proofs.Rows.{none-outside, kept}
 use Rattle.gate.specs.declared.blocks.Totals.{Totals}
 use Rattle.gate.specs.Totals.{none, withBlocks, energiesFrom}
 use Rattle.gate.specs.Inner.{Steady}

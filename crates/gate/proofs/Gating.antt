@@ -8,11 +8,11 @@ use native.Mathlib.Omega.{arith}
 use lib.IntN.{pos}
 use lib.ListN.{drop}
 use lib.Ieee.{Float, binary64, mul, ofInt}
-use Rattle.refusals.specs.Outcome.{answers, refusal, saidBy}
-use Rattle.refusals.specs.Rows.{numberOf}
-use Rattle.refusals.proofs.Behind.{stopped-first, goes-on}
-use Rattle.tables.specs.Tables.{energyAt}
-use Rattle.history.specs.Set.{History, counted, listed, Histories, historiesOf, setRows}
+use Rattle.base_refusals.specs.Outcome.{answers, refusal, saidBy}
+use Rattle.base_refusals.specs.Rows.{numberOf}
+use Rattle.base_refusals.proofs.Behind.{stopped-first, goes-on}
+use Rattle.bins_tables.specs.Tables.{energyAt}
+use Rattle.history_set.specs.Set.{History, counted, listed, Histories, historiesOf, setRows}
 use Rattle.gate.specs.declared.blocks.Totals.{Totals}
 use Rattle.gate.specs.Totals.{none, onTopOf, withBlocks, binsFrom}
 use Rattle.gate.specs.Start.{startBin, counts}

@@ -9,17 +9,17 @@ use borrow.Author.Tests.{not-true}
 use lib.Dec.{T}
 use lib.ListN.{length}
 use lib.Ieee.{Float, binary64, add}
-use Rattle.tables.specs.Tables.{boundaryAt}
-use Rattle.tables.proofs.Rules.{boundary-positive}
-use Rattle.histogram_bins.specs.Energy.{dropped}
-use Rattle.queue.specs.declared.Queue.{Queue}
-use Rattle.queue.specs.declared.Parts.{Parts}
-use Rattle.queue.specs.Queue.{suits, heldOf, partsOf, slice, inParts}
-use Rattle.queue.proofs.Ring.{suited}
-use Rattle.queue.proofs.Held.{held-count}
-use Rattle.history.specs.Set.{queueAt, noneBelow}
-use Rattle.history.proofs.Entries.{both}
-use Rattle.history.proofs.Slices.{held-slices}
+use Rattle.bins_tables.specs.Tables.{boundaryAt}
+use Rattle.bins_tables.proofs.Rules.{boundary-positive}
+use Rattle.bins.specs.Energy.{dropped}
+use Rattle.history_queue.specs.declared.Queue.{Queue}
+use Rattle.history_queue.specs.declared.Parts.{Parts}
+use Rattle.history_queue.specs.Queue.{suits, heldOf, partsOf, slice, inParts}
+use Rattle.history_queue.proofs.Ring.{suited}
+use Rattle.history_queue.proofs.Held.{held-count}
+use Rattle.history_set.specs.Set.{queueAt, noneBelow}
+use Rattle.history_set.proofs.Entries.{both}
+use Rattle.history_set.proofs.Slices.{held-slices}
 use Rattle.gate.specs.declared.blocks.Totals.{Totals}
 use Rattle.gate.specs.Totals.{mostBlocks, onTopOf, none, withBlocks}
 use Rattle.gate.specs.Inner.{unsigned, Steady, energyKept, blocksKept, carried, countedFrom, summedFrom, addedFrom}

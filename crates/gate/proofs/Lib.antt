@@ -6,3 +6,4 @@ pub mod Looking
 pub mod Keeping
 pub mod Gating
 pub mod Alone
+mod Means

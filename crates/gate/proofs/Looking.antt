@@ -6,17 +6,17 @@ use Prim.Native.Nat.{ℕ, _+_, _≤_}
 use native.Mathlib.Omega.{arith}
 use lib.ListN.{length, take, drop}
 use lib.Ieee.{Float, binary64, add}
-use Rattle.refusals.specs.Refusal.{Refusal, number}
-use Rattle.refusals.specs.Rows.{Row, numberOf}
-use Rattle.refusals.proofs.Numbers.{no-number}
-use Rattle.queue.specs.declared.Queue.{Queue}
-use Rattle.queue.specs.declared.Parts.{Parts}
-use Rattle.queue.specs.Queue.{suits, heldOf, partsOf, slice, inParts}
-use Rattle.history.specs.Set.{queueAt, noneBelow}
-use Rattle.queue.proofs.Ring.{suited}
-use Rattle.queue.proofs.Held.{held-count}
-use Rattle.history.proofs.Slices.{held-slices}
-use Rattle.history.proofs.Entries.{both, none-below-append}
+use Rattle.base_refusals.specs.Refusal.{Refusal, number}
+use Rattle.base_refusals.specs.Rows.{Row, numberOf}
+use Rattle.base_refusals.proofs.Numbers.{no-number}
+use Rattle.history_queue.specs.declared.Queue.{Queue}
+use Rattle.history_queue.specs.declared.Parts.{Parts}
+use Rattle.history_queue.specs.Queue.{suits, heldOf, partsOf, slice, inParts}
+use Rattle.history_set.specs.Set.{queueAt, noneBelow}
+use Rattle.history_queue.proofs.Ring.{suited}
+use Rattle.history_queue.proofs.Held.{held-count}
+use Rattle.history_set.proofs.Slices.{held-slices}
+use Rattle.history_set.proofs.Entries.{both, none-below-append}
 use Rattle.gate.specs.declared.blocks.Totals.{Totals}
 use Rattle.gate.specs.declared.sums.Sums.{Sums}
 use Rattle.gate.specs.Totals.{mostBlocks, none, withBlocks, energiesFrom}

@@ -1,13 +1,13 @@
 -- The mean of what the gate said is gated energy. Assumes nothing.
 use mathlib.Core.Path.{_≡_, refl, ap, _∙_}
-use Rattle.refusals.specs.Outcome.{answers, Said, saidBy}
-use Rattle.refusals.proofs.Behind.{through}
-use Rattle.history.specs.Set.{Histories, historiesOf}
+use Rattle.base_refusals.specs.Outcome.{answers, Said, saidBy}
+use Rattle.base_refusals.proofs.Behind.{through}
+use Rattle.history_set.specs.Set.{Histories, historiesOf}
 use Rattle.gate.specs.declared.blocks.Totals.{Totals}
 use Rattle.gate.specs.Totals.{meanOf}
 use Rattle.gate.specs.Gate.{leftOf, gateRows, gateOf}
-use Rattle.gated_energy.specs.GatedEnergy.{gatedEnergyOf}
-use Rattle.gated_energy.specs.Inner.{meanSaid}
+use Rattle.gate.specs.GatedEnergy.{gatedEnergyOf}
+use Rattle.gate.specs.EnergyInner.{meanSaid}
 
 pub mean-said : (h : Histories) (told : Said Totals) → told ≡ saidBy (gateOf h) → meanSaid told ≡ saidBy (gatedEnergyOf h)
 unfolding gateOf gatedEnergyOf

@@ -17,11 +17,11 @@ use lib.Ieee.Fits.{and-l, and-r, up-pos, down-pos, reach, round-is, round-fits, 
 use lib.Ieee.Exact.{HasValue, round-exact}
 use lib.Ieee.Bits.{ofBits-fits}
 use lib.Ieee.Positive.{positive}
-use Rattle.floats.specs.Entry.{plusZero}
-use Rattle.floats.proofs.Nan.{zero-pattern}
-use Rattle.floats.proofs.Value.{same-float, round-zero}
-use Rattle.tables.specs.Tables.{energyAt}
-use Rattle.tables.proofs.Rules.{energy-positive, energy-past}
+use Rattle.base_floats.specs.Entry.{plusZero}
+use Rattle.base_floats.proofs.Nan.{zero-pattern}
+use Rattle.base_floats.proofs.Value.{same-float, round-zero}
+use Rattle.bins_tables.specs.Tables.{energyAt}
+use Rattle.bins_tables.proofs.Rules.{energy-positive, energy-past}
 use Rattle.gate.specs.declared.blocks.Totals.{Totals}
 use Rattle.gate.specs.Totals.{withBlocks, binsFrom}
 use Rattle.gate.specs.Inner.{unsigned, Steady}

@@ -10,10 +10,10 @@ use lib.IntN.{pos}
 use lib.ListN.{length, getD, drop, drop-of-length-le}
 use lib.Seq.{drop-cons}
 use lib.Ieee.{Float, binary64, add, mul, ofInt}
-use Rattle.tables.specs.Tables.{energyAt}
-use Rattle.histogram_bins.specs.Bin.{bins}
-use Rattle.history.specs.Set.{countersAt}
-use Rattle.history.proofs.Slices.{slice, slice-next, slice-end}
+use Rattle.bins_tables.specs.Tables.{energyAt}
+use Rattle.bins.specs.Bin.{bins}
+use Rattle.history_set.specs.Set.{countersAt}
+use Rattle.history_set.proofs.Slices.{slice, slice-next, slice-end}
 use Rattle.gate.specs.declared.blocks.Totals.{Totals}
 use Rattle.gate.specs.Totals.{onTopOf, withBlocks, binsFrom, blocksIn, energiesFrom, fromBin}
 use Rattle.gate.specs.Inner.{sumFrom, blocksAbove, sumAbove, carried}

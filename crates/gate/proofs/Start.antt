@@ -8,12 +8,12 @@ use native.Mathlib.Nat.{eq-zero-or-pos}
 use native.Mathlib.Omega.{arith}
 use lib.Dec.{T}
 use lib.Ieee.{Float, lt, isNan}
-use Rattle.floats.proofs.Order.{is-false, lt→le, lt-not-le, total, left-number, right-number, le-lt, lt-lt}
-use Rattle.floats.proofs.Nan.{only-nan}
-use Rattle.tables.specs.Tables.{boundaryAt, energyAt}
-use Rattle.histogram_bins.specs.Bin.{bins, binOf}
-use Rattle.tables.proofs.Rules.{boundary-below-energy, energy-below-next, boundaries-rise}
-use Rattle.histogram_bins.proofs.Bins.{bin-below, bin-is, bin-between, bin-of-nan}
+use Rattle.base_floats.proofs.Order.{is-false, lt→le, lt-not-le, total, left-number, right-number, le-lt, lt-lt}
+use Rattle.base_floats.proofs.Nan.{only-nan}
+use Rattle.bins_tables.specs.Tables.{boundaryAt, energyAt}
+use Rattle.bins.specs.Bin.{bins, binOf}
+use Rattle.bins_tables.proofs.Rules.{boundary-below-energy, energy-below-next, boundaries-rise}
+use Rattle.bins.proofs.Bins.{bin-below, bin-is, bin-between, bin-of-nan}
 use Rattle.gate.specs.Start.{startBin}
 use Rattle.gate.specs.Inner.{Past}
 

@@ -7,9 +7,9 @@ use native.Mathlib.Omega.{arith}
 use lib.IntN.{pos}
 use lib.ListN.{length, getD, drop}
 use lib.Ieee.{Float, binary64, add, mul, ofInt}
-use Rattle.tables.specs.Tables.{energyAt}
-use Rattle.tables.proofs.Rules.{energy-positive}
-use Rattle.histogram_bins.specs.Bin.{bins}
+use Rattle.bins_tables.specs.Tables.{energyAt}
+use Rattle.bins_tables.proofs.Rules.{energy-positive}
+use Rattle.bins.specs.Bin.{bins}
 use Rattle.gate.specs.declared.blocks.Totals.{Totals}
 use Rattle.gate.specs.Inner.{onwards, blocksAbove, sumAbove, Steady}
 use Rattle.gate.proofs.Running.{bins-split, blocks-turn, sum-turn, plus}

@@ -8,10 +8,10 @@ use mathlib.Core.List.{List, [], _∷_, _++_}
 use lib.Dec.{eqb}
 use lib.ListN.{drop}
 use lib.Ieee.{Float, isNan}
-use Rattle.refusals.specs.Refusal.{NONE, NAN}
-use Rattle.refusals.specs.Outcome.{Question, answers, Said, says, refusal}
-use Rattle.refusals.specs.Rows.{Row, row, byRows}
-use Rattle.history.specs.Set.{History, counted, listed, Histories, historiesOf, setRows}
+use Rattle.base_refusals.specs.Refusal.{NONE, NAN}
+use Rattle.base_refusals.specs.Outcome.{Question, answers, Said, says, refusal}
+use Rattle.base_refusals.specs.Rows.{Row, row, byRows}
+use Rattle.history_set.specs.Set.{History, counted, listed, Histories, historiesOf, setRows}
 use Rattle.gate.specs.declared.blocks.Totals.{Totals}
 use Rattle.gate.specs.Totals.{none, binsFrom}
 use Rattle.gate.specs.Start.{startBin}

@@ -8,8 +8,8 @@ use lib.Dec.{T}
 use lib.IntN.{pos}
 use lib.ListN.{drop}
 use lib.Ieee.{Float, nan, inf, fin, binary64, add, mul, ofInt, fits, lt}
-use Rattle.refusals.specs.Rows.{Row, numberOf}
-use Rattle.tables.specs.Tables.{energyAt}
+use Rattle.base_refusals.specs.Rows.{Row, numberOf}
+use Rattle.bins_tables.specs.Tables.{energyAt}
 use Rattle.gate.specs.declared.blocks.Totals.{Totals}
 use Rattle.gate.specs.Totals.{none, withBlocks, binsFrom, blocksIn}
 use Rattle.gate.specs.Start.{counts}

@@ -5,3 +5,5 @@ pub mod Relative
 pub mod Kept
 pub mod Gate
 pub mod Inner
+pub mod GatedEnergy
+pub mod EnergyInner

@@ -5,11 +5,11 @@ use mathlib.Core.Bool.{true, false, not, _&&_, cond}
 use mathlib.Core.List.{List, [], _∷_, _++_}
 use lib.Dec.{eqb}
 use lib.Ieee.{Float, binary64, mul, round, isNan}
-use Rattle.refusals.specs.Refusal.{NAN}
-use Rattle.refusals.specs.Outcome.{Question, answers, Said, says, refusal}
-use Rattle.refusals.specs.Rows.{Row, row, byRows}
-use Rattle.history.specs.declared.set.Entry.{Entry}
-use Rattle.history.specs.Set.{shows, setRows}
+use Rattle.base_refusals.specs.Refusal.{NAN}
+use Rattle.base_refusals.specs.Outcome.{Question, answers, Said, says, refusal}
+use Rattle.base_refusals.specs.Rows.{Row, row, byRows}
+use Rattle.history_set.specs.declared.set.Entry.{Entry}
+use Rattle.history_set.specs.Set.{shows, setRows}
 use Rattle.gate.specs.declared.blocks.Totals.{Totals}
 use Rattle.gate.specs.Totals.{meanOf}
 use Rattle.gate.specs.Sums.{totalsOf, alone}

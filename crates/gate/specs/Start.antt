@@ -3,8 +3,8 @@
 use Prim.Native.Nat.{ℕ, _+_}
 use mathlib.Core.Bool.{Bool, not, cond}
 use lib.Ieee.{Float, lt}
-use Rattle.tables.specs.Tables.{boundaryAt, energyAt}
-use Rattle.histogram_bins.specs.Bin.{binOf}
+use Rattle.bins_tables.specs.Tables.{boundaryAt, energyAt}
+use Rattle.bins.specs.Bin.{binOf}
 
 -- where a gate starts in a histogram
 unfoldable pub startBin : Float → ℕ

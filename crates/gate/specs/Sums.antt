@@ -3,8 +3,8 @@
 use Prim.Native.Nat.{ℕ}
 use mathlib.Core.List.{List, [], _∷_}
 use lib.Ieee.{Float}
-use Rattle.history.specs.declared.set.Entry.{Entry}
-use Rattle.history.specs.Set.{History, counted, listed, Histories, histories}
+use Rattle.history_set.specs.declared.set.Entry.{Entry}
+use Rattle.history_set.specs.Set.{History, counted, listed, Histories, histories}
 use Rattle.gate.specs.declared.blocks.Totals.{Totals}
 use Rattle.gate.specs.Totals.{none, withBlocks, binsFrom, energiesFrom}
 

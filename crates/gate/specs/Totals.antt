@@ -6,10 +6,10 @@ use lib.Dec.{ltb}
 use lib.IntN.{pos}
 use lib.ListN.{length, drop}
 use lib.Ieee.{Float, binary64, add, mul, div, ofInt, ofBits}
-use Rattle.tables.specs.Tables.{energyAt}
-use Rattle.histogram_bins.specs.Bin.{bins}
-use Rattle.histogram.specs.Histogram.{largestCount}
-use Rattle.history.specs.Set.{countersAt}
+use Rattle.bins_tables.specs.Tables.{energyAt}
+use Rattle.bins.specs.Bin.{bins}
+use Rattle.history_histogram.specs.Histogram.{largestCount}
+use Rattle.history_set.specs.Set.{countersAt}
 use Rattle.gate.specs.declared.blocks.Totals.{Totals}
 
 -- the most blocks of a history: every bin of a histogram full

@@ -1,12 +1,12 @@
 // The blocks of a histogram from a bin upward, how many they are and the sum of their energies, and the bin where a gate starts.
-use histogram_bins::Count;
+use bins::Count;
 ghost use mathlib.Core.Path.{_≡_};
 ghost use Prim.Native.Nat.{_+_, _*_, _%_, _≤_};
 ghost use lib.ListN.{length};
 ghost use lib.Ieee.{binary64, mul};
-ghost use Rattle.histogram_bins.specs.Bin.{bins};
-ghost use Rattle.tables.specs.Tables.{energies};
-ghost use Rattle.histogram.specs.Histogram.{largestCount};
+ghost use Rattle.bins.specs.Bin.{bins};
+ghost use Rattle.bins_tables.specs.Tables.{energies};
+ghost use Rattle.history_histogram.specs.Histogram.{largestCount};
 ghost use Rattle.gate.specs.Totals.{mostBlocks, onTopOf, none, meanOf, fromBin};
 ghost use Rattle.gate.specs.Inner.{stretch, blocksAbove, sumAbove, onwards, Steady};
 ghost use Rattle.gate.specs.Start.{startBin};
@@ -28,7 +28,7 @@ fn count_stretch(counters: &[Count], first: usize, place: usize) -> u64
     let mut count: u64 = 0;
     let mut i = place;
     while i < STRETCH {
-        count = count + histogram_bins::wide(counters[first + i]);
+        count = count + bins::wide(counters[first + i]);
         i += 1;
     }
     count
@@ -79,7 +79,7 @@ fn stretches_from(table: &[f64; 1000], totals: Totals, counters: &[Count], first
 {
     let mut totals = totals;
     let mut first = first;
-    while first < histogram_bins::BINS {
+    while first < bins::BINS {
         totals = with_stretch(table, totals, counters, first, 0);
         first += STRETCH;
     }
@@ -92,7 +92,7 @@ fn bins_from(table: &[f64; 1000], sum: f64, counters: &[Count], start: usize) ->
     ensures { λ r. ⌜ (r ≡ onwards (onTopOf sum) start (now (counters .entry))) × (r .count ≤ mostBlocks) ⌝ }
 {
     let none = Totals { count: 0, sum };
-    if start >= histogram_bins::BINS {
+    if start >= bins::BINS {
         return none;
     }
     let place = start % STRETCH;
@@ -114,13 +114,13 @@ pub(crate) fn from_bin(
     ensures { λ r. ⌜ (r ≡ fromBin sum (now (counters .entry)) start bin) × (r .count ≤ mostBlocks) ⌝ }
 {
     let places = counters.len();
-    if places < histogram_bins::BINS {
+    if places < bins::BINS {
         return Totals { count: 0, sum };
     }
-    if places - histogram_bins::BINS < start {
+    if places - bins::BINS < start {
         return Totals { count: 0, sum };
     }
-    let end = start + histogram_bins::BINS;
+    let end = start + bins::BINS;
     bins_from(table, sum, &counters[start..end], bin)
 }
 
@@ -130,7 +130,7 @@ pub(crate) fn start_in(table: &[f64; 1000], threshold: f64) -> usize
     ensures { λ r. ⌜ r ≡ startBin threshold ⌝ }
 {
     let mut low = 0;
-    let mut high = histogram_bins::BINS;
+    let mut high = bins::BINS;
     while low < high {
         let middle = (low + high) / 2;
         if table[middle] < threshold {
@@ -146,7 +146,7 @@ pub(crate) fn start_in(table: &[f64; 1000], threshold: f64) -> usize
 pub fn start_bin(threshold: f64) -> usize
     ensures { λ r. ⌜ r ≡ startBin threshold ⌝ }
 {
-    let table = tables::all_energies();
+    let table = bins_tables::all_energies();
     start_in(&table, threshold)
 }
 
@@ -161,7 +161,7 @@ pub fn started(counters: &[Count], start: usize, share: f64) -> Start
     ensures { λ r. ⌜ (r .totals ≡ fromBin (none .sum) (now (counters .entry)) start 0) × (r .totals .count ≤ mostBlocks)
         × (r .bin ≡ startBin (mul binary64 share (meanOf (r .totals)))) ⌝ }
 {
-    let table = tables::all_energies();
+    let table = bins_tables::all_energies();
     let totals = from_bin(&table, 0.0, counters, start, 0);
     let threshold = share * (totals.sum / std::num::nearest_u64_to_f64(totals.count));
     Start {

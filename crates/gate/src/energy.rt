@@ -1,15 +1,15 @@
 // Gated energy: the mean energy of the blocks at or above the relative gate.
-use gate::Gated;
-use histogram_bins::Count;
-use history::set::Entry;
-use history::set::MOST;
+use crate::Gated;
+use bins::Count;
+use history_set::set::Entry;
+use history_set::set::MOST;
 ghost use mathlib.Core.Path.{_≡_};
-ghost use Rattle.refusals.specs.Outcome.{saidBy};
-ghost use Rattle.history.specs.Set.{histories};
+ghost use Rattle.base_refusals.specs.Outcome.{saidBy};
+ghost use Rattle.history_set.specs.Set.{histories};
 ghost use Rattle.gate.specs.Sums.{alone};
 ghost use Rattle.gate.specs.Gate.{said as saidGated};
-ghost use Rattle.gated_energy.specs.GatedEnergy.{gatedEnergyOf, said};
-ghost use Rattle.gated_energy.specs.Inner.{meanSaid};
+ghost use Rattle.gate.specs.GatedEnergy.{gatedEnergyOf, said};
+ghost use Rattle.gate.specs.EnergyInner.{meanSaid};
 
 // The answer.
 pub enum Energy {
@@ -36,12 +36,12 @@ pub fn gated_energy(
 ) -> Energy
     ensures { λ r. ⌜ said r ≡ saidBy (gatedEnergyOf (histories entries count (now (counters .entry)) (now (energies .entry)))) ⌝ }
 {
-    mean_of(gate::gate(entries, count, counters, energies))
+    mean_of(crate::gate(entries, count, counters, energies))
 }
 
 // That of a single history.
 pub fn gated_energy_of_history(entry: Entry, counters: &[Count], energies: &[f64]) -> Energy
     ensures { λ r. ⌜ said r ≡ saidBy (gatedEnergyOf (alone entry (now (counters .entry)) (now (energies .entry)))) ⌝ }
 {
-    mean_of(gate::gate_of_history(entry, counters, energies))
+    mean_of(crate::gate_of_history(entry, counters, energies))
 }

@@ -1,10 +1,10 @@
 // What a queue keeps at a gate: the energies that are not below the threshold.
 use crate::blocks::Totals;
-use queue::Queue;
+use history_queue::Queue;
 ghost use mathlib.Core.Path.{_≡_};
 ghost use Prim.Native.Nat.{_+_, _-_, _≤_};
 ghost use lib.ListN.{length};
-ghost use Rattle.queue.specs.Queue.{longest, partsOf, slice, inParts};
+ghost use Rattle.history_queue.specs.Queue.{longest, partsOf, slice, inParts};
 ghost use Rattle.gate.specs.Totals.{onTopOf};
 ghost use Rattle.gate.specs.Inner.{energyKept, blocksKept, countedFrom, summedFrom, addedFrom};
 

@@ -1,18 +1,18 @@
 // The relative gate over a set of histories: the blocks at or above it and the sum of their energies.
 // A question takes the table of the bins' energies once, and lends it to all that it asks.
+use bins::Count;
 use blocks::Totals;
-use histogram_bins::Count;
-use history::set::Entry;
-use history::set::MOST;
-use history::set::Shape;
+use history_set::set::Entry;
+use history_set::set::MOST;
+use history_set::set::Shape;
 ghost use mathlib.Core.Path.{_≡_};
 ghost use mathlib.Core.Bool.{true, false};
 ghost use Prim.Native.Nat.{_≤_};
 ghost use lib.ListN.{length};
-ghost use Rattle.refusals.specs.Outcome.{saidBy};
-ghost use Rattle.refusals.specs.Rows.{numberOf};
-ghost use Rattle.history.specs.Set.{histories, isOutside, isSound, shows, historiesOf, setRows};
-ghost use Rattle.tables.specs.Tables.{energies as binEnergies};
+ghost use Rattle.base_refusals.specs.Outcome.{saidBy};
+ghost use Rattle.base_refusals.specs.Rows.{numberOf};
+ghost use Rattle.history_set.specs.Set.{histories, isOutside, isSound, shows, historiesOf, setRows};
+ghost use Rattle.bins_tables.specs.Tables.{energies as binEnergies};
 ghost use Rattle.gate.specs.Totals.{mostBlocks, onTopOf, none};
 ghost use Rattle.gate.specs.Inner.{Steady};
 ghost use Rattle.gate.specs.Start.{startBin};
@@ -20,6 +20,7 @@ ghost use Rattle.gate.specs.Sums.{alone};
 ghost use Rattle.gate.specs.Gate.{gatedOf, allGated, gateOf, gateOver, said};
 
 pub mod blocks;
+pub mod energy;
 mod kept;
 mod sums;
 pub mod threshold;
@@ -83,13 +84,13 @@ fn answer(all: Totals, left: Totals) -> Gated
     ensures { λ r. ⌜ said r ≡ saidBy (gateOver all left) ⌝ }
 {
     if all.count == 0 {
-        return Gated::Refused(refusals::NONE);
+        return Gated::Refused(base_refusals::NONE);
     }
-    if floats::is_nan(all.sum) {
-        return Gated::Refused(refusals::NAN);
+    if base_floats::is_nan(all.sum) {
+        return Gated::Refused(base_refusals::NAN);
     }
     if left.count == 0 {
-        return Gated::Refused(refusals::NONE);
+        return Gated::Refused(base_refusals::NONE);
     }
     Gated::Blocks(left.count, left.sum)
 }
@@ -98,7 +99,7 @@ fn answer(all: Totals, left: Totals) -> Gated
 pub fn gate(entries: [Entry; MOST], count: usize, counters: &[Count], energies: &[f64]) -> Gated
     ensures { λ r. ⌜ said r ≡ saidBy (gateOf (histories entries count (now (counters .entry)) (now (energies .entry)))) ⌝ }
 {
-    let table = tables::all_energies();
+    let table = bins_tables::all_energies();
     let sums = sums::of_set(&table, entries, count, counters, energies);
     let refusal = sums.refusal;
     if refusal != 0 {
@@ -116,7 +117,7 @@ pub fn gate(entries: [Entry; MOST], count: usize, counters: &[Count], energies: 
 pub fn gate_of_history(entry: Entry, counters: &[Count], energies: &[f64]) -> Gated
     ensures { λ r. ⌜ said r ≡ saidBy (gateOf (alone entry (now (counters .entry)) (now (energies .entry)))) ⌝ }
 {
-    let table = tables::all_energies();
+    let table = bins_tables::all_energies();
     let sums = sums::of_history(&table, entry, counters, energies);
     let refusal = sums.refusal;
     if refusal != 0 {

@@ -1,17 +1,17 @@
 // How many blocks histories have and the sum of their energies, which a gate's threshold is taken from, and what refuses the histories.
 use crate::blocks::Totals;
-use histogram_bins::Count;
-use history::set::Entry;
-use history::set::MOST;
-use history::set::Shape;
-use queue::Queue;
+use bins::Count;
+use history_queue::Queue;
+use history_set::set::Entry;
+use history_set::set::MOST;
+use history_set::set::Shape;
 ghost use mathlib.Core.Path.{_≡_};
 ghost use mathlib.Core.Bool.{true, false, _&&_};
 ghost use Prim.Native.Nat.{_+_, _≤_};
 ghost use lib.ListN.{length};
-ghost use Rattle.queue.specs.Queue.{suits, heldOf, slice};
-ghost use Rattle.history.specs.Set.{histories, historiesOf, queueAt, isOutside, outsideSet, noneBelow, isSound, shows, setRows};
-ghost use Rattle.tables.specs.Tables.{energies as binEnergies};
+ghost use Rattle.history_queue.specs.Queue.{suits, heldOf, slice};
+ghost use Rattle.history_set.specs.Set.{histories, historiesOf, queueAt, isOutside, outsideSet, noneBelow, isSound, shows, setRows};
+ghost use Rattle.bins_tables.specs.Tables.{energies as binEnergies};
 ghost use Rattle.gate.specs.Totals.{mostBlocks, none};
 ghost use Rattle.gate.specs.Sums.{totalsOf, allOf, alone};
 ghost use Rattle.gate.specs.Inner.{sumOnto, SumsAre};
@@ -34,7 +34,7 @@ fn look(before: Looked, energies: &[f64], from: usize, until: usize) -> Looked
     ensures { λ r. ⌜ (r .sound ≡ (before .sound && noneBelow (slice from until (now (energies .entry)))))
         × (r .sum ≡ sumOnto (before .sum) (slice from until (now (energies .entry)))) ⌝ }
 {
-    let least = histogram_bins::lowest_boundary();
+    let least = bins::lowest_boundary();
     let mut sound = before.sound;
     let mut sum = before.sum;
     let mut i = from;
@@ -116,7 +116,7 @@ fn refuse(refusal: u8) -> Sums
 fn outside(entry: Entry, counters: &[Count], energies: &[f64]) -> bool
     ensures { λ r. ⌜ r ≡ outsideSet (alone entry (now (counters .entry)) (now (energies .entry))) ⌝ }
 {
-    history::set::outside_set([entry; MOST], 1, counters, energies)
+    history_set::set::outside_set([entry; MOST], 1, counters, energies)
 }
 
 // The blocks of a single history and the sum of their energies.
@@ -131,14 +131,14 @@ pub(crate) fn of_history(
         (totalsOf (shows (now (counters .entry)) (now (energies .entry)) entry)) r ⌝ }
 {
     if outside(entry, counters, energies) {
-        return refuse(refusals::SET);
+        return refuse(base_refusals::SET);
     }
     let seen = look_at_history(table, entry, counters, energies);
     if seen.sound {
         let totals = seen.totals;
         return Sums { refusal: 0, totals };
     }
-    refuse(refusals::STORE)
+    refuse(base_refusals::STORE)
 }
 
 // Those of a set of histories, added history by history from 0.
@@ -153,8 +153,8 @@ pub(crate) fn of_set(
     ensures { λ r. ⌜ SumsAre (setRows (histories entries count (now (counters .entry)) (now (energies .entry))))
         (allOf (historiesOf (histories entries count (now (counters .entry)) (now (energies .entry))))) r ⌝ }
 {
-    if history::set::outside_set(entries, count, counters, energies) {
-        return refuse(refusals::SET);
+    if history_set::set::outside_set(entries, count, counters, energies) {
+        return refuse(base_refusals::SET);
     }
     let mut blocks: u64 = 0;
     let mut sum = 0.0;
@@ -167,7 +167,7 @@ pub(crate) fn of_set(
             sum = sum + seen.totals.sum;
             i += 1;
         } else {
-            return refuse(refusals::STORE);
+            return refuse(base_refusals::STORE);
         }
     }
     let totals = Totals { count: blocks, sum };

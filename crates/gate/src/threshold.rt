@@ -1,10 +1,10 @@
 // The relative threshold of the blocks of histories, and that of a single history.
 use crate::blocks::Totals;
-use histogram_bins::Count;
-use history::set::Entry;
+use bins::Count;
+use history_set::set::Entry;
 ghost use mathlib.Core.Path.{_≡_};
-ghost use Rattle.refusals.specs.Outcome.{answers, saidBy};
-ghost use Rattle.refusals.specs.Rows.{byRows};
+ghost use Rattle.base_refusals.specs.Outcome.{answers, saidBy};
+ghost use Rattle.base_refusals.specs.Rows.{byRows};
 ghost use Rattle.gate.specs.Relative.{thresholdOf, levelOf, levelRows, relativeOf, said};
 
 // The loudness of the absolute gate, which stands for a threshold where there is no block.
@@ -31,8 +31,8 @@ fn level(totals: Totals) -> Threshold
     if totals.count == 0 {
         return Threshold::Loudness(LOWEST);
     }
-    if floats::is_nan(totals.sum) {
-        return Threshold::Refused(refusals::NAN);
+    if base_floats::is_nan(totals.sum) {
+        return Threshold::Refused(base_refusals::NAN);
     }
     Threshold::Energy(threshold_of(totals))
 }
@@ -41,7 +41,7 @@ fn level(totals: Totals) -> Threshold
 pub fn relative_threshold(entry: Entry, counters: &[Count], energies: &[f64]) -> Threshold
     ensures { λ r. ⌜ said r ≡ saidBy (relativeOf entry (now (counters .entry)) (now (energies .entry))) ⌝ }
 {
-    let table = tables::all_energies();
+    let table = bins_tables::all_energies();
     let sums = crate::sums::of_history(&table, entry, counters, energies);
     let refusal = sums.refusal;
     if refusal != 0 {

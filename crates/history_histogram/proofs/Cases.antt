@@ -5,11 +5,11 @@ use mathlib.Core.List.{List}
 use Prim.Native.Nat.{ℕ}
 use borrow.Author.Tests.{eq-eqb, ne-eqb}
 use lib.ListN.{length}
-use Rattle.refusals.specs.Refusal.{STORE, FULL}
-use Rattle.refusals.specs.Outcome.{went, refused, done}
-use Rattle.histogram_bins.specs.Bin.{bins}
-use Rattle.histogram.specs.Histogram.{sums}
-use Rattle.histogram_merge.specs.Merge.{room, mergeInto}
+use Rattle.base_refusals.specs.Refusal.{STORE, FULL}
+use Rattle.base_refusals.specs.Outcome.{went, refused, done}
+use Rattle.bins.specs.Bin.{bins}
+use Rattle.history_histogram.specs.Histogram.{sums}
+use Rattle.history_histogram.specs.Merge.{room, mergeInto}
 
 module _ (into from : List ℕ) where
   pub merge-store : (length into ≡ bins → ⊥) → mergeInto into from ≡ refused STORE

@@ -8,11 +8,11 @@ use borrow.Author.Tests.{eq-eqb, ne-eqb, le-leb, lt-leb}
 use lib.ListN.{length, getD, drop, replicate}
 use lib.Seq.{drop-length}
 use lib.Ieee.{Float}
-use Rattle.refusals.specs.Refusal.{STORE, FULL}
-use Rattle.refusals.specs.Outcome.{went, refused, done}
-use Rattle.histogram_bins.specs.Bin.{bins, binOf}
-use Rattle.histogram_bins.specs.Energy.{dropped}
-use Rattle.histogram.specs.Histogram.{largestCount, empty, oneMore, addTo, cleared}
+use Rattle.base_refusals.specs.Refusal.{STORE, FULL}
+use Rattle.base_refusals.specs.Outcome.{went, refused, done}
+use Rattle.bins.specs.Bin.{bins, binOf}
+use Rattle.bins.specs.Energy.{dropped}
+use Rattle.history_histogram.specs.Histogram.{largestCount, empty, oneMore, addTo, cleared}
 
 module _ (counters : List ℕ) (energy : Float) where
   pub add-store : (length counters ≡ bins → ⊥) → addTo counters energy ≡ refused STORE

@@ -1,2 +1,4 @@
 pub mod Counters
 pub mod Sums
+pub mod Cases
+pub mod Room

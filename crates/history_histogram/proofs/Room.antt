@@ -11,8 +11,8 @@ use borrow.Author.Tests.{le-leb, lt-leb, leb-true, leb-false}
 use lib.Dec.{leb}
 use lib.ListN.{length, getD, drop, drop-of-length-le}
 use lib.Seq.{drop-cons}
-use Rattle.histogram.specs.Histogram.{largestCount}
-use Rattle.histogram_merge.specs.Merge.{room}
+use Rattle.history_histogram.specs.Histogram.{largestCount}
+use Rattle.history_histogram.specs.Merge.{room}
 
 -- "y is at most what x leaves" is "x + y is at most the largest count"
 fits-one : (x y : ℕ) → x ≤ largestCount → leb y (largestCount - x) ≡ leb (x + y) largestCount

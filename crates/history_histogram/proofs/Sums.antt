@@ -7,7 +7,7 @@ use native.Mathlib.Nat.{le-of-suc-le-suc, not-suc-le-zero, suc-inj}
 use native.Mathlib.Numerals.{add-one}
 use native.Mathlib.Omega.{arith}
 use lib.ListN.{length, getD, set}
-use Rattle.histogram.specs.Histogram.{sums}
+use Rattle.history_histogram.specs.Histogram.{sums}
 
 abbrev pub sumsFirst : ℕ → List ℕ → List ℕ → List ℕ
 sumsFirst zero into from = into

@@ -5,11 +5,11 @@ use mathlib.Core.List.{List, [], _∷_}
 use lib.Dec.{eqb, leb}
 use lib.ListN.{length, getD, set, replicate}
 use lib.Ieee.{Float}
-use Rattle.refusals.specs.Refusal.{STORE, FULL}
-use Rattle.refusals.specs.Outcome.{Outcome, went, NoValues, done}
-use Rattle.refusals.specs.Rows.{Row, row, byRows}
-use Rattle.histogram_bins.specs.Bin.{bins, binOf}
-use Rattle.histogram_bins.specs.Energy.{dropped, received}
+use Rattle.base_refusals.specs.Refusal.{STORE, FULL}
+use Rattle.base_refusals.specs.Outcome.{Outcome, went, NoValues, done}
+use Rattle.base_refusals.specs.Rows.{Row, row, byRows}
+use Rattle.bins.specs.Bin.{bins, binOf}
+use Rattle.bins.specs.Energy.{dropped, received}
 
 -- the largest count of a bin
 abbrev pub largestCount : ℕ

@@ -3,10 +3,10 @@ use Prim.Native.Nat.{ℕ, _+_}
 use mathlib.Core.Bool.{Bool, true, not, _&&_, _||_}
 use mathlib.Core.List.{List, [], _∷_}
 use lib.Dec.{leb}
-use Rattle.refusals.specs.Refusal.{STORE, FULL}
-use Rattle.refusals.specs.Outcome.{Outcome, went, NoValues, done}
-use Rattle.refusals.specs.Rows.{Row, row, byRows}
-use Rattle.histogram.specs.Histogram.{largestCount, isHistogram, sums}
+use Rattle.base_refusals.specs.Refusal.{STORE, FULL}
+use Rattle.base_refusals.specs.Outcome.{Outcome, went, NoValues, done}
+use Rattle.base_refusals.specs.Rows.{Row, row, byRows}
+use Rattle.history_histogram.specs.Histogram.{largestCount, isHistogram, sums}
 
 -- no sum passes the largest count
 abbrev pub room : List ℕ → List ℕ → Bool

@@ -1,12 +1,14 @@
 // The histogram: 1,000 counters in a lent slice, one for each bin.
-use histogram_bins::Count;
-use refusals::Answer;
+use base_refusals::Answer;
+use bins::Count;
 ghost use mathlib.Core.Path.{_≡_};
 ghost use lib.ListN.{length};
-ghost use Rattle.refusals.specs.Outcome.{saidBy, keptBy};
-ghost use Rattle.refusals.specs.Answer.{said};
-ghost use Rattle.histogram_bins.specs.Bin.{bins};
-ghost use Rattle.histogram.specs.Histogram.{empty, addTo, cleared};
+ghost use Rattle.base_refusals.specs.Outcome.{saidBy, keptBy};
+ghost use Rattle.base_refusals.specs.Answer.{said};
+ghost use Rattle.bins.specs.Bin.{bins};
+ghost use Rattle.history_histogram.specs.Histogram.{empty, addTo, cleared};
+
+pub mod merging;
 
 // The largest count of a bin: what a counter of 32 bits holds.
 pub const LARGEST_COUNT: Count = 4294967295;
@@ -16,16 +18,16 @@ pub fn add(counters: &mut [Count], energy: f64) -> Answer
     ensures { λ r. ⌜ (said r ≡ saidBy (addTo (now (counters .entry)) energy))
         × (now (counters .exit) ≡ keptBy (now (counters .entry)) (addTo (now (counters .entry)) energy)) ⌝ }
 {
-    if counters.len() != histogram_bins::BINS {
-        return Answer::Refused(refusals::STORE);
+    if counters.len() != bins::BINS {
+        return Answer::Refused(base_refusals::STORE);
     }
-    if energy < histogram_bins::lowest_boundary() {
+    if energy < bins::lowest_boundary() {
         return Answer::Done;
     }
-    let bin = bin_search::find_histogram_index(energy);
+    let bin = bins::search::find_histogram_index(energy);
     let count = counters[bin];
     if count == LARGEST_COUNT {
-        return Answer::Refused(refusals::FULL);
+        return Answer::Refused(base_refusals::FULL);
     }
     counters[bin] = count + 1;
     Answer::Done
@@ -47,8 +49,8 @@ pub fn reset(counters: &mut [Count]) -> Answer
     ensures { λ r. ⌜ (said r ≡ saidBy (cleared (now (counters .entry))))
         × (now (counters .exit) ≡ keptBy (now (counters .entry)) (cleared (now (counters .entry)))) ⌝ }
 {
-    if counters.len() != histogram_bins::BINS {
-        return Answer::Refused(refusals::STORE);
+    if counters.len() != bins::BINS {
+        return Answer::Refused(base_refusals::STORE);
     }
     clear(counters);
     Answer::Done

@@ -1,13 +1,13 @@
 // One histogram added to another, bin by bin, where every bin has room.
-use histogram_bins::Count;
-use refusals::Answer;
+use base_refusals::Answer;
+use bins::Count;
 ghost use mathlib.Core.Path.{_≡_};
 ghost use mathlib.Core.Bool.{true};
 ghost use lib.ListN.{length};
-ghost use Rattle.refusals.specs.Outcome.{saidBy, keptBy};
-ghost use Rattle.refusals.specs.Answer.{said};
-ghost use Rattle.histogram.specs.Histogram.{sums};
-ghost use Rattle.histogram_merge.specs.Merge.{room, mergeInto};
+ghost use Rattle.base_refusals.specs.Outcome.{saidBy, keptBy};
+ghost use Rattle.base_refusals.specs.Answer.{said};
+ghost use Rattle.history_histogram.specs.Histogram.{sums};
+ghost use Rattle.history_histogram.specs.Merge.{room, mergeInto};
 
 // Whether no two counters add up to more than the largest count, by a look at every bin.
 fn has_room(into: &[Count], from: &[Count]) -> bool
@@ -17,7 +17,7 @@ fn has_room(into: &[Count], from: &[Count]) -> bool
     let mut fits = true;
     let mut bin = 0;
     while bin < into.len() {
-        fits = fits & (from[bin] <= histogram::LARGEST_COUNT - into[bin]);
+        fits = fits & (from[bin] <= crate::LARGEST_COUNT - into[bin]);
         bin += 1;
     }
     fits
@@ -39,16 +39,16 @@ pub fn merge(into: &mut [Count], from: &[Count]) -> Answer
     ensures { λ r. ⌜ (said r ≡ saidBy (mergeInto (now (into .entry)) (now (from .entry))))
         × (now (into .exit) ≡ keptBy (now (into .entry)) (mergeInto (now (into .entry)) (now (from .entry)))) ⌝ }
 {
-    if into.len() != histogram_bins::BINS {
-        return Answer::Refused(refusals::STORE);
+    if into.len() != bins::BINS {
+        return Answer::Refused(base_refusals::STORE);
     }
-    if from.len() != histogram_bins::BINS {
-        return Answer::Refused(refusals::STORE);
+    if from.len() != bins::BINS {
+        return Answer::Refused(base_refusals::STORE);
     }
     if has_room(into, from) {
         add_all(into, from);
         Answer::Done
     } else {
-        Answer::Refused(refusals::FULL)
+        Answer::Refused(base_refusals::FULL)
     }
 }

@@ -8,12 +8,12 @@ use native.Mathlib.Omega.{arith}
 use borrow.Author.Tests.{lt-ltb, le-ltb}
 use lib.ListN.{length, set}
 use lib.Ieee.{Float}
-use Rattle.refusals.specs.Refusal.{STORE}
-use Rattle.refusals.specs.Outcome.{went, refused, done}
-use Rattle.histogram_bins.specs.Energy.{dropped}
-use Rattle.queue.specs.declared.Queue.{Queue}
-use Rattle.queue.specs.Queue.{over, suits}
-use Rattle.queue_add.specs.Adding.{nextPlace, advanced, enqueued}
+use Rattle.base_refusals.specs.Refusal.{STORE}
+use Rattle.base_refusals.specs.Outcome.{went, refused, done}
+use Rattle.bins.specs.Energy.{dropped}
+use Rattle.history_queue.specs.declared.Queue.{Queue}
+use Rattle.history_queue.specs.Queue.{over, suits}
+use Rattle.history_queue.specs.Adding.{nextPlace, advanced, enqueued}
 
 module _ (queue : Queue) (store : List Float) (energy : Float) where
   pub enqueue-store : suits queue (length store) ≡ false → enqueued (over queue store) energy ≡ refused STORE

@@ -7,14 +7,14 @@ use Prim.Native.Nat.{ℕ, _+_, _≤_, _<_}
 use native.Mathlib.Omega.{arith}
 use lib.ListN.{length, set}
 use lib.Ieee.{Float}
-use Rattle.refusals.specs.Outcome.{keptBy}
-use Rattle.queue.specs.declared.Queue.{Queue}
-use Rattle.histogram_bins.specs.Energy.{dropped}
-use Rattle.queue.specs.Queue.{longest, Stored, over, started, heldFrom, heldOf}
-use Rattle.queue.proofs.Ring.{Suited, suits-it}
-use Rattle.queue_add.specs.Adding.{advanced, nextPlace, enqueued, fedTo, taken}
-use Rattle.queue_add.proofs.Adding.{advance-more, enqueue-dropped, enqueue-went}
-use Rattle.queue_add.proofs.Newest.{held-more, suited-after}
+use Rattle.base_refusals.specs.Outcome.{keptBy}
+use Rattle.history_queue.specs.declared.Queue.{Queue}
+use Rattle.bins.specs.Energy.{dropped}
+use Rattle.history_queue.specs.Queue.{longest, Stored, over, started, heldFrom, heldOf}
+use Rattle.history_queue.proofs.Ring.{Suited, suits-it}
+use Rattle.history_queue.specs.Adding.{advanced, nextPlace, enqueued, fedTo, taken}
+use Rattle.history_queue.proofs.Enqueued.{advance-more, enqueue-dropped, enqueue-went}
+use Rattle.history_queue.proofs.Newest.{held-more, suited-after}
 
 -- what the rest gives, by whether the energy is dropped
 abbrev taken-next : Bool → Float → List Float → List Float

@@ -11,9 +11,9 @@ use lib.Dec.{ltb}
 use lib.ListN.{length, getD, take, drop}
 use lib.Seq.{drop-cons}
 use lib.Ieee.{Float, nan}
-use Rattle.queue.specs.declared.Queue.{Queue}
-use Rattle.queue.specs.Queue.{over, heldFrom, heldOf, firstPart}
-use Rattle.queue.proofs.Ring.{Suited}
+use Rattle.history_queue.specs.declared.Queue.{Queue}
+use Rattle.history_queue.specs.Queue.{over, heldFrom, heldOf, firstPart}
+use Rattle.history_queue.proofs.Ring.{Suited}
 
 pub less-or-not : (a b : ℕ) → (a < b) ⊎ (b ≤ a)
 less-or-not a b = go (ltb a b) refl

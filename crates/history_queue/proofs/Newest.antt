@@ -13,12 +13,12 @@ use lib.Dec.{ltb}
 use lib.ListN.{length, drop, set, length-set}
 use lib.Seq.{getD-set-same, getD-set-other}
 use lib.Ieee.{Float, nan}
-use Rattle.queue.specs.declared.Queue.{Queue}
-use Rattle.queue.specs.Queue.{over, heldFrom, heldOf}
-use Rattle.queue.proofs.Ring.{Suited}
-use Rattle.queue.proofs.Held.{less-or-not, held-count, same-place, held-append}
-use Rattle.queue_add.specs.Adding.{nextPlace, advanced, withNewest}
-use Rattle.queue_add.proofs.Adding.{advance-more, advance-full}
+use Rattle.history_queue.specs.declared.Queue.{Queue}
+use Rattle.history_queue.specs.Queue.{over, heldFrom, heldOf}
+use Rattle.history_queue.proofs.Ring.{Suited}
+use Rattle.history_queue.proofs.Held.{less-or-not, held-count, same-place, held-append}
+use Rattle.history_queue.specs.Adding.{nextPlace, advanced, withNewest}
+use Rattle.history_queue.proofs.Enqueued.{advance-more, advance-full}
 
 -- places on a ring of m
 -- below two turns, a place is itself, or itself less one turn

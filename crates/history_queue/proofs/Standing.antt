@@ -11,11 +11,11 @@ use lib.Dec.{ltb}
 use lib.ListN.{length, getD, take, drop, length-take, length-drop}
 use lib.Seq.{drop-cons, take-take, take-all, drop-drop, take-nil}
 use lib.Ieee.{Float}
-use Rattle.queue.specs.declared.Queue.{Queue}
-use Rattle.queue.specs.declared.Parts.{Parts}
-use Rattle.queue.specs.Queue.{longest, over, suits, heldOf, firstPart, stands, standing, nowhere, partsOf, slice, inParts}
-use Rattle.queue.proofs.Ring.{Suited, suited}
-use Rattle.queue.proofs.Held.{held-parts}
+use Rattle.history_queue.specs.declared.Queue.{Queue}
+use Rattle.history_queue.specs.declared.Parts.{Parts}
+use Rattle.history_queue.specs.Queue.{longest, over, suits, heldOf, firstPart, stands, standing, nowhere, partsOf, slice, inParts}
+use Rattle.history_queue.proofs.Ring.{Suited, suited}
+use Rattle.history_queue.proofs.Held.{held-parts}
 
 -- ---- slices
 drop-take : {A : Type 0} (i n : ℕ) (l : List A) → drop i (take n l) ≡ take (n - i) (drop i l)

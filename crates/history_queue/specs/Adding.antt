@@ -6,12 +6,12 @@ use mathlib.Core.List.{List, [], _∷_, _++_}
 use lib.Dec.{ltb}
 use lib.ListN.{length, set, drop}
 use lib.Ieee.{Float}
-use Rattle.refusals.specs.Refusal.{STORE}
-use Rattle.refusals.specs.Outcome.{Outcome, went, NoValues, done, keptBy}
-use Rattle.refusals.specs.Rows.{Row, row, byRows}
-use Rattle.histogram_bins.specs.Energy.{dropped, received}
-use Rattle.queue.specs.declared.Queue.{Queue}
-use Rattle.queue.specs.Queue.{Stored, over, suits}
+use Rattle.base_refusals.specs.Refusal.{STORE}
+use Rattle.base_refusals.specs.Outcome.{Outcome, went, NoValues, done, keptBy}
+use Rattle.base_refusals.specs.Rows.{Row, row, byRows}
+use Rattle.bins.specs.Energy.{dropped, received}
+use Rattle.history_queue.specs.declared.Queue.{Queue}
+use Rattle.history_queue.specs.Queue.{Stored, over, suits}
 
 -- the place of the next energy
 abbrev pub nextPlace : Queue → ℕ

@@ -5,8 +5,8 @@ use mathlib.Core.List.{List, [], _∷_, _++_}
 use lib.Dec.{eqb, leb, ltb}
 use lib.ListN.{getD, take, drop}
 use lib.Ieee.{Float, nan}
-use Rattle.queue.specs.declared.Queue.{Queue}
-use Rattle.queue.specs.declared.Parts.{Parts}
+use Rattle.history_queue.specs.declared.Queue.{Queue}
+use Rattle.history_queue.specs.declared.Parts.{Parts}
 
 -- the longest queue
 abbrev pub longest : ℕ

@@ -1,12 +1,12 @@
 // An energy added to a queue.
-use queue::Queue;
-use refusals::Answer;
+use crate::Queue;
+use base_refusals::Answer;
 ghost use mathlib.Core.Path.{_≡_};
 ghost use Prim.Native.Nat.{_+_, _%_, _<_};
-ghost use Rattle.refusals.specs.Outcome.{saidBy, keptBy};
-ghost use Rattle.refusals.specs.Answer.{said};
-ghost use Rattle.queue.specs.Queue.{over};
-ghost use Rattle.queue_add.specs.Adding.{enqueued};
+ghost use Rattle.base_refusals.specs.Outcome.{saidBy, keptBy};
+ghost use Rattle.base_refusals.specs.Answer.{said};
+ghost use Rattle.history_queue.specs.Queue.{over};
+ghost use Rattle.history_queue.specs.Adding.{enqueued};
 
 // The answer of `add`, with the queue as it is afterwards.
 pub struct Queued {
@@ -44,7 +44,7 @@ pub fn add(queue: Queue, store: &mut [f64], energy: f64) -> Queued
         × (over (r .queue) (now (store .exit)) ≡ keptBy (over queue (now (store .entry))) (enqueued (over queue (now (store .entry))) energy)) ⌝ }
 {
     if queue.suits(store.len()) {
-        if energy < histogram_bins::lowest_boundary() {
+        if energy < bins::lowest_boundary() {
             return Queued {
                 answer: Answer::Done,
                 queue,
@@ -76,7 +76,7 @@ pub fn add(queue: Queue, store: &mut [f64], energy: f64) -> Queued
         }
     } else {
         Queued {
-            answer: Answer::Refused(refusals::STORE),
+            answer: Answer::Refused(base_refusals::STORE),
             queue,
         }
     }

@@ -1,6 +1,8 @@
 // The queue: the last energies, oldest first, in a lent store that is gone through round and round.
 ghost use mathlib.Core.Path.{_≡_};
-ghost use Rattle.queue.specs.Queue.{suits, started, firstPart, stands, partsOf};
+ghost use Rattle.history_queue.specs.Queue.{suits, started, firstPart, stands, partsOf};
+
+pub mod adding;
 
 // The longest queue: an hour of blocks, one every 100 ms.
 pub const LONGEST: usize = 36000;

@@ -12,12 +12,12 @@ use lib.Dec.{ltb}
 use lib.ListN.{length, getD, take, drop, length-take, drop-of-length-le}
 use lib.Seq.{drop-cons, getD-take}
 use lib.Ieee.{Float}
-use Rattle.histogram_bins.specs.Bin.{bins}
-use Rattle.queue.specs.declared.Queue.{Queue}
-use Rattle.history.specs.declared.set.Entry.{Entry}
-use Rattle.history.specs.declared.set.Shape.the-variants.{Histogram, Queue as Queue-at}
-use Rattle.queue.specs.Queue.{suits, heldOf}
-use Rattle.history.specs.Set.{
+use Rattle.bins.specs.Bin.{bins}
+use Rattle.history_queue.specs.declared.Queue.{Queue}
+use Rattle.history_set.specs.declared.set.Entry.{Entry}
+use Rattle.history_set.specs.declared.set.Shape.the-variants.{Histogram, Queue as Queue-at}
+use Rattle.history_queue.specs.Queue.{suits, heldOf}
+use Rattle.history_set.specs.Set.{
   queueAt,
   shows,
   allShow,

@@ -5,11 +5,11 @@ use Prim.Native.Nat.{_≤_, _<_}
 use borrow.Author.Tests.{lt-ltb, le-ltb, ltb-false, not-false}
 use lib.Dec.{ltb}
 use lib.ListN.{length}
-use Rattle.refusals.specs.Refusal.{STORE, SET, number}
-use Rattle.refusals.specs.Rows.{numberOf}
-use Rattle.refusals.proofs.Rows.{not-held}
-use Rattle.history.proofs.Entries.{either-not}
-use Rattle.history.specs.Set.{mostHistories, Histories, chosen, anyOutside, outsideSet, allSound, setRows}
+use Rattle.base_refusals.specs.Refusal.{STORE, SET, number}
+use Rattle.base_refusals.specs.Rows.{numberOf}
+use Rattle.base_refusals.proofs.Rows.{not-held}
+use Rattle.history_set.proofs.Entries.{either-not}
+use Rattle.history_set.specs.Set.{mostHistories, Histories, chosen, anyOutside, outsideSet, allSound, setRows}
 
 module _ (h : Histories) where
   -- ---- SET

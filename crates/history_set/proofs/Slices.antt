@@ -7,14 +7,14 @@ use Prim.Native.Nat.{ℕ, _+_, _-_, _≤_, _<_}
 use native.Mathlib.Omega.{arith}
 use lib.ListN.{length, getD, take, drop}
 use lib.Ieee.{Float}
-use Rattle.histogram_bins.specs.Bin.{bins}
-use Rattle.histogram_bins.specs.Energy.{dropped}
-use Rattle.queue.specs.declared.Queue.{Queue}
-pub use Rattle.queue.specs.Queue.{slice}
-use Rattle.queue.specs.Queue.{suits, heldOf, partsOf, inParts}
-pub use Rattle.queue.proofs.Standing.{slice-length, slice-next, slice-end}
-use Rattle.queue.proofs.Standing.{inside, held-in-parts}
-use Rattle.history.specs.Set.{countersAt, queueAt, noneBelow}
+use Rattle.bins.specs.Bin.{bins}
+use Rattle.bins.specs.Energy.{dropped}
+use Rattle.history_queue.specs.declared.Queue.{Queue}
+pub use Rattle.history_queue.specs.Queue.{slice}
+use Rattle.history_queue.specs.Queue.{suits, heldOf, partsOf, inParts}
+pub use Rattle.history_queue.proofs.Standing.{slice-length, slice-next, slice-end}
+use Rattle.history_queue.proofs.Standing.{inside, held-in-parts}
+use Rattle.history_set.specs.Set.{countersAt, queueAt, noneBelow}
 
 pub counters-slice : (counters : List ℕ) (start : ℕ) → countersAt counters start ≡ slice start (start + bins) counters
 counters-slice counters start = ap (λ (n : ℕ). take n (drop start counters)) {x = bins} {y = start + bins - start} (omega arith)

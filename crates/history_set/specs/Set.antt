@@ -5,15 +5,15 @@ use mathlib.Core.List.{List, [], _∷_}
 use lib.Dec.{ltb}
 use lib.ListN.{length, take, drop}
 use lib.Ieee.{Float}
-use Rattle.refusals.specs.Refusal.{STORE, SET}
-use Rattle.refusals.specs.Rows.{Row, row}
-use Rattle.histogram_bins.specs.Bin.{bins}
-use Rattle.queue.specs.declared.Queue.{Queue}
-use Rattle.history.specs.declared.set.Entry.{Entry}
-use Rattle.history.specs.declared.set.Shape.{Shape}
-use Rattle.history.specs.declared.set.Shape.the-variants.{Histogram, Queue as Queue-at}
-use Rattle.histogram_bins.specs.Energy.{dropped}
-use Rattle.queue.specs.Queue.{Stored, over, suits, heldOf}
+use Rattle.base_refusals.specs.Refusal.{STORE, SET}
+use Rattle.base_refusals.specs.Rows.{Row, row}
+use Rattle.bins.specs.Bin.{bins}
+use Rattle.history_queue.specs.declared.Queue.{Queue}
+use Rattle.history_set.specs.declared.set.Entry.{Entry}
+use Rattle.history_set.specs.declared.set.Shape.{Shape}
+use Rattle.history_set.specs.declared.set.Shape.the-variants.{Histogram, Queue as Queue-at}
+use Rattle.bins.specs.Energy.{dropped}
+use Rattle.history_queue.specs.Queue.{Stored, over, suits, heldOf}
 
 -- the most histories of a set
 abbrev pub mostHistories : ℕ

@@ -1,10 +1,10 @@
 // A set of histories, as a question takes it: up to 16 entries by value, over one lent slice of counters and one of energies. Entries may overlap or repeat.
-use histogram_bins::Count;
-use queue::Queue;
+use bins::Count;
+use history_queue::Queue;
 ghost use mathlib.Core.Path.{_≡_};
 ghost use Prim.Native.Nat.{_≤_};
 ghost use lib.ListN.{take};
-ghost use Rattle.history.specs.Set.{mostHistories, histories, isOutside, anyOutside, outsideSet};
+ghost use Rattle.history_set.specs.Set.{mostHistories, histories, isOutside, anyOutside, outsideSet};
 
 // The most histories of a set.
 pub const MOST: usize = 16;
@@ -31,7 +31,7 @@ fn outside(entry: Entry, counters: usize, energies: usize) -> bool
             if counters < start {
                 return true;
             }
-            counters - start < histogram_bins::BINS
+            counters - start < bins::BINS
         }
         Shape::Queue(start, queue) => {
             if energies < start {

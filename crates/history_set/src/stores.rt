@@ -1,16 +1,16 @@
 // What refuses a set of histories: after SET, which `history` asks, STORE, entry by entry. A store is sound where it suits its queue and holds no energy below boundary 0.
-use histogram_bins::Count;
-use history::set::Entry;
-use history::set::MOST;
-use history::set::Shape;
-use queue::Queue;
+use crate::set::Entry;
+use crate::set::MOST;
+use crate::set::Shape;
+use bins::Count;
+use history_queue::Queue;
 ghost use mathlib.Core.Path.{_≡_};
 ghost use mathlib.Core.Bool.{_&&_};
 ghost use Prim.Native.Nat.{_≤_};
 ghost use lib.ListN.{length, take};
-ghost use Rattle.refusals.specs.Rows.{numberOf};
-ghost use Rattle.queue.specs.Queue.{over, suits, heldOf, slice};
-ghost use Rattle.history.specs.Set.{
+ghost use Rattle.base_refusals.specs.Rows.{numberOf};
+ghost use Rattle.history_queue.specs.Queue.{over, suits, heldOf, slice};
+ghost use Rattle.history_set.specs.Set.{
   mostHistories,
   histories,
   storeEnd,
@@ -26,7 +26,7 @@ fn none_below(store: &[f64], from: usize, until: usize) -> bool
     requires { ⌜ (from ≤ until) × (until ≤ length (now store)) ⌝ }
     ensures { λ r. ⌜ r ≡ noneBelow (slice from until (now (store .entry))) ⌝ }
 {
-    let least = histogram_bins::lowest_boundary();
+    let least = bins::lowest_boundary();
     let mut fine = true;
     let mut i = from;
     while i < until {
@@ -88,12 +88,12 @@ fn all_sound(entries: [Entry; MOST], count: usize, energies: &[f64]) -> bool
 pub fn checked(entries: [Entry; MOST], count: usize, counters: &[Count], energies: &[f64]) -> u8
     ensures { λ r. ⌜ r ≡ numberOf (setRows (histories entries count (now (counters .entry)) (now (energies .entry)))) ⌝ }
 {
-    if history::set::outside_set(entries, count, counters, energies) {
-        return refusals::SET;
+    if crate::set::outside_set(entries, count, counters, energies) {
+        return base_refusals::SET;
     }
     if all_sound(entries, count, energies) {
         0
     } else {
-        refusals::STORE
+        base_refusals::STORE
     }
 }

@@ -5,8 +5,8 @@ use mir.Syntax.{erased}
 use denote.Builtin.{f32}
 use denote.Ref.{NamedLft}
 use Rattle.samples.specs.Sample.{samplesOfF32}
-use Rattle.interleaved_floats.specs.declared.Interleaved.{Interleaved}
-use Rattle.interleaved_floats.proofs.Interleaved as struct
+use Rattle.interleaved.specs.declared.floats.Interleaved.{Interleaved}
+use Rattle.interleaved.proofs.floats.Interleaved as struct
 use Rattle.interleaved_walks.proofs.Kind.{Kind}
 
 -- a struct's name does not depend on its lifetime

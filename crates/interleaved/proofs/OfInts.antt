@@ -5,8 +5,8 @@ use mir.Syntax.{erased}
 use denote.Builtin.{i16}
 use denote.Ref.{NamedLft}
 use Rattle.samples.specs.Sample.{samplesOf16}
-use Rattle.interleaved_ints.specs.declared.Interleaved.{Interleaved}
-use Rattle.interleaved_ints.proofs.Interleaved as struct
+use Rattle.interleaved.specs.declared.ints.Interleaved.{Interleaved}
+use Rattle.interleaved.proofs.ints.Interleaved as struct
 use Rattle.interleaved_walks.proofs.Kind.{Kind}
 
 -- a struct's name does not depend on its lifetime

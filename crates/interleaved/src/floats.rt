@@ -3,13 +3,13 @@
 // and the numbers.
 ghost use mathlib.Core.Path.{_≡_};
 ghost use lib.ListN.{length};
-ghost use Rattle.refusals.specs.Outcome.{saidBy};
+ghost use Rattle.base_refusals.specs.Outcome.{saidBy};
 ghost use Rattle.samples.specs.Sample.{samplesOfF32};
-ghost use Rattle.interleaved_frames.specs.Shown.{framesIn, sampleIn};
-ghost use Rattle.interleaved_frames.specs.Said.{framesSaid, sampleSaid};
-ghost use Rattle.interleaved_parts.specs.Parts.{upTo, fromOn};
-use interleaved_frames::Frames;
-use interleaved_frames::Sample;
+ghost use Rattle.interleaved_slices.specs.Shown.{framesIn, sampleIn};
+ghost use Rattle.interleaved_slices.specs.Said.{framesSaid, sampleSaid};
+ghost use Rattle.interleaved_slices.specs.Parts.{upTo, fromOn};
+use interleaved_slices::Frames;
+use interleaved_slices::Sample;
 
 pub struct Interleaved<'a> {
     pub samples: &'a [f32],
@@ -33,13 +33,13 @@ impl<'a> Interleaved<'a> {
     pub fn frames(self) -> Frames
         ensures { λ r. ⌜ framesSaid r ≡ saidBy (framesIn (self .entry .channels) (length (now (self .entry .samples)))) ⌝ }
     {
-        interleaved_frames::frames_of(self.channels, self.samples.len())
+        interleaved_slices::frames_of(self.channels, self.samples.len())
     }
 
     pub fn sample(self, channel: usize, frame: usize) -> Sample
         ensures { λ r. ⌜ sampleSaid r ≡ saidBy (sampleIn (self .entry .channels) (samplesOfF32 (now (self .entry .samples))) channel frame) ⌝ }
     {
-        interleaved_frames::sample_of_f32(self.samples, self.channels, channel, frame)
+        interleaved_slices::sample_of_f32(self.samples, self.channels, channel, frame)
     }
 
     // The frames before a frame: the first of the Rust's `split_at`. Past the end it is the whole.
@@ -47,7 +47,7 @@ impl<'a> Interleaved<'a> {
         ensures { λ r. ⌜ (now (r .samples) ≡ upTo (self .entry .channels) frame (now (self .entry .samples))) × (r .channels ≡ self .entry .channels) ⌝ }
     {
         Interleaved {
-            samples: interleaved_parts::up_to_f32(self.samples, self.channels, frame),
+            samples: interleaved_slices::parts::up_to_f32(self.samples, self.channels, frame),
             channels: self.channels,
         }
     }
@@ -57,7 +57,7 @@ impl<'a> Interleaved<'a> {
         ensures { λ r. ⌜ (now (r .samples) ≡ fromOn (self .entry .channels) frame (now (self .entry .samples))) × (r .channels ≡ self .entry .channels) ⌝ }
     {
         Interleaved {
-            samples: interleaved_parts::from_f32(self.samples, self.channels, frame),
+            samples: interleaved_slices::parts::from_f32(self.samples, self.channels, frame),
             channels: self.channels,
         }
     }

@@ -4,7 +4,7 @@ use Prim.Native.Nat.{ℕ}
 use mathlib.Core.List.{List}
 use lib.Ieee.{Float}
 use borrow.Author.Tests.{eq-eqb, ne-eqb}
-use Rattle.refusals.specs.Outcome.{Outcome, went, refused, saidBy, keptBy, NoValues, Said, says}
+use Rattle.base_refusals.specs.Outcome.{Outcome, went, refused, saidBy, keptBy, NoValues, Said, says}
 use Rattle.filter.specs.declared.Filter.{Filter}
 use Rattle.filter.specs.Call.{Call, Kept, given, kept}
 use Rattle.interleaved_filter.specs.Over.{Taken, otherChannels, whole, over, left}

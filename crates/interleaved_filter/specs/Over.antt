@@ -2,7 +2,7 @@
 use Prim.Native.Nat.{ℕ}
 use mathlib.Core.Bool.{cond}
 use lib.Dec.{eqb}
-use Rattle.refusals.specs.Outcome.{Outcome, went, refused, keptBy, NoValues}
+use Rattle.base_refusals.specs.Outcome.{Outcome, went, refused, keptBy, NoValues}
 use Rattle.filter.specs.Call.{Call, Kept, given}
 
 -- what a call that is not refused answers

@@ -1,5 +1,5 @@
 -- What each case of `Took` says, and what an answer of the call over the slice says among these.
-use Rattle.refusals.specs.Outcome.{Said, says, refusal, NoValues}
+use Rattle.base_refusals.specs.Outcome.{Said, says, refusal, NoValues}
 use Rattle.interleaved_filter.specs.Over.{Taken, taken, otherChannels}
 use Rattle.interleaved_filter.specs.declared.Took.{Took}
 use Rattle.interleaved_filter.specs.declared.Took.the-variants.{Done, OtherChannels, Refused}

@@ -1,6 +1,6 @@
 // The filter over interleaved f32 samples.
 ghost use mathlib.Core.Path.{_≡_};
-ghost use Rattle.refusals.specs.Outcome.{saidBy};
+ghost use Rattle.base_refusals.specs.Outcome.{saidBy};
 ghost use Rattle.samples.specs.Kinds.{f32s};
 ghost use Rattle.filter.specs.Call.{Call, seedOf};
 ghost use Rattle.filter.specs.Process.{processed};
@@ -9,7 +9,7 @@ ghost use Rattle.interleaved_filter.specs.Over.{over, left};
 ghost use Rattle.interleaved_filter.specs.Said.{saidOf};
 use super::Heard;
 use filter::Filter;
-use interleaved_floats::Interleaved;
+use interleaved::floats::Interleaved;
 
 fn process_slice(
     filter: Filter,

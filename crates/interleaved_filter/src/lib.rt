@@ -1,10 +1,10 @@
 // `process` and `seed` over an `Interleaved` of each kind, in the modules: thin above the filter's calls over a slice.
 ghost use mathlib.Core.Path.{_≡_};
-ghost use Rattle.refusals.specs.Answer.{said};
+ghost use Rattle.base_refusals.specs.Answer.{said};
 ghost use Rattle.interleaved_filter.specs.Said.{saidOf, asTaken};
+use base_refusals::Answer;
 use filter::Filter;
 use filter::Filtered;
-use refusals::Answer;
 
 pub mod floats;
 pub mod ints;

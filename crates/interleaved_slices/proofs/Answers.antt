@@ -6,15 +6,15 @@ use mir.Syntax.{w64, tyInt}
 use denote.Plain.{uint-lawful}
 use denote.Builtin.{usize}
 use denote.Enum.Laws as EL
-use Rattle.refusals.specs.Outcome.{saidBy}
-use Rattle.interleaved_frames.specs.Shown.{framesIn, sampleIn}
-use Rattle.interleaved_frames.specs.Said.{framesSaid, sampleSaid}
-use Rattle.interleaved_frames.specs.declared.Frames.{Frames}
-use Rattle.interleaved_frames.specs.declared.Sample.{Sample}
-use Rattle.interleaved_frames.proofs.Frames as F
-use Rattle.interleaved_frames.proofs.Frames.Laws as F′
-use Rattle.interleaved_frames.proofs.Sample as S
-use Rattle.interleaved_frames.proofs.Sample.Laws as S′
+use Rattle.base_refusals.specs.Outcome.{saidBy}
+use Rattle.interleaved_slices.specs.Shown.{framesIn, sampleIn}
+use Rattle.interleaved_slices.specs.Said.{framesSaid, sampleSaid}
+use Rattle.interleaved_slices.specs.declared.Frames.{Frames}
+use Rattle.interleaved_slices.specs.declared.Sample.{Sample}
+use Rattle.interleaved_slices.proofs.Frames as F
+use Rattle.interleaved_slices.proofs.Frames.Laws as F′
+use Rattle.interleaved_slices.proofs.Sample as S
+use Rattle.interleaved_slices.proofs.Sample.Laws as S′
 use Rattle.interleaved_walks.proofs.Kind.{Kind}
 use Rattle.interleaved_walks.proofs.Answer.{Answer}
 

@@ -7,12 +7,12 @@ use borrow.Author.Tests.{lt-ltb, le-ltb}
 use lib.Dec.{ltb}
 use lib.ListN.{length, length-map}
 use lib.Ieee.{Float}
-use Rattle.refusals.specs.Outcome.{Question, answers, Said, says, refusal, saidBy}
-use Rattle.frames.specs.Places.{sampleAt}
-use Rattle.refusals.specs.Rows.{numberOf}
-use Rattle.refusals.proofs.Rows as rows
-use Rattle.calls.specs.Calls.{frameRows}
-use Rattle.interleaved_frames.specs.Shown.{checked, Place, at, pastTheEnd, sampleOr, sampleIn}
+use Rattle.base_refusals.specs.Outcome.{Question, answers, Said, says, refusal, saidBy}
+use Rattle.interleaved_slices.specs.Places.{sampleAt}
+use Rattle.base_refusals.specs.Rows.{numberOf}
+use Rattle.base_refusals.proofs.Rows as rows
+use Rattle.filter_checks.specs.Calls.{frameRows}
+use Rattle.interleaved_slices.specs.Shown.{checked, Place, at, pastTheEnd, sampleOr, sampleIn}
 
 module _ {Values : Type 0} (channels samples : ℕ) (values : Values) (n : ℕ) (e : n ≡ numberOf (frameRows channels samples)) where
   pub goes : n ≡ 0 → says values ≡ saidBy (checked channels samples values)

@@ -10,8 +10,8 @@ use lib.ListN.{length, take, drop, length-append, length-drop, take-append-drop,
 use lib.Seq.{take-all, length-take-le, take-append-le, drop-append-le}
 use Rattle.samples.specs.Frames.{framesOf}
 use Rattle.samples.proofs.Columns.{frames-of}
-use Rattle.interleaved_parts.specs.Parts.{upTo, fromOn, cutInto, shown}
-use Rattle.interleaved_parts.proofs.Splitting.{fits, ends-before}
+use Rattle.interleaved_slices.specs.Parts.{upTo, fromOn, cutInto, shown}
+use Rattle.interleaved_slices.proofs.Splitting.{fits, ends-before}
 
 side : (frame n : ℕ) → frame ≤ n ⊎ n < frame
 side frame n = ⊎-elim (λ (z : frame - n ≡ 0). inl (omega arith)) (λ (q : 0 < frame - n). inr (omega arith)) (eq-zero-or-pos (frame - n))

@@ -11,7 +11,7 @@ use lib.ListN.{length, getD, length-map}
 use lib.Ieee.{Float}
 use Rattle.samples.specs.Frames.{silence, column, channelOf}
 use Rattle.samples.proofs.Columns.{frames-of, entry-of}
-use Rattle.frames.specs.Places.{sampleAt}
+use Rattle.interleaved_slices.specs.Places.{sampleAt}
 
 pub inside : (channels samples channel frame : ℕ) → channel < channels → frame < samples / channels → frame * channels + channel < samples
 inside channels samples channel frame h k =

@@ -7,16 +7,16 @@ use native.Mathlib.Omega.{arith}
 use lib.Dec.{ltb}
 use lib.ListN.{length, length-map, getD}
 use lib.Ieee.{Float}
-use Rattle.refusals.specs.Outcome.{answers}
-use Rattle.samples.specs.Frames.{framesOf}
-use Rattle.frames.specs.Places.{sampleAt}
+use Rattle.base_refusals.specs.Outcome.{answers}
+use Rattle.samples.specs.Frames.{framesOf, mostChannels}
+use Rattle.interleaved_slices.specs.Places.{sampleAt}
 use Rattle.samples.proofs.Columns.{frames-of}
-use Rattle.frames.proofs.Places.{sample-of}
-use Rattle.refusals.proofs.Rows.{goes}
-use Rattle.calls.specs.Calls.{mostChannels, frameRows}
-use Rattle.calls.proofs.Checking.{frames-pass}
-use Rattle.interleaved_frames.specs.Shown.{Place, at, pastTheEnd, sampleIn, sampleOr}
-use Rattle.interleaved_frames.proofs.Checking.{there}
+use Rattle.interleaved_slices.proofs.Places.{sample-of}
+use Rattle.base_refusals.proofs.Rows.{goes}
+use Rattle.filter_checks.specs.Calls.{frameRows}
+use Rattle.filter_checks.proofs.Checking.{frames-pass}
+use Rattle.interleaved_slices.specs.Shown.{Place, at, pastTheEnd, sampleIn, sampleOr}
+use Rattle.interleaved_slices.proofs.Checking.{there}
 
 module _ {A : Type 0} (f : A → Float) (l : List A) (channels channel frame : ℕ) (d : A) where
   -- what the definition picks

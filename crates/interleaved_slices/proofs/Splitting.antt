@@ -7,7 +7,7 @@ use native.Mathlib.Nat.{suc-mul, mul-le-mul-right, div-add-mod', mod-lt, min-eq-
 use native.Mathlib.Omega.{arith}
 use lib.ListN.{length, take, drop, length-drop, drop-of-length-le}
 use lib.Seq.{take-all, length-take-le}
-use Rattle.interleaved_parts.specs.Parts.{upTo, fromOn}
+use Rattle.interleaved_slices.specs.Parts.{upTo, fromOn}
 
 -- ---- where a frame begins
 

@@ -1,1 +1,4 @@
 pub mod Places
+pub mod Shown
+pub mod Said
+pub mod Parts

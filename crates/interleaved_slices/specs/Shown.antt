@@ -5,11 +5,11 @@ use mathlib.Core.List.{List}
 use lib.Dec.{ltb}
 use lib.ListN.{length}
 use lib.Ieee.{Float}
-use Rattle.refusals.specs.Outcome.{Question, answers}
+use Rattle.base_refusals.specs.Outcome.{Question, answers}
 use Rattle.samples.specs.Frames.{framesOf}
-use Rattle.frames.specs.Places.{sampleAt}
-use Rattle.refusals.specs.Rows.{byRows}
-use Rattle.calls.specs.Calls.{frameRows}
+use Rattle.interleaved_slices.specs.Places.{sampleAt}
+use Rattle.base_refusals.specs.Rows.{byRows}
+use Rattle.filter_checks.specs.Calls.{frameRows}
 
 -- an answer over so many samples, after CHANNELS and SAMPLES
 abbrev pub checked : {Values : Type 0} → ℕ → ℕ → Values → Question Values

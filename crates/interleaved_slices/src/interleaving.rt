@@ -3,10 +3,10 @@ ghost use mathlib.Core.Path.{_≡_};
 ghost use mathlib.Core.List.{map};
 ghost use Rattle.samples.specs.Sample.{sampleOf16, sampleOfF32};
 ghost use Rattle.samples.specs.Frames.{framesOf};
-ghost use Rattle.frames.specs.Places.{sampleAt};
+ghost use Rattle.interleaved_slices.specs.Places.{sampleAt};
 
 // How many whole frames so many samples are. At no channels there are none.
-pub fn frames(channels: usize, samples: usize) -> usize
+pub(crate) fn frames(channels: usize, samples: usize) -> usize
     ensures { λ r. ⌜ r ≡ framesOf channels samples ⌝ }
 {
     if channels == 0 {
@@ -16,7 +16,7 @@ pub fn frames(channels: usize, samples: usize) -> usize
 }
 
 // Channel `channel`'s sample in frame `frame`, and 0 where there is none.
-pub fn sample_i16(samples: &[i16], channels: usize, channel: usize, frame: usize) -> f64
+pub(crate) fn sample_i16(samples: &[i16], channels: usize, channel: usize, frame: usize) -> f64
     ensures { λ r. ⌜ r ≡ sampleAt channels (map sampleOf16 (now (samples .entry))) channel frame ⌝ }
 {
     if channels <= channel {
@@ -28,7 +28,7 @@ pub fn sample_i16(samples: &[i16], channels: usize, channel: usize, frame: usize
     samples::i16_to_f64(samples[frame * channels + channel])
 }
 
-pub fn sample_f32(samples: &[f32], channels: usize, channel: usize, frame: usize) -> f64
+pub(crate) fn sample_f32(samples: &[f32], channels: usize, channel: usize, frame: usize) -> f64
     ensures { λ r. ⌜ r ≡ sampleAt channels (map sampleOfF32 (now (samples .entry))) channel frame ⌝ }
 {
     if channels <= channel {

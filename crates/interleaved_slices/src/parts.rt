@@ -1,7 +1,7 @@
 // The two parts of interleaved samples that are split at a frame, of either kind. Past the end the first part is the whole.
 ghost use mathlib.Core.Path.{_≡_};
 ghost use Prim.Native.Nat.{min};
-ghost use Rattle.interleaved_parts.specs.Parts.{placeOf, upTo, fromOn};
+ghost use Rattle.interleaved_slices.specs.Parts.{placeOf, upTo, fromOn};
 
 // How many samples stand before a frame, and all where the frame lies past the end. No product is formed that could wrap.
 fn before(channels: usize, frame: usize, samples: usize) -> usize

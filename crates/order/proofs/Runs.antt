@@ -13,13 +13,13 @@ use lib.ListN.{length, set}
 use lib.Seq.{set-comm}
 use lib.Ieee.{Float, binary64, ofBits, le, lt}
 use lib.Ieee.Positive.{above}
-use Rattle.floats.proofs.Order.{float-le-trans}
-use Rattle.floats.specs.Entry.{at}
-use Rattle.rising_order.specs.Arrangement.{Reordered, unmoved, after, Above, Rising, Ordered, exchanged}
-use Rattle.ordering.specs.Inner.{Climbs, Sinks, Falling, mirrored, Turned}
-use Rattle.rising_order.proofs.Perms.{perm-length, all-of}
-use Rattle.rising_order.proofs.Energies.{above-up, zero-below}
-use Rattle.rising_order.proofs.Places.{le-by, same-or-other, rising-of, exchanged-length, exchanged-other, Exchange, exchange-is}
+use Rattle.base_floats.proofs.Order.{float-le-trans}
+use Rattle.base_floats.specs.Entry.{at}
+use Rattle.order_rules.specs.Arrangement.{Reordered, unmoved, after, Above, Rising, Ordered, exchanged}
+use Rattle.order.specs.Inner.{Climbs, Sinks, Falling, mirrored, Turned}
+use Rattle.order_rules.proofs.Perms.{perm-length, all-of}
+use Rattle.order_rules.proofs.Energies.{above-up, zero-below}
+use Rattle.order_rules.proofs.Places.{le-by, same-or-other, rising-of, exchanged-length, exchanged-other, Exchange, exchange-is}
 
 -- ---- in a relation that passes on, neighbours give every pair
 module _ (R : Float → Float → Type 0) (trans : (x y z : Float) → R x y → R y z → R x z) (l : List Float) where

@@ -5,8 +5,8 @@ use Prim.Native.Nat.{ℕ, suc, _-_, _≤_, _<_}
 use lib.Dec.{T}
 use lib.ListN.{length}
 use lib.Ieee.{Float, le}
-use Rattle.floats.specs.Entry.{at}
-use Rattle.rising_order.specs.Arrangement.{Reordered, exchanged}
+use Rattle.base_floats.specs.Entry.{at}
+use Rattle.order_rules.specs.Arrangement.{Reordered, exchanged}
 
 -- from a place up to another each energy is at most the next, or at least
 abbrev pub Climbs : ℕ → ℕ → List Float → Type 0

@@ -3,9 +3,9 @@ ghost use mathlib.Core.Path.{_≡_};
 ghost use mathlib.Core.Bool.{true};
 ghost use Prim.Native.Nat.{_+_, _/_, _≤_, _<_};
 ghost use lib.ListN.{length};
-ghost use Rattle.rising_order.specs.Order.{allAbove, ordered};
-ghost use Rattle.rising_order.specs.Arrangement.{Above, Rising};
-ghost use Rattle.ordering.specs.Inner.{Climbs, Sinks, Falling, mirrored, Turned};
+ghost use Rattle.order_rules.specs.Order.{allAbove, ordered};
+ghost use Rattle.order_rules.specs.Arrangement.{Above, Rising};
+ghost use Rattle.order.specs.Inner.{Climbs, Sinks, Falling, mirrored, Turned};
 
 // How many steps are looked at before a look may stop.
 const STRETCH: usize = 64;
@@ -139,5 +139,5 @@ pub fn order(energies: &mut [f64]) -> bool
         turn_round(energies);
         return true;
     }
-    split_order::order(energies)
+    order_split::order(energies)
 }

@@ -11,14 +11,14 @@ use lib.ListN.{length, take, drop}
 use lib.Seq.{getD-take, length-take-le, take-length, take-at}
 use lib.Ieee.{Float, nan, le, lt}
 use mathlib.Core.Bool.{true, false}
-use Rattle.floats.proofs.Order.{float-le-trans, lt→le}
+use Rattle.base_floats.proofs.Order.{float-le-trans, lt→le}
 use lib.Ieee.Positive.{above}
-use Rattle.floats.specs.Entry.{at}
-use Rattle.rising_order.specs.Arrangement.{Reordered, unmoved, after, All, Above, Ordered, exchanged}
-use Rattle.heap_order.specs.Inner.{Child, Larger, HeapFrom, Heaped}
-use Rattle.rising_order.proofs.Perms.{perm-length, front-perm, all-perm, all-at, all-of, all-take}
-use Rattle.rising_order.proofs.Energies.{same-at-most, not-below, not-at-most}
-use Rattle.rising_order.proofs.Places.{le-by, same-or-other, exchanged-length, Exchange, exchange-is, front-at, back-at, rising-of}
+use Rattle.base_floats.specs.Entry.{at}
+use Rattle.order_rules.specs.Arrangement.{Reordered, unmoved, after, All, Above, Ordered, exchanged}
+use Rattle.order_heap.specs.Inner.{Child, Larger, HeapFrom, Heaped}
+use Rattle.order_rules.proofs.Perms.{perm-length, front-perm, all-perm, all-at, all-of, all-take}
+use Rattle.order_rules.proofs.Energies.{same-at-most, not-below, not-at-most}
+use Rattle.order_rules.proofs.Places.{le-by, same-or-other, exchanged-length, Exchange, exchange-is, front-at, back-at, rising-of}
 
 -- ---- of two children the one that is not below the other
 module _ (l : List Float) (a : Above l) (p : ℕ) (inside : 2 * p + 1 < length l) where

@@ -2,9 +2,9 @@
 ghost use mathlib.Core.Path.{_≡_};
 ghost use Prim.Native.Nat.{_+_, _*_, _<_};
 ghost use lib.ListN.{length};
-ghost use Rattle.rising_order.specs.Order.{allAbove, ordered};
-ghost use Rattle.rising_order.specs.Arrangement.{Above, Ordered};
-ghost use Rattle.heap_order.specs.Inner.{Larger, HeapFrom, Heaped};
+ghost use Rattle.order_rules.specs.Order.{allAbove, ordered};
+ghost use Rattle.order_rules.specs.Arrangement.{Above, Ordered};
+ghost use Rattle.order_heap.specs.Inner.{Larger, HeapFrom, Heaped};
 
 // The child of `parent` that no other child is above.
 fn larger_child(heap: &[f64], parent: usize) -> usize
@@ -77,7 +77,7 @@ pub fn order(energies: &mut [f64]) -> bool
     ensures { λ r. ⌜ r ≡ allAbove (now (energies .entry)) ⌝ }
     ensures { λ _. ⌜ now (energies .exit) ≡ ordered (now (energies .entry)) ⌝ }
 {
-    if rising_order::all_above(energies) {
+    if order_rules::all_above(energies) {
         heap_sort(energies);
         return true;
     }

@@ -9,11 +9,11 @@ use lib.ListN.{length, drop, drop-of-length-le}
 use lib.Seq.{drop-cons}
 use lib.Ieee.{Float, nan, binary64, ofBits, lt}
 use lib.Ieee.Positive.{above}
-use Rattle.floats.proofs.Order.{is-true}
-use Rattle.rising_order.specs.Order.{allAbove}
-use Rattle.floats.specs.Entry.{at}
-use Rattle.rising_order.specs.Arrangement.{Above}
-use Rattle.rising_order.proofs.Energies.{zero-below}
+use Rattle.base_floats.proofs.Order.{is-true}
+use Rattle.order_rules.specs.Order.{allAbove}
+use Rattle.base_floats.specs.Entry.{at}
+use Rattle.order_rules.specs.Arrangement.{Above}
+use Rattle.order_rules.proofs.Energies.{zero-below}
 
 pub all-above : (l : List Float) → Above l → allAbove l ≡ true
 unfolding allAbove

@@ -6,11 +6,11 @@ use mathlib.Core.List.{List}
 use Prim.Native.Nat.{ℕ}
 use lib.Dec.{T}
 use lib.Ieee.{Float, fits, binary64}
-use Rattle.rising_order.specs.Order.{inOrder, allAbove, ordered}
-use Rattle.floats.specs.Entry.{at}
-use Rattle.rising_order.specs.Arrangement.{Above, Rising, Ordered}
-use Rattle.rising_order.proofs.InOrder.{energies, in-order, rising-is, the-order}
-use Rattle.rising_order.proofs.AllAbove.{all-above}
+use Rattle.order_rules.specs.Order.{inOrder, allAbove, ordered}
+use Rattle.base_floats.specs.Entry.{at}
+use Rattle.order_rules.specs.Arrangement.{Above, Rising, Ordered}
+use Rattle.order_rules.proofs.InOrder.{energies, in-order, rising-is, the-order}
+use Rattle.order_rules.proofs.AllAbove.{all-above}
 
 module _ (l : List Float) where
   chosen : (b : Bool) (new : List Float) → allAbove l ≡ b → new ≡ cond b (inOrder l) l → (b ≡ allAbove l) × (new ≡ ordered l)

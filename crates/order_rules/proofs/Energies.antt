@@ -9,10 +9,10 @@ use native.Mathlib.Omega.{arith}
 use lib.Dec.{T, ltb}
 use lib.Ieee.{Float, nan, inf, fin, binary64, up, down, lt, le, isNan, fits, ofBits}
 use lib.Ieee.Fits.{up-pos, down-pos}
-use Rattle.floats.specs.Entry.{plusZero}
-use Rattle.floats.proofs.Order.{is-false, lt→le, at-most, total}
-use Rattle.floats.proofs.Value.{same-float}
-use Rattle.floats.proofs.Nan.{zero-pattern}
+use Rattle.base_floats.specs.Entry.{plusZero}
+use Rattle.base_floats.proofs.Order.{is-false, lt→le, at-most, total}
+use Rattle.base_floats.proofs.Value.{same-float}
+use Rattle.base_floats.proofs.Nan.{zero-pattern}
 use lib.Ieee.Positive.{above, above-of-le}
 
 number : (x : Float) → T (above x) → isNan x ≡ false

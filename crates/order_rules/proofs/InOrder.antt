@@ -8,13 +8,13 @@ use Prim.Native.Nat.{ℕ}
 use lib.Dec.{T}
 use lib.ListN.{length}
 use lib.Ieee.{Float, le, fits, binary64}
-use Rattle.floats.proofs.Order.{is-true, float-le-trans}
+use Rattle.base_floats.proofs.Order.{is-true, float-le-trans}
 use lib.Ieee.Positive.{above}
-use Rattle.rising_order.specs.Order.{put, inOrder}
-use Rattle.floats.specs.Entry.{at}
-use Rattle.rising_order.specs.Arrangement.{Reordered, unmoved, under, swap, after, All, Above, Rising, Ordered}
-use Rattle.rising_order.proofs.Perms.{perm-length, all-perm, all-map, all-at, all-of}
-use Rattle.rising_order.proofs.Energies.{not-at-most, same-value}
+use Rattle.order_rules.specs.Order.{put, inOrder}
+use Rattle.base_floats.specs.Entry.{at}
+use Rattle.order_rules.specs.Arrangement.{Reordered, unmoved, under, swap, after, All, Above, Rising, Ordered}
+use Rattle.order_rules.proofs.Perms.{perm-length, all-perm, all-map, all-at, all-of}
+use Rattle.order_rules.proofs.Energies.{not-at-most, same-value}
 
 -- an energy as a lent slice holds it: a value of its type, and above zero
 abbrev pub Energy : Float → Type 0

@@ -6,8 +6,8 @@ use Prim.Native.Nat.{ℕ, zero, suc, _<_, zero-le, suc-le-suc}
 use native.Mathlib.Nat.{not-suc-le-zero, le-of-suc-le-suc}
 use lib.ListN.{length, take, drop, set, take-append-drop}
 use lib.Ieee.{Float}
-use Rattle.floats.specs.Entry.{at}
-use Rattle.rising_order.specs.Arrangement.{Reordered, unmoved, under, swap, after, All, exchanged}
+use Rattle.base_floats.specs.Entry.{at}
+use Rattle.order_rules.specs.Arrangement.{Reordered, unmoved, under, swap, after, All, exchanged}
 
 pub perm-length : {A : Type 0} {l k : List A} → Reordered l k → length l ≡ length k
 perm-length (unmoved l) = refl

@@ -11,9 +11,9 @@ use lib.Dec.{T}
 use lib.ListN.{length, take, drop, set, length-set, length-drop, List·getD-append}
 use lib.Seq.{ext-getD, take-all, length-take-le, getD-take, getD-set-same, getD-set-other, getD-append-add, getD-drop}
 use lib.Ieee.{Float, nan, le}
-use Rattle.floats.specs.Entry.{at}
-use Rattle.rising_order.specs.Arrangement.{Reordered, Rising, exchanged}
-use Rattle.rising_order.proofs.Perms.{exchange-perm, all-at, all-of}
+use Rattle.base_floats.specs.Entry.{at}
+use Rattle.order_rules.specs.Arrangement.{Reordered, Rising, exchanged}
+use Rattle.order_rules.proofs.Perms.{exchange-perm, all-at, all-of}
 
 pub le-by : {x a y b : Float} → x ≡ a → y ≡ b → T (le a b) → T (le x y)
 le-by p q h = rw (p, q) h

@@ -5,7 +5,7 @@ use lib.Dec.{T}
 use lib.ListN.{set}
 use lib.Ieee.{Float, le}
 use lib.Ieee.Positive.{above}
-use Rattle.floats.specs.Entry.{at}
+use Rattle.base_floats.specs.Entry.{at}
 
 -- a list in another order: two neighbours swapped, below what stands first, as often as one likes
 pub data Reordered {A : Type 0} : List A → List A → Type 0 where

@@ -6,8 +6,8 @@ use Prim.Native.Nat.{_≤_, _<_}
 use borrow.Author.Tests.{lt-ltb, le-ltb}
 use lib.ListN.{length}
 use lib.Ieee.{Float}
-use Rattle.rising_order.specs.Order.{inOrder, allAbove}
-use Rattle.short_order.specs.Short.{short, shortAbove, shortOrdered}
+use Rattle.order_rules.specs.Order.{inOrder, allAbove}
+use Rattle.order_short.specs.Short.{short, shortAbove, shortOrdered}
 
 module _ (l : List Float) where
   chosen : (b : Bool) (new : List Float) → shortAbove l ≡ b → new ≡ cond b (inOrder l) l → (b ≡ shortAbove l) × (new ≡ shortOrdered l)

@@ -8,9 +8,9 @@ use lib.Dec.{T}
 use lib.ListN.{length, drop, drop-of-length-le}
 use lib.Seq.{drop-cons}
 use lib.Ieee.{Float, nan}
-use Rattle.floats.specs.Entry.{at}
-use Rattle.rising_order.specs.Arrangement.{Reordered, unmoved, under, swap, after}
-use Rattle.short_order.specs.Inner.{count}
+use Rattle.base_floats.specs.Entry.{at}
+use Rattle.order_rules.specs.Arrangement.{Reordered, unmoved, under, swap, after}
+use Rattle.order_short.specs.Inner.{count}
 
 one-or-none : (b : Bool) → cond b 1 0 ≤ 1
 one-or-none true = omega arith

@@ -14,16 +14,16 @@ use lib.ListN.{length, take, drop, set, take-append-drop, length-drop}
 use lib.Seq.{take-suc, drop-cons, ext-getD, getD-set-same, getD-set-other, getD-take, length-take-le, take-length, drop-length}
 use lib.Ieee.{Float, nan, le, lt}
 use lib.Ieee.Positive.{above}
-use Rattle.floats.proofs.Order.{is-true, is-false, float-le-trans, lt→le, lt-not-le}
-use Rattle.rising_order.specs.Order.{inOrder}
-use Rattle.floats.specs.Entry.{at}
-use Rattle.rising_order.specs.Arrangement.{All, Above, Rising}
-use Rattle.short_order.specs.Inner.{count, placeOf}
-use Rattle.rising_order.proofs.Perms.{perm-length, all-perm, all-at, all-map}
-use Rattle.rising_order.proofs.Energies.{not-below, same-at-most, same-value}
-use Rattle.rising_order.proofs.InOrder.{Energy, in-order-perm, in-order-rises}
-use Rattle.rising_order.proofs.Places.{same-or-other}
-use Rattle.short_order.proofs.Counting.{count-join, count-perm, count-within, count-more}
+use Rattle.base_floats.proofs.Order.{is-true, is-false, float-le-trans, lt→le, lt-not-le}
+use Rattle.order_rules.specs.Order.{inOrder}
+use Rattle.base_floats.specs.Entry.{at}
+use Rattle.order_rules.specs.Arrangement.{All, Above, Rising}
+use Rattle.order_short.specs.Inner.{count, placeOf}
+use Rattle.order_rules.proofs.Perms.{perm-length, all-perm, all-at, all-map}
+use Rattle.order_rules.proofs.Energies.{not-below, same-at-most, same-value}
+use Rattle.order_rules.proofs.InOrder.{Energy, in-order-perm, in-order-rises}
+use Rattle.order_rules.proofs.Places.{same-or-other}
+use Rattle.order_short.proofs.Counting.{count-join, count-perm, count-within, count-more}
 
 abbrev AtMost : Float → Float → Bool
 AtMost x y = le y x

@@ -4,7 +4,7 @@ use mathlib.Core.List.{List, [], _∷_}
 use Prim.Native.Nat.{ℕ, _+_}
 use lib.ListN.{take, drop}
 use lib.Ieee.{Float, le, lt}
-use Rattle.floats.specs.Entry.{at}
+use Rattle.base_floats.specs.Entry.{at}
 
 -- how many energies pass a test
 abbrev pub count : (Float → Bool) → List Float → ℕ

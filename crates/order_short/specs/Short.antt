@@ -5,7 +5,7 @@ use Prim.Native.Nat.{ℕ}
 use lib.Dec.{ltb}
 use lib.ListN.{length}
 use lib.Ieee.{Float}
-use Rattle.rising_order.specs.Order.{inOrder, allAbove}
+use Rattle.order_rules.specs.Order.{inOrder, allAbove}
 
 abbrev pub short : ℕ
 short = 24

@@ -4,9 +4,9 @@ ghost use mathlib.Core.Bool.{true};
 ghost use Prim.Native.Nat.{_<_, _≤_};
 ghost use lib.ListN.{length, take};
 ghost use lib.Ieee.{le, lt};
-ghost use Rattle.rising_order.specs.Order.{inOrder, allAbove};
-ghost use Rattle.short_order.specs.Short.{shortAbove, shortOrdered};
-ghost use Rattle.short_order.specs.Inner.{count, placeOf};
+ghost use Rattle.order_rules.specs.Order.{inOrder, allAbove};
+ghost use Rattle.order_short.specs.Short.{shortAbove, shortOrdered};
+ghost use Rattle.order_short.specs.Inner.{count, placeOf};
 
 // The most energies that are ordered so.
 pub const SHORT: usize = 24;

@@ -11,12 +11,12 @@ use lib.ListN.{length, take, drop, length-drop, drop-of-length-le, List·getD-ap
 use lib.Seq.{length-take-le, getD-take, getD-drop, getD-append-add}
 use lib.Ieee.{Float, nan, le}
 use lib.Ieee.Positive.{above}
-use Rattle.floats.specs.Entry.{at}
-use Rattle.rising_order.specs.Arrangement.{Reordered, after, All, Above, Ordered}
-use Rattle.split_order.specs.Inner.{Lowest, Parted}
-use Rattle.rising_order.proofs.Perms.{perm-length, front-perm, back-perm, all-perm, all-at, all-of}
-use Rattle.rising_order.proofs.Energies.{same-at-most}
-use Rattle.rising_order.proofs.Places.{le-by, same-or-other, front-at, back-at, last-part, rising-of, rising-at}
+use Rattle.base_floats.specs.Entry.{at}
+use Rattle.order_rules.specs.Arrangement.{Reordered, after, All, Above, Ordered}
+use Rattle.order_split.specs.Inner.{Lowest, Parted}
+use Rattle.order_rules.proofs.Perms.{perm-length, front-perm, back-perm, all-perm, all-at, all-of}
+use Rattle.order_rules.proofs.Energies.{same-at-most}
+use Rattle.order_rules.proofs.Places.{le-by, same-or-other, front-at, back-at, last-part, rising-of, rising-at}
 
 pub parted-from : {from to : ℕ} {old mid new : List Float} → Reordered old mid → Parted from to mid new → Parted from to old new
 parted-from p s = record { same = after p (s .same); ordered = s .ordered; inside = s .inside; settled = s .settled }

@@ -9,14 +9,14 @@ use native.Mathlib.Omega.{arith}
 use lib.Dec.{T}
 use lib.ListN.{length}
 use lib.Ieee.{Float, le, lt}
-use Rattle.floats.proofs.Order.{float-le-trans, lt→le}
+use Rattle.base_floats.proofs.Order.{float-le-trans, lt→le}
 use lib.Ieee.Positive.{above}
-use Rattle.floats.specs.Entry.{at}
-use Rattle.rising_order.specs.Arrangement.{Reordered, unmoved, after, All, Above, exchanged}
-use Rattle.split_order.specs.Inner.{Lowest, Parting, Parted}
-use Rattle.rising_order.proofs.Perms.{all-perm, all-at, all-of}
-use Rattle.rising_order.proofs.Energies.{not-below}
-use Rattle.rising_order.proofs.Places.{le-by, same-or-other, Exchange, exchange-is}
+use Rattle.base_floats.specs.Entry.{at}
+use Rattle.order_rules.specs.Arrangement.{Reordered, unmoved, after, All, Above, exchanged}
+use Rattle.order_split.specs.Inner.{Lowest, Parting, Parted}
+use Rattle.order_rules.proofs.Perms.{all-perm, all-at, all-of}
+use Rattle.order_rules.proofs.Energies.{not-below}
+use Rattle.order_rules.proofs.Places.{le-by, same-or-other, Exchange, exchange-is}
 
 pub part-start : (l : List Float) → 0 < length l → Above l → Parting (at l 0) 1 1 l l
 part-start l h a = record {

@@ -4,10 +4,10 @@ ghost use mathlib.Core.Path.{_≡_};
 ghost use Prim.Native.Nat.{_+_, _*_, _<_, _^_};
 ghost use lib.ListN.{length};
 ghost use lib.Ieee.{size};
-ghost use Rattle.rising_order.specs.Order.{allAbove, ordered};
-ghost use Rattle.floats.specs.Entry.{at};
-ghost use Rattle.rising_order.specs.Arrangement.{Above, Ordered, exchanged};
-ghost use Rattle.split_order.specs.Inner.{Parting, Parted};
+ghost use Rattle.order_rules.specs.Order.{allAbove, ordered};
+ghost use Rattle.base_floats.specs.Entry.{at};
+ghost use Rattle.order_rules.specs.Arrangement.{Above, Ordered, exchanged};
+ghost use Rattle.order_split.specs.Inner.{Parting, Parted};
 
 fn exchange(part: &mut [f64], i: usize, j: usize)
     requires { ⌜ (i < length (now part)) × (j < length (now part)) ⌝ }
@@ -105,12 +105,12 @@ fn split_sort(part: &mut [f64], budget: usize)
     ensures { λ _. ⌜ Ordered (now (part .entry)) (now (part .exit)) ⌝ }
 {
     let n = part.len();
-    if n <= short_order::SHORT {
-        short_order::order(part);
+    if n <= order_short::SHORT {
+        order_short::order(part);
         return;
     }
     if budget == 0 {
-        heap_order::order(part);
+        order_heap::order(part);
         return;
     }
     let settled = split(part);
@@ -139,7 +139,7 @@ pub fn order(energies: &mut [f64]) -> bool
     ensures { λ r. ⌜ r ≡ allAbove (now (energies .entry)) ⌝ }
     ensures { λ _. ⌜ now (energies .exit) ≡ ordered (now (energies .entry)) ⌝ }
 {
-    if rising_order::all_above(energies) {
+    if order_rules::all_above(energies) {
         let depth = depth_for(energies.len());
         split_sort(energies, depth);
         return true;

@@ -1,6 +1,6 @@
 // Prints the reading of each energy on standard input: a line of tenths of a LUFS, or `refused` and the number.
 // An energy is the pattern of an f64, 8 bytes, low byte first.
-use bin_search::Level;
+use bins::search::Level;
 use libc::STDIN_FILENO;
 use libc::STDOUT_FILENO;
 
@@ -21,12 +21,12 @@ fn read_one() -> bool {
     if io::read_full(STDIN_FILENO, &mut energy) != 8 {
         return false;
     }
-    print_reading(floats::float_of(fields::number_at(&energy, 0, 8)));
+    print_reading(base_floats::float_of(base_fields::number_at(&energy, 0, 8)));
     true
 }
 
 fn print_reading(energy: f64) {
-    match bin_search::reading(energy) {
+    match bins::search::reading(energy) {
         Level::Tenths(tenths) => print_tenths(tenths as i64),
         Level::Refused(number) => {
             io::write_all(STDOUT_FILENO, b"refused ");

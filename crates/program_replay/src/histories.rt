@@ -1,22 +1,22 @@
 // The cases of histories: adds to a histogram, merges of two, adds to a queue.
-use histogram_bins::Count;
-use queue::Queue;
-use refusals::Answer;
+use base_refusals::Answer;
+use bins::Count;
+use history_queue::Queue;
 
 // ---- adds to a histogram
 // 64 times u64 pattern of an energy, u16 its bin, u16 the count there afterwards; then u16 how many bins have a count.
 // An energy that is dropped has a bin past the last, with count 0.
 pub(crate) fn adds_same(case: &[u8]) -> bool {
     let mut counters: [Count; 1000] = [0; 1000];
-    all_added(case, &mut counters) && bins_hit(&counters) == fields::number_at(case, 768, 2)
+    all_added(case, &mut counters) && bins_hit(&counters) == base_fields::number_at(case, 768, 2)
 }
 
 fn all_added(case: &[u8], counters: &mut [Count]) -> bool {
     let mut at = 0;
     while at < 768 {
-        let energy = floats::float_of(fields::number_at(case, at, 8));
-        let bin = fields::number_at(case, at + 8, 2) as usize;
-        let count = fields::number_at(case, at + 10, 2);
+        let energy = base_floats::float_of(base_fields::number_at(case, at, 8));
+        let bin = base_fields::number_at(case, at + 8, 2) as usize;
+        let count = base_fields::number_at(case, at + 10, 2);
         if !added(counters, energy, bin, count) {
             return false;
         }
@@ -27,8 +27,8 @@ fn all_added(case: &[u8], counters: &mut [Count]) -> bool {
 
 // Whether the energy is counted, and its bin has this count.
 fn added(counters: &mut [Count], energy: f64, bin: usize, count: u64) -> bool {
-    let answer = histogram::add(counters, energy);
-    codes::number_of(answer) == 0 && count_at(counters, bin) == count
+    let answer = history_histogram::add(counters, energy);
+    base_refusals::codes::number_of(answer) == 0 && count_at(counters, bin) == count
 }
 
 // A number that is no count stands for none.
@@ -42,7 +42,7 @@ pub(crate) fn narrowed(number: u64) -> Count {
 // A bin past the last has no count.
 fn count_at(counters: &[Count], bin: usize) -> u64 {
     if bin < counters.len() {
-        return histogram_bins::wide(counters[bin]);
+        return bins::wide(counters[bin]);
     }
     0
 }
@@ -72,23 +72,23 @@ pub(crate) fn merge_same(case: &[u8]) -> bool {
 }
 
 fn merged(case: &[u8], into: &mut [Count], from: &[Count]) -> bool {
-    let length = fields::number_at(case, 2, 2) as usize;
+    let length = base_fields::number_at(case, 2, 2) as usize;
     if from.len() < length {
         return false;
     }
-    let answer = histogram_merge::merge(into, &from[..length]);
-    codes::number_of(answer) as u64 == fields::number_at(case, 0, 2)
+    let answer = history_histogram::merging::merge(into, &from[..length]);
+    base_refusals::codes::number_of(answer) as u64 == base_fields::number_at(case, 0, 2)
 }
 
 // Every bin of the case gets its count in the one histogram, or in the other.
 fn fill(case: &[u8], other: bool, counters: &mut [Count]) {
     let mut at = 0;
     while at < 224 {
-        let bin = fields::number_at(case, at + 4, 2) as usize;
+        let bin = base_fields::number_at(case, at + 4, 2) as usize;
         let count = if other {
-            fields::number_at(case, at + 10, 4)
+            base_fields::number_at(case, at + 10, 4)
         } else {
-            fields::number_at(case, at + 6, 4)
+            base_fields::number_at(case, at + 6, 4)
         };
         put(counters, bin, narrowed(count));
         at += 14;
@@ -104,8 +104,8 @@ pub(crate) fn put(counters: &mut [Count], bin: usize, count: Count) {
 fn all_counted(case: &[u8], counters: &[Count]) -> bool {
     let mut at = 0;
     while at < 224 {
-        let bin = fields::number_at(case, at + 4, 2) as usize;
-        if count_at(counters, bin) != fields::number_at(case, at + 14, 4) {
+        let bin = base_fields::number_at(case, at + 4, 2) as usize;
+        if count_at(counters, bin) != base_fields::number_at(case, at + 14, 4) {
             return false;
         }
         at += 14;
@@ -122,7 +122,7 @@ pub(crate) fn queue_same(case: &[u8]) -> bool {
 }
 
 fn part_queued(case: &[u8], store: &mut [f64]) -> bool {
-    let places = fields::number_at(case, 2, 2) as usize;
+    let places = base_fields::number_at(case, 2, 2) as usize;
     if store.len() < places {
         return false;
     }
@@ -131,14 +131,14 @@ fn part_queued(case: &[u8], store: &mut [f64]) -> bool {
 
 fn all_queued(case: &[u8], store: &mut [f64]) -> bool {
     let mut queue = Queue {
-        maximum: fields::number_at(case, 0, 2) as usize,
-        head: fields::number_at(case, 4, 2) as usize,
-        held: fields::number_at(case, 6, 2) as usize,
+        maximum: base_fields::number_at(case, 0, 2) as usize,
+        head: base_fields::number_at(case, 4, 2) as usize,
+        held: base_fields::number_at(case, 6, 2) as usize,
     };
     let mut at = 8;
     while at < 176 {
-        let energy = floats::float_of(fields::number_at(case, at, 8));
-        let queued = queue_add::add(queue, store, energy);
+        let energy = base_floats::float_of(base_fields::number_at(case, at, 8));
+        let queued = history_queue::adding::add(queue, store, energy);
         let answer = queued.answer;
         queue = queued.queue;
         if !queued_same(case, at, answer, queue) {
@@ -154,9 +154,9 @@ fn queued_same(case: &[u8], at: usize, answer: Answer, queue: Queue) -> bool {
     if 4096 < at {
         return false;
     }
-    codes::number_of(answer) as u64 == fields::number_at(case, at + 8, 2)
-        && queue.head as u64 == fields::number_at(case, at + 10, 2)
-        && queue.held as u64 == fields::number_at(case, at + 12, 2)
+    base_refusals::codes::number_of(answer) as u64 == base_fields::number_at(case, at + 8, 2)
+        && queue.head as u64 == base_fields::number_at(case, at + 10, 2)
+        && queue.held as u64 == base_fields::number_at(case, at + 12, 2)
 }
 
 // Whether a list of at most 24 floats has the case's patterns from a place on.
@@ -167,7 +167,9 @@ pub(crate) fn patterns_same(case: &[u8], from: usize, values: &[f64]) -> bool {
     let mut place = 0;
     while place < 24 {
         if place < values.len() {
-            if floats::pattern_of(values[place]) != fields::number_at(case, from + 8 * place, 8) {
+            if base_floats::pattern_of(values[place])
+                != base_fields::number_at(case, from + 8 * place, 8)
+            {
                 return false;
             }
         }

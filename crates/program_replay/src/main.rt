@@ -4,7 +4,7 @@
 mod histories;
 mod questions;
 
-use bin_search::Level;
+use bins::search::Level;
 use libc::STDIN_FILENO;
 use libc::STDOUT_FILENO;
 
@@ -40,9 +40,9 @@ fn replay_section() -> bool {
         return false;
     }
     io::write_all(STDOUT_FILENO, &head[12..]);
-    let operation = fields::number_at(&head, 0, 4);
-    let cases = fields::number_at(&head, 4, 4);
-    let size = fields::number_at(&head, 8, 4);
+    let operation = base_fields::number_at(&head, 0, 4);
+    let cases = base_fields::number_at(&head, 4, 4);
+    let size = base_fields::number_at(&head, 8, 4);
     print_same(replay_cases(operation, cases, size), cases)
 }
 
@@ -114,27 +114,27 @@ fn case_same(operation: u64, case: &[u8]) -> bool {
 
 // u16 table (0 boundaries, 1 energies), u16 place, u64 pattern
 fn table_same(case: &[u8]) -> bool {
-    let place = fields::number_at(case, 2, 2) as usize;
-    let entry = if fields::number_at(case, 0, 2) == 0 {
-        histogram_bins::boundary(place)
+    let place = base_fields::number_at(case, 2, 2) as usize;
+    let entry = if base_fields::number_at(case, 0, 2) == 0 {
+        bins::boundary(place)
     } else {
-        histogram_bins::energy(place)
+        bins::energy(place)
     };
-    floats::pattern_of(entry) == fields::number_at(case, 4, 8)
+    base_floats::pattern_of(entry) == base_fields::number_at(case, 4, 8)
 }
 
 // u64 pattern of the energy, u16 bin
 fn bin_same(case: &[u8]) -> bool {
-    let energy = floats::float_of(fields::number_at(case, 0, 8));
-    bin_search::find_histogram_index(energy) as u64 == fields::number_at(case, 8, 2)
+    let energy = base_floats::float_of(base_fields::number_at(case, 0, 8));
+    bins::search::find_histogram_index(energy) as u64 == base_fields::number_at(case, 8, 2)
 }
 
 // u64 pattern of the energy, u16 refusal (0 where there is none), u16 tenths above -700
 fn reading_same(case: &[u8]) -> bool {
-    let energy = floats::float_of(fields::number_at(case, 0, 8));
-    let refusal = fields::number_at(case, 8, 2);
-    let above = fields::number_at(case, 10, 2);
-    match bin_search::reading(energy) {
+    let energy = base_floats::float_of(base_fields::number_at(case, 0, 8));
+    let refusal = base_fields::number_at(case, 8, 2);
+    let above = base_fields::number_at(case, 10, 2);
+    match bins::search::reading(energy) {
         Level::Tenths(tenths) => refusal == 0 && tenths == from_lowest(above),
         Level::Refused(number) => refusal == number as u64,
     }

@@ -3,14 +3,14 @@
 // u64 patterns of 24 energies. Then the answers: u16 refusal of the gate (0: none), u64 blocks, u64 pattern of their sum; u16 code of the range, u64 patterns
 // of its two energies; u64 patterns of the 24 places to work in, all 0 before; u16 refusal of gated energy, u64 pattern of it; u16 code of the threshold
 // (130: a loudness), u64 pattern of it. What is not answered is 0.
+use bins::Count;
 use gate::Gated;
+use gate::energy::Energy;
 use gate::threshold::Threshold;
-use gated_energy::Energy;
-use histogram_bins::Count;
-use history::set::Entry;
-use history::set::Shape;
-use queue::Queue;
-use spans::Range;
+use history_queue::Queue;
+use history_set::set::Entry;
+use history_set::set::Shape;
+use range_ranks::spans::Range;
 
 pub(crate) fn answers_same(case: &[u8]) -> bool {
     let mut counters: [Count; 1000] = [0; 1000];
@@ -24,7 +24,7 @@ pub(crate) fn answers_same(case: &[u8]) -> bool {
 }
 
 fn number_at(case: &[u8], at: usize) -> usize {
-    fields::number_at(case, at, 2) as usize
+    base_fields::number_at(case, at, 2) as usize
 }
 
 // The entry of ten bytes at a place.
@@ -81,7 +81,7 @@ fn entries_of(case: &[u8]) -> [Entry; 16] {
 fn fill_counters(case: &[u8], counters: &mut [Count]) {
     let mut at = 42;
     while at < 90 {
-        let count = crate::histories::narrowed(fields::number_at(case, at + 2, 4));
+        let count = crate::histories::narrowed(base_fields::number_at(case, at + 2, 4));
         crate::histories::put(counters, number_at(case, at), count);
         at += 6;
     }
@@ -90,7 +90,7 @@ fn fill_counters(case: &[u8], counters: &mut [Count]) {
 fn fill_energies(case: &[u8], energies: &mut [f64]) {
     let mut place = 0;
     while place < 24 {
-        let energy = floats::float_of(fields::number_at(case, 90 + 8 * place, 8));
+        let energy = base_floats::float_of(base_fields::number_at(case, 90 + 8 * place, 8));
         put(energies, place, energy);
         place += 1;
     }
@@ -110,12 +110,12 @@ fn gate_same(case: &[u8], counters: &[Count], energies: &[f64]) -> bool {
 }
 
 fn gated_same(case: &[u8], gated: Gated) -> bool {
-    let refusal = fields::number_at(case, 282, 2);
-    let blocks = fields::number_at(case, 284, 8);
-    let sum = fields::number_at(case, 292, 8);
+    let refusal = base_fields::number_at(case, 282, 2);
+    let blocks = base_fields::number_at(case, 284, 8);
+    let sum = base_fields::number_at(case, 292, 8);
     match gated {
         Gated::Blocks(count, total) => {
-            refusal == 0 && blocks == count && sum == floats::pattern_of(total)
+            refusal == 0 && blocks == count && sum == base_floats::pattern_of(total)
         }
         Gated::Refused(number) => refusal == number as u64,
     }
@@ -134,12 +134,14 @@ fn range_same(case: &[u8], counters: &[Count], energies: &[f64]) -> bool {
 }
 
 fn ranged_same(case: &[u8], range: Range) -> bool {
-    let code = fields::number_at(case, 300, 2);
-    let low = fields::number_at(case, 302, 8);
-    let high = fields::number_at(case, 310, 8);
+    let code = base_fields::number_at(case, 300, 2);
+    let low = base_fields::number_at(case, 302, 8);
+    let high = base_fields::number_at(case, 310, 8);
     match range {
         Range::Found(lower, higher) => {
-            code == 0 && low == floats::pattern_of(lower) && high == floats::pattern_of(higher)
+            code == 0
+                && low == base_floats::pattern_of(lower)
+                && high == base_floats::pattern_of(higher)
         }
         Range::Nothing => code == 128,
         Range::NotANumber => code == 129,
@@ -148,21 +150,22 @@ fn ranged_same(case: &[u8], range: Range) -> bool {
 }
 
 fn energy_same(case: &[u8], counters: &[Count], energies: &[f64]) -> bool {
-    let refusal = fields::number_at(case, 510, 2);
-    let pattern = fields::number_at(case, 512, 8);
+    let refusal = base_fields::number_at(case, 510, 2);
+    let pattern = base_fields::number_at(case, 512, 8);
     let set = entries_of(case);
-    match gated_energy::gated_energy(set, number_at(case, 0), counters, energies) {
-        Energy::Of(mean) => refusal == 0 && pattern == floats::pattern_of(mean),
+    match gate::energy::gated_energy(set, number_at(case, 0), counters, energies) {
+        Energy::Of(mean) => refusal == 0 && pattern == base_floats::pattern_of(mean),
         Energy::Refused(number) => refusal == number as u64,
     }
 }
 
 fn threshold_same(case: &[u8], counters: &[Count], energies: &[f64]) -> bool {
-    let code = fields::number_at(case, 520, 2);
-    let pattern = fields::number_at(case, 522, 8);
+    let code = base_fields::number_at(case, 520, 2);
+    let pattern = base_fields::number_at(case, 522, 8);
     match gate::threshold::relative_threshold(entry_at(case, 2), counters, energies) {
-        Threshold::Energy(energy) => code == 0 && pattern == floats::pattern_of(energy),
-        Threshold::Loudness(loudness) => code == 130 && pattern == floats::pattern_of(loudness),
+        Threshold::Energy(energy) => code == 0 && pattern == base_floats::pattern_of(energy),
+        Threshold::Loudness(loudness) => code == 130
+            && pattern == base_floats::pattern_of(loudness),
         Threshold::Refused(number) => code == number as u64,
     }
 }

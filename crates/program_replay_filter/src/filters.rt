@@ -2,15 +2,15 @@
 use filter::Filter;
 use filter::Filtered;
 use filter::Switches;
-use interp::Interp;
-use recurrence::Coefficients;
-use sample_peak::Peaks;
-use states::State;
+use filter_recurrence::Coefficients;
+use filter_recurrence::states::State;
+use filter_sample_peak::Peaks;
+use true_peak_interp::Interp;
 use true_peak_state::TruePeak;
 
 // ---- what a case has at a place
 fn count_at(case: &[u8], at: usize) -> usize {
-    fields::number_at(case, at, 2) as usize
+    base_fields::number_at(case, at, 2) as usize
 }
 
 // Place `place` of a list of floats: of the first `count` places the case has the patterns from `from` on, each other place holds 0.5.
@@ -24,7 +24,7 @@ fn wide_pattern(case: &[u8], from: usize, count: usize, place: usize) -> u64 {
     if 4096 < place {
         return 0;
     }
-    fields::number_at(case, from + 8 * place, 8)
+    base_fields::number_at(case, from + 8 * place, 8)
 }
 
 // The same of patterns of 32 bits.
@@ -38,7 +38,7 @@ fn narrow_pattern(case: &[u8], from: usize, count: usize, place: usize) -> u32 {
     if 4096 < place {
         return 0;
     }
-    narrowed(fields::number_at(case, from + 4 * place, 4))
+    narrowed(base_fields::number_at(case, from + 4 * place, 4))
 }
 
 // A number that is no pattern of 32 bits stands for none.
@@ -74,7 +74,7 @@ fn short_of(number: u32) -> i16 {
 }
 
 fn byte_at(case: &[u8], at: usize) -> u8 {
-    (fields::number_at(case, at, 1) % 256) as u8
+    (base_fields::number_at(case, at, 1) % 256) as u8
 }
 
 // The five a and, from the second place on, the five b.
@@ -98,7 +98,7 @@ fn switches_of(on: u64) -> Switches {
 fn fill_wide(case: &[u8], from: usize, count: usize, values: &mut [f64]) {
     let mut place = 0;
     while place < values.len() {
-        values[place] = floats::float_of(wide_pattern(case, from, count, place));
+        values[place] = base_floats::float_of(wide_pattern(case, from, count, place));
         place += 1;
     }
 }
@@ -123,7 +123,7 @@ fn fill_short(case: &[u8], from: usize, values: &mut [i16]) {
 fn wide_same(case: &[u8], from: usize, count: usize, values: &[f64]) -> bool {
     let mut place = 0;
     while place < values.len() {
-        if floats::pattern_of(values[place]) != wide_pattern(case, from, count, place) {
+        if base_floats::pattern_of(values[place]) != wide_pattern(case, from, count, place) {
             return false;
         }
         place += 1;
@@ -133,7 +133,8 @@ fn wide_same(case: &[u8], from: usize, count: usize, values: &[f64]) -> bool {
 
 // No two floats of 32 bits have the same widened pattern, but for NaN.
 fn same(x: f32, y: f32) -> bool {
-    floats::pattern_of(samples::f32_to_f64(x)) == floats::pattern_of(samples::f32_to_f64(y))
+    base_floats::pattern_of(samples::f32_to_f64(x))
+        == base_floats::pattern_of(samples::f32_to_f64(y))
 }
 
 fn narrow_same(case: &[u8], from: usize, count: usize, values: &[f32]) -> bool {
@@ -153,7 +154,7 @@ fn narrow_same(case: &[u8], from: usize, count: usize, values: &[f32]) -> bool {
 // ---- phases
 // u16 factor; u32 patterns of 24 samples, newest first; u32 patterns of 4 phases. Factor 4 looks at 12 samples, factor 2 has 2 phases: the others are 0.
 pub(crate) fn phases_same(case: &[u8]) -> bool {
-    if fields::number_at(case, 0, 2) == 4 {
+    if base_fields::number_at(case, 0, 2) == 4 {
         return fourfold_same(case);
     }
     twofold_same(case)
@@ -256,8 +257,8 @@ fn heard_f32(case: &[u8], data: &[f32], map: &[u8], dest: &mut [f64]) -> bool {
 fn filter_of(case: &[u8]) -> Filter {
     Filter {
         channels: count_at(case, 4),
-        rate: narrowed(fields::number_at(case, 8, 4)),
-        switches: switches_of(fields::number_at(case, 6, 2)),
+        rate: narrowed(base_fields::number_at(case, 8, 4)),
+        switches: switches_of(base_fields::number_at(case, 6, 2)),
         coefficients: coefficients_at(case, 72, 112),
         state: state_of(case),
         peaks: peaks_of(case),
@@ -294,7 +295,7 @@ fn filtered_same(case: &[u8], filtered: Filtered) -> bool {
     let peaks = filtered.filter.peaks.values;
     let memory = filtered.filter.true_peak.memory;
     let true_peaks = filtered.filter.true_peak.peaks;
-    codes::number_of(answer) as u64 == fields::number_at(case, 584, 2)
+    base_refusals::codes::number_of(answer) as u64 == base_fields::number_at(case, 584, 2)
         && wide_same(case, 586, 15, &state)
         && wide_same(case, 706, 3, &peaks)
         && narrow_same(case, 730, 69, &memory)
@@ -309,7 +310,7 @@ pub(crate) fn impulse_same(case: &[u8]) -> bool {
     data[0] = short_of(narrow_pattern(case, 20, 1, 0) % 65536);
     let mut dest = [0.5; 1024];
     impulse_part(case, &data, &mut dest)
-        && floats::pattern_of(dest[1023]) == fields::number_at(case, 1018, 8)
+        && base_floats::pattern_of(dest[1023]) == base_fields::number_at(case, 1018, 8)
 }
 
 // The samples that the case has.

@@ -29,9 +29,9 @@ fn replay_section() -> bool {
         return false;
     }
     io::write_all(STDOUT_FILENO, &head[12..]);
-    let operation = fields::number_at(&head, 0, 4);
-    let cases = fields::number_at(&head, 4, 4);
-    let size = fields::number_at(&head, 8, 4);
+    let operation = base_fields::number_at(&head, 0, 4);
+    let cases = base_fields::number_at(&head, 4, 4);
+    let size = base_fields::number_at(&head, 8, 4);
     print_same(replay_cases(operation, cases, size), cases)
 }
 

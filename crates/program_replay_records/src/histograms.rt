@@ -1,7 +1,7 @@
 // The cases of kind 1: records read into counters, and counters written.
 // A histogram or a record is told by what is not 0 in it: 16 times u16 bin and u32 count, or 64 times u16 place and u8 byte.
 use crate::count_at;
-use histogram_bins::Count;
+use bins::Count;
 
 // What stands in every counter and in every byte of an output before a call.
 const COUNTER: Count = 0xA5A5_A5A5;
@@ -21,7 +21,7 @@ fn fill_counters(case: &[u8], from: usize, counters: &mut [Count]) {
     }
     let mut at = 0;
     while at < 96 {
-        let count = fields::number_at(case, from + at + 2, 4);
+        let count = base_fields::number_at(case, from + at + 2, 4);
         put_counter(counters, count_at(case, from + at), count);
         at += 6;
     }
@@ -39,7 +39,7 @@ fn fill_bytes(case: &[u8], from: usize, bytes: &mut [u8]) {
     }
     let mut at = 0;
     while at < 192 {
-        let byte = fields::number_at(case, from + at + 2, 1);
+        let byte = base_fields::number_at(case, from + at + 2, 1);
         put_byte(bytes, count_at(case, from + at), byte);
         at += 3;
     }
@@ -68,8 +68,8 @@ fn read_part(case: &[u8], bytes: &[u8], counters: &mut [Count]) -> bool {
 }
 
 fn counters_read(case: &[u8], bytes: &[u8], counters: &mut [Count]) -> bool {
-    let answer = histogram_reader::read_histogram(bytes, counters);
-    codes::number_of(answer) as u64 == fields::number_at(case, 4, 2)
+    let answer = record_histogram::reader::read_histogram(bytes, counters);
+    base_refusals::codes::number_of(answer) as u64 == base_fields::number_at(case, 4, 2)
         && counters_same(case, counters)
 }
 
@@ -124,7 +124,7 @@ fn write_part(case: &[u8], counters: &[Count], out: &mut [u8]) -> bool {
 }
 
 fn record_written(case: &[u8], counters: &[Count], out: &mut [u8]) -> bool {
-    let written = histogram_writer::write_histogram(counters, out);
+    let written = record_histogram::writer::write_histogram(counters, out);
     crate::written_same(case, 4, 6, written)
 }
 

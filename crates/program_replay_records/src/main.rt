@@ -3,9 +3,9 @@
 mod histograms;
 mod queues;
 
-use layout::Written;
 use libc::STDIN_FILENO;
 use libc::STDOUT_FILENO;
+use record_layout::Written;
 
 // The operations by their numbers in the list.
 const HISTOGRAM_READS: u64 = 11;
@@ -33,9 +33,9 @@ fn replay_section() -> bool {
         return false;
     }
     io::write_all(STDOUT_FILENO, &head[12..]);
-    let operation = fields::number_at(&head, 0, 4);
-    let cases = fields::number_at(&head, 4, 4);
-    let size = fields::number_at(&head, 8, 4);
+    let operation = base_fields::number_at(&head, 0, 4);
+    let cases = base_fields::number_at(&head, 4, 4);
+    let size = base_fields::number_at(&head, 8, 4);
     print_same(replay_cases(operation, cases, size), cases)
 }
 
@@ -97,12 +97,12 @@ fn case_same(operation: u64, case: &[u8]) -> bool {
 }
 
 fn count_at(case: &[u8], at: usize) -> usize {
-    fields::number_at(case, at, 2) as usize
+    base_fields::number_at(case, at, 2) as usize
 }
 
 // Whether a writer answered the refusal and the number of bytes that stand at two places of the case.
 fn written_same(case: &[u8], refusal_at: usize, bytes_at: usize, written: Written) -> bool {
-    let refusal = fields::number_at(case, refusal_at, 2);
+    let refusal = base_fields::number_at(case, refusal_at, 2);
     match written {
         Written::Bytes(bytes) => refusal == 0 && bytes == count_at(case, bytes_at),
         Written::Refused(number) => refusal == number as u64,

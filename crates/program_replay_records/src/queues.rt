@@ -1,7 +1,7 @@
 // The cases of kind 2: records read into a queue's store, and queues written.
 use crate::count_at;
-use queue::Queue;
-use queue_reader::Received;
+use history_queue::Queue;
+use record_queue_reader::Received;
 
 // ---- reads
 // The 96 bytes that the record is the first part of; u16 number of bytes given, u16 places of the store, u16 refusal (0: none), u16 maximum, u16 held;
@@ -25,8 +25,8 @@ fn read_part(case: &[u8], store: &mut [f64]) -> bool {
 }
 
 fn energies_read(case: &[u8], bytes: &[u8], store: &mut [f64]) -> bool {
-    let refusal = fields::number_at(case, 100, 2);
-    match queue_reader::read_queue(bytes, store) {
+    let refusal = base_fields::number_at(case, 100, 2);
+    match record_queue_reader::read_queue(bytes, store) {
         Received::Held(queue) => refusal == 0 && queue_same(case, queue),
         Received::Refused(number) => refusal == number as u64,
     }
@@ -40,7 +40,9 @@ fn store_same(case: &[u8], store: &[f64]) -> bool {
     let mut place = 0;
     while place < 10 {
         if place < store.len() {
-            if floats::pattern_of(store[place]) != fields::number_at(case, 106 + 8 * place, 8) {
+            if base_floats::pattern_of(store[place])
+                != base_fields::number_at(case, 106 + 8 * place, 8)
+            {
                 return false;
             }
         }
@@ -68,8 +70,8 @@ fn put(store: &mut [f64], place: usize, energy: f64) {
 fn fill_store(case: &[u8], store: &mut [f64]) {
     let mut place = 0;
     while place < 10 {
-        let pattern = fields::number_at(case, 14 + 8 * place, 8);
-        put(store, place, floats::float_of(pattern));
+        let pattern = base_fields::number_at(case, 14 + 8 * place, 8);
+        put(store, place, base_floats::float_of(pattern));
         place += 1;
     }
 }
@@ -93,7 +95,7 @@ fn record_written(case: &[u8], store: &[f64], out: &mut [u8]) -> bool {
         head: count_at(case, 2),
         held: count_at(case, 4),
     };
-    let written = queue_writer::write_queue(queue, store, out);
+    let written = record_queue_writer::write_queue(queue, store, out);
     crate::written_same(case, 10, 12, written)
 }
 

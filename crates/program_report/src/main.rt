@@ -7,5 +7,5 @@ fn main() {
     // The buffer is longer than a record, so that a longer input is seen to be one.
     let mut input = io::buffer();
     let length = io::read_full(STDIN_FILENO, &mut input);
-    lines::print(summary::of_record(&input[..length]));
+    lines::print(record_summary::of_record(&input[..length]));
 }

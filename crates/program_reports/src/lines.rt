@@ -1,6 +1,6 @@
 // Prints the lines of a report. What is written no contract can say: the figures are proved in `summary`.
 use libc::STDOUT_FILENO;
-use summary::Summary;
+use record_summary::Summary;
 
 fn print_line(name: &[u8], number: u64) {
     io::write_all(STDOUT_FILENO, name);

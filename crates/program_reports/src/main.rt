@@ -21,7 +21,7 @@ fn report_one() -> bool {
     if io::read_full(STDIN_FILENO, &mut length) != 4 {
         return false;
     }
-    let size = fields::number_at(&length, 0, 4);
+    let size = base_fields::number_at(&length, 0, 4);
     let mut input = io::buffer();
     if !read_record(&mut input, size) {
         return false;
@@ -42,7 +42,7 @@ fn read_record(input: &mut [u8], size: u64) -> bool {
 fn report_first(input: &[u8], size: u64) {
     let length = size as usize;
     if length <= input.len() {
-        lines::print(summary::of_record(&input[..length]));
+        lines::print(record_summary::of_record(&input[..length]));
         io::write_all(STDOUT_FILENO, b"\n");
     }
 }

@@ -6,18 +6,18 @@ use native.Mathlib.Omega.{arith}
 use borrow.Author.Tests.{eq-eqb, ne-eqb}
 use lib.ListN.{length, getD, take, drop, length-take}
 use lib.Ieee.{Float}
-use Rattle.refusals.specs.Refusal.{MODE}
-use Rattle.refusals.specs.Outcome.{Outcome, went, refused, answers, Said, saidBy, keptBy}
-use Rattle.refusals.specs.Rows.{byRows, numberOf}
-use Rattle.refusals.proofs.Rows.{Refuses, goes, rows-then}
-use Rattle.refusals.proofs.Behind.{stopped-first, goes-on, stays, through}
-use Rattle.histogram.specs.Histogram.{empty}
-use Rattle.history.specs.declared.set.Entry.{Entry}
-use Rattle.history.specs.Set.{History, counted, listed, Histories, historiesOf, shows, allShow, setRows}
-use Rattle.history.proofs.Entries.{past-the-last, shows-next, shows-end}
-use Rattle.spans.specs.Span.{Span}
-use Rattle.histogram_range.specs.Counted.{addedTo, countedSpan, histogramRange}
-use Rattle.queue_range.specs.Listed.{allHeld, placedIn, heldSpan, roomRow, queueRange}
+use Rattle.base_refusals.specs.Refusal.{MODE}
+use Rattle.base_refusals.specs.Outcome.{Outcome, went, refused, answers, Said, saidBy, keptBy}
+use Rattle.base_refusals.specs.Rows.{byRows, numberOf}
+use Rattle.base_refusals.proofs.Rows.{Refuses, goes, rows-then}
+use Rattle.base_refusals.proofs.Behind.{stopped-first, goes-on, stays, through}
+use Rattle.history_histogram.specs.Histogram.{empty}
+use Rattle.history_set.specs.declared.set.Entry.{Entry}
+use Rattle.history_set.specs.Set.{History, counted, listed, Histories, historiesOf, shows, allShow, setRows}
+use Rattle.history_set.proofs.Entries.{past-the-last, shows-next, shows-end}
+use Rattle.range_ranks.specs.Span.{Span}
+use Rattle.range_histograms.specs.Counted.{addedTo, countedSpan, histogramRange}
+use Rattle.range_queues.specs.Listed.{allHeld, placedIn, heldSpan, roomRow, queueRange}
 use Rattle.range.specs.Range.{queuesBy, queuesIn, workAfter, spanOver, modeRows, rangeOf}
 
 -- ---- how many are queues

@@ -6,14 +6,14 @@ use mathlib.Core.List.{List, [], _∷_, _++_}
 use lib.Dec.{eqb, ltb}
 use lib.ListN.{length}
 use lib.Ieee.{Float}
-use Rattle.refusals.specs.Refusal.{MODE, ROOM}
-use Rattle.refusals.specs.Outcome.{Outcome, went}
-use Rattle.refusals.specs.Rows.{Row, row, byRows}
-use Rattle.histogram.specs.Histogram.{empty}
-use Rattle.history.specs.Set.{History, counted, listed, Histories, historiesOf, setRows}
-use Rattle.histogram_range.specs.Counted.{addedTo, countedSpan}
-use Rattle.queue_range.specs.Listed.{allHeld, placedIn, heldSpan}
-pub use Rattle.spans.specs.Span.{Span, found, nothing, notANumber, said}
+use Rattle.base_refusals.specs.Refusal.{MODE, ROOM}
+use Rattle.base_refusals.specs.Outcome.{Outcome, went}
+use Rattle.base_refusals.specs.Rows.{Row, row, byRows}
+use Rattle.history_histogram.specs.Histogram.{empty}
+use Rattle.history_set.specs.Set.{History, counted, listed, Histories, historiesOf, setRows}
+use Rattle.range_histograms.specs.Counted.{addedTo, countedSpan}
+use Rattle.range_queues.specs.Listed.{allHeld, placedIn, heldSpan}
+pub use Rattle.range_ranks.specs.Span.{Span, found, nothing, notANumber, said}
 
 -- ---- the question
 -- how many of the histories are queues

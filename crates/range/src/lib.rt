@@ -1,17 +1,17 @@
 // The loudness range over a set of histories: over its histograms or over its queues, which may not be mixed.
-use histogram_bins::Count;
-use history::set::Entry;
-use history::set::MOST;
-use history::set::Shape;
-use spans::Range;
+use bins::Count;
+use history_set::set::Entry;
+use history_set::set::MOST;
+use history_set::set::Shape;
+use range_ranks::spans::Range;
 ghost use mathlib.Core.Path.{_≡_};
 ghost use mathlib.Core.List.{List};
 ghost use Prim.Native.Nat.{ℕ, _≤_};
 ghost use lib.Ieee.{Float};
 ghost use lib.ListN.{take};
-ghost use Rattle.refusals.specs.Outcome.{saidBy, keptBy};
-ghost use Rattle.history.specs.Set.{mostHistories, histories, shows, allShow};
-ghost use Rattle.spans.specs.Span.{said};
+ghost use Rattle.base_refusals.specs.Outcome.{saidBy, keptBy};
+ghost use Rattle.history_set.specs.Set.{mostHistories, histories, shows, allShow};
+ghost use Rattle.range_ranks.specs.Span.{said};
 ghost use Rattle.range.specs.Range.{queuesBy, queuesIn, rangeOf};
 
 // 1 where the entry is a queue.
@@ -52,18 +52,18 @@ pub fn loudness_range(
         × (now (work .exit) ≡ keptBy (now (work .entry)) (rangeOf (histories entries count (now (counters .entry)) (now (energies .entry))) (now (work .entry)))) ⌝ }
 {
     if count > MOST {
-        return Range::Refused(refusals::SET);
+        return Range::Refused(base_refusals::SET);
     }
     let queues = queues_in(entries, count);
     if queues == 0 {
-        return histogram_range::of_histograms(entries, count, counters, energies);
+        return range_histograms::of_histograms(entries, count, counters, energies);
     }
     if queues == count {
-        return queue_range::of_queues(entries, count, counters, energies, work);
+        return range_queues::of_queues(entries, count, counters, energies, work);
     }
-    let refusal = sound_stores::checked(entries, count, counters, energies);
+    let refusal = history_set::stores::checked(entries, count, counters, energies);
     if refusal != 0 {
         return Range::Refused(refusal);
     }
-    Range::Refused(refusals::MODE)
+    Range::Refused(base_refusals::MODE)
 }

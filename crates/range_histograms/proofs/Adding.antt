@@ -8,14 +8,14 @@ use native.Mathlib.Omega.{arith}
 use lib.ListN.{length, getD, take, drop, replicate, length-replicate}
 use lib.Seq.{getD-drop}
 use lib.Ieee.{Float}
-use Rattle.histogram_bins.specs.Bin.{bins}
-use Rattle.histogram.specs.Histogram.{largestCount, empty, sums}
-use Rattle.history.specs.declared.set.Entry.{Entry}
-use Rattle.history.specs.declared.set.Shape.{Shape}
-use Rattle.history.specs.declared.set.Shape.the-variants.{Histogram, Queue as Queue-at}
-use Rattle.history.specs.Set.{countersEnd, countersInside, countersAt, shows, shapeShows, allShow}
-use Rattle.history.proofs.Entries.{past-the-last, every-at, shows-next, shows-end}
-use Rattle.histogram_range.specs.Counted.{AtMost, withHistory, addedTo}
+use Rattle.bins.specs.Bin.{bins}
+use Rattle.history_histogram.specs.Histogram.{largestCount, empty, sums}
+use Rattle.history_set.specs.declared.set.Entry.{Entry}
+use Rattle.history_set.specs.declared.set.Shape.{Shape}
+use Rattle.history_set.specs.declared.set.Shape.the-variants.{Histogram, Queue as Queue-at}
+use Rattle.history_set.specs.Set.{countersEnd, countersInside, countersAt, shows, shapeShows, allShow}
+use Rattle.history_set.proofs.Entries.{past-the-last, every-at, shows-next, shows-end}
+use Rattle.range_histograms.specs.Counted.{AtMost, withHistory, addedTo}
 
 -- ---- bin by bin
 pub sums-length : (into from : List ℕ) → length (sums into from) ≡ length into

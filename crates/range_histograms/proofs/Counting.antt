@@ -6,9 +6,9 @@ use lib.Dec.{T, le→leb}
 use lib.IntN.{pos}
 use lib.ListN.{length, take}
 use lib.Ieee.{binary64, inFloat}
-use Rattle.block_range.proofs.Counting.{blocks-up-to}
-use Rattle.histogram_range.specs.Counted.{mostInBin, AtMost, blocksIn}
-pub use Rattle.block_range.proofs.Counting.{blocks-more, blocks-none, blocks-part, count-is}
+use Rattle.range_one.proofs.Counting.{blocks-up-to}
+use Rattle.range_histograms.specs.Counted.{mostInBin, AtMost, blocksIn}
+pub use Rattle.range_one.proofs.Counting.{blocks-more, blocks-none, blocks-part, count-is}
 
 pub blocks-most : (l : List ℕ) → AtMost mostInBin l → (n : ℕ) → blocksIn (take n l) ≤ n * mostInBin
 blocks-most l b n = blocks-up-to mostInBin l b n

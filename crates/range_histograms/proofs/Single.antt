@@ -5,17 +5,17 @@ use Prim.Native.Nat.{ℕ, zero, suc, _+_, _≤_}
 use native.Mathlib.Omega.{arith}
 use lib.ListN.{length, getD, take, replicate, length-take, length-drop}
 use lib.Ieee.{Float}
-use Rattle.histogram_bins.specs.Bin.{bins}
-use Rattle.histogram.specs.Histogram.{empty, sums}
-use Rattle.history.specs.declared.set.Entry.{Entry}
-use Rattle.history.specs.Set.{countersAt, shows, allShow}
-use Rattle.history.proofs.Entries.{past-the-last}
+use Rattle.bins.specs.Bin.{bins}
+use Rattle.history_histogram.specs.Histogram.{empty, sums}
+use Rattle.history_set.specs.declared.set.Entry.{Entry}
+use Rattle.history_set.specs.Set.{countersAt, shows, allShow}
+use Rattle.history_set.proofs.Entries.{past-the-last}
 use Rattle.gate.specs.Totals.{none}
-use Rattle.spans.specs.Span.{nothing}
-use Rattle.histogram_range.specs.Counted.{withHistory, addedTo, blocksIn, countedSpan}
-use Rattle.histogram_range.proofs.Counting.{count-is}
-use Rattle.histogram_range.proofs.Answers.{counted-none}
-use Rattle.histogram_range.proofs.Adding.{empty-is, added-turn, added-end, added-any}
+use Rattle.range_ranks.specs.Span.{nothing}
+use Rattle.range_histograms.specs.Counted.{withHistory, addedTo, blocksIn, countedSpan}
+use Rattle.range_histograms.proofs.Counting.{count-is}
+use Rattle.range_histograms.proofs.Answers.{counted-none}
+use Rattle.range_histograms.proofs.Adding.{empty-is, added-turn, added-end, added-any}
 
 sums-zeros : (n : ℕ) (l : List ℕ) → length l ≡ n → sums (replicate n 0) l ≡ l
 sums-zeros zero [] e = refl

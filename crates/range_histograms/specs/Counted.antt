@@ -1,13 +1,13 @@
 -- The range over histograms (01, step 9): "counters added bin by bin". What it is of the added counters stands in `block_range`.
 use Prim.Native.Nat.{ℕ, _*_}
 use mathlib.Core.List.{List, [], _∷_}
-use Rattle.refusals.specs.Outcome.{Question, answers}
-use Rattle.refusals.specs.Rows.{byRows}
-use Rattle.histogram.specs.Histogram.{largestCount, empty, sums}
-use Rattle.history.specs.Set.{mostHistories, History, counted, listed, Histories, historiesOf, setRows}
-use Rattle.spans.specs.Span.{Span}
-pub use Rattle.block_range.specs.Counted.{AtMost, rankedIn}
-unfoldable pub use Rattle.block_range.specs.Counted.{blocksIn, runningFrom, firstPast, leftIn, gatedBlocks, countedSpan}
+use Rattle.base_refusals.specs.Outcome.{Question, answers}
+use Rattle.base_refusals.specs.Rows.{byRows}
+use Rattle.history_histogram.specs.Histogram.{largestCount, empty, sums}
+use Rattle.history_set.specs.Set.{mostHistories, History, counted, listed, Histories, historiesOf, setRows}
+use Rattle.range_ranks.specs.Span.{Span}
+pub use Rattle.range_one.specs.Counted.{AtMost, rankedIn}
+unfoldable pub use Rattle.range_one.specs.Counted.{blocksIn, runningFrom, firstPast, leftIn, gatedBlocks, countedSpan}
 
 -- the most blocks of a bin of 16 histograms
 abbrev pub mostInBin : ℕ

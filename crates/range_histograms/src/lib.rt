@@ -1,24 +1,24 @@
 // The loudness range over the histograms of a set: their counters added bin by bin, and the bins of the two ranks among the blocks that the gate leaves.
-use block_range::Place;
+use bins::Count;
 use gate::blocks::Totals;
-use histogram_bins::Count;
-use history::set::Entry;
-use history::set::MOST;
-use history::set::Shape;
-use spans::Range;
+use history_set::set::Entry;
+use history_set::set::MOST;
+use history_set::set::Shape;
+use range_one::Place;
+use range_ranks::spans::Range;
 ghost use mathlib.Core.Path.{_≡_};
 ghost use mathlib.Core.List.{[]};
 ghost use Prim.Native.Nat.{ℕ, _+_, _-_, _*_, _≤_};
 ghost use lib.IntN.{pos};
 ghost use lib.ListN.{length, take};
 ghost use lib.Ieee.{binary64, ofInt};
-ghost use Rattle.refusals.specs.Outcome.{says, saidBy};
-ghost use Rattle.histogram_bins.specs.Bin.{bins};
-ghost use Rattle.histogram.specs.Histogram.{largestCount, empty, sums};
-ghost use Rattle.history.specs.Set.{mostHistories, histories, countersEnd, countersInside, shows, allShow};
+ghost use Rattle.base_refusals.specs.Outcome.{says, saidBy};
+ghost use Rattle.bins.specs.Bin.{bins};
+ghost use Rattle.history_histogram.specs.Histogram.{largestCount, empty, sums};
+ghost use Rattle.history_set.specs.Set.{mostHistories, histories, countersEnd, countersInside, shows, allShow};
 ghost use Rattle.gate.specs.Totals.{none, binsFrom};
-ghost use Rattle.spans.specs.Span.{said};
-ghost use Rattle.histogram_range.specs.Counted.{
+ghost use Rattle.range_ranks.specs.Span.{said};
+ghost use Rattle.range_histograms.specs.Counted.{
   mostInBin,
   AtMost,
   withHistory,
@@ -30,7 +30,7 @@ ghost use Rattle.histogram_range.specs.Counted.{
   countedSpan,
   histogramRange,
 };
-ghost use Rattle.block_range.specs.Counted.{Short};
+ghost use Rattle.range_one.specs.Counted.{Short};
 
 // A histogram's counters are added, bin by bin.
 fn add_counters(added: &mut [u64], counters: &[Count])
@@ -38,8 +38,8 @@ fn add_counters(added: &mut [u64], counters: &[Count])
     ensures { λ _. ⌜ now (added .exit) ≡ sums (now (added .entry)) (now (counters .entry)) ⌝ }
 {
     let mut bin = 0;
-    while bin < histogram_bins::BINS {
-        added[bin] = added[bin] + histogram_bins::wide(counters[bin]);
+    while bin < bins::BINS {
+        added[bin] = added[bin] + bins::wide(counters[bin]);
         bin += 1;
     }
 }
@@ -53,7 +53,7 @@ fn add_history(added: &mut [u64], entry: Entry, counters: &[Count])
     let shape = entry.shape;
     match shape {
         Shape::Histogram(start) => {
-            let end = start + histogram_bins::BINS;
+            let end = start + bins::BINS;
             add_counters(added, &counters[start..end]);
         }
         Shape::Queue(_, _) => {}
@@ -85,11 +85,11 @@ fn sum_up(counters: &[u64]) -> Totals
     requires { ⌜ (length (now counters) ≡ bins) × AtMost mostInBin (now counters) ⌝ }
     ensures { λ r. ⌜ r ≡ binsFrom none 0 (now (counters .entry)) ⌝ }
 {
-    let energies = tables::all_energies();
+    let energies = bins_tables::all_energies();
     let mut count: u64 = 0;
     let mut sum = 0.0;
     let mut bin = 0;
-    while bin < histogram_bins::BINS {
+    while bin < bins::BINS {
         let blocks = counters[bin];
         sum = sum + float(blocks) * energies[bin];
         count = count + blocks;
@@ -119,7 +119,7 @@ fn first_past(counters: &[u64], from: Place, rank: u64) -> Place
 {
     let mut bin = from.bin;
     let mut before = from.before;
-    while bin < histogram_bins::BINS {
+    while bin < bins::BINS {
         let next = before + counters[bin];
         if rank < next {
             return Place { bin, before };
@@ -141,9 +141,9 @@ fn ranked(counters: &[u64], count: u64, start: usize) -> Range
         return Range::Nothing;
     }
     let gate = Place { bin: start, before };
-    let low = first_past(counters, gate, ranks::low_rank(left - 1) + before);
-    let high = first_past(counters, low, ranks::high_rank(left - 1) + before);
-    spans::of_bins(low.bin, high.bin)
+    let low = first_past(counters, gate, range_ranks::low_rank(left - 1) + before);
+    let high = first_past(counters, low, range_ranks::high_rank(left - 1) + before);
+    range_ranks::spans::of_bins(low.bin, high.bin)
 }
 
 // The range of added counters.
@@ -156,7 +156,7 @@ fn span_of(counters: &[u64]) -> Range
     if count == 0 {
         return Range::Nothing;
     }
-    let start = gate::blocks::start_bin(spans::gate_energy(totals));
+    let start = gate::blocks::start_bin(range_ranks::spans::gate_energy(totals));
     ranked(counters, count, start)
 }
 
@@ -167,7 +167,7 @@ fn alone(entry: Entry, counters: &[Count]) -> Range
 {
     let shape = entry.shape;
     match shape {
-        Shape::Histogram(start) => block_range::of_counters(counters, start),
+        Shape::Histogram(start) => range_one::of_counters(counters, start),
         Shape::Queue(_, _) => Range::Nothing,
     }
 }
@@ -181,7 +181,7 @@ pub fn of_histograms(
 ) -> Range
     ensures { λ r. ⌜ said r ≡ saidBy (histogramRange (histories entries count (now (counters .entry)) (now (energies .entry)))) ⌝ }
 {
-    let refusal = sound_stores::checked(entries, count, counters, energies);
+    let refusal = history_set::stores::checked(entries, count, counters, energies);
     if refusal != 0 {
         return Range::Refused(refusal);
     }
@@ -189,7 +189,7 @@ pub fn of_histograms(
         let entry = entries[0];
         return alone(entry, counters);
     }
-    let mut added = [0u64; histogram_bins::BINS];
+    let mut added = [0u64; bins::BINS];
     add_histories(&mut added, entries, count, counters);
     span_of(&added)
 }

@@ -7,16 +7,16 @@ use borrow.Author.Tests.{eq-eqb, ne-eqb, lt-ltb, le-ltb, ltb-true, ltb-false}
 use lib.Dec.{ltb}
 use lib.ListN.{length, take}
 use lib.Ieee.{Float}
-use Rattle.tables.specs.Tables.{energyAt}
-use Rattle.histogram_bins.specs.Bin.{bins}
-use Rattle.history.specs.Set.{countersAt}
+use Rattle.bins_tables.specs.Tables.{energyAt}
+use Rattle.bins.specs.Bin.{bins}
+use Rattle.history_set.specs.Set.{countersAt}
 use Rattle.gate.specs.declared.blocks.Totals.{Totals}
 use Rattle.gate.specs.Totals.{none, binsFrom, fromBin}
 use Rattle.gate.specs.Start.{startBin}
 use Rattle.gate.proofs.Running.{not-there, there}
-use Rattle.ranks.specs.Ranks.{lowRank, highRank}
-use Rattle.spans.specs.Span.{found, nothing, gateEnergy}
-use Rattle.block_range.specs.Counted.{blocksIn, runningFrom, firstPast, rankedIn, leftIn, gatedBlocks, countedSpan, spanAt}
+use Rattle.range_ranks.specs.Ranks.{lowRank, highRank}
+use Rattle.range_ranks.specs.Span.{found, nothing, gateEnergy}
+use Rattle.range_one.specs.Counted.{blocksIn, runningFrom, firstPast, rankedIn, leftIn, gatedBlocks, countedSpan, spanAt}
 
 module _ (counters : List ℕ) where
   pub counted-none : binsFrom none 0 counters .count ≡ 0 → countedSpan counters ≡ nothing

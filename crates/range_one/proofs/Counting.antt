@@ -8,10 +8,10 @@ use native.Mathlib.Omega.{arith}
 use lib.IntN.{pos}
 use lib.ListN.{length, getD, take}
 use lib.Ieee.{binary64, mul, ofInt}
-use Rattle.tables.specs.Tables.{energyAt}
+use Rattle.bins_tables.specs.Tables.{energyAt}
 use Rattle.gate.specs.declared.blocks.Totals.{Totals}
 use Rattle.gate.specs.Totals.{withBlocks, binsFrom}
-use Rattle.block_range.specs.Counted.{AtMost, blocksIn, runningFrom}
+use Rattle.range_one.specs.Counted.{AtMost, blocksIn, runningFrom}
 
 -- ---- blocks below a bin
 pub blocks-suc : (l : List ℕ) (n : ℕ) → n < length l → blocksIn (take (suc n) l) ≡ blocksIn (take n l) + getD l n 0

@@ -11,8 +11,8 @@ use borrow.Author.Tests.{lt-ltb, le-ltb, ltb-true, ltb-false}
 use lib.Dec.{ltb}
 use lib.ListN.{length, getD, take, drop, drop-of-length-le}
 use lib.Seq.{drop-cons}
-use Rattle.block_range.specs.Counted.{blocksIn, runningFrom, firstPast}
-use Rattle.block_range.proofs.Counting.{blocks-suc, running-at, running-length}
+use Rattle.range_one.specs.Counted.{blocksIn, runningFrom, firstPast}
+use Rattle.range_one.proofs.Counting.{blocks-suc, running-at, running-length}
 
 -- ---- a turn of the search
 module _ (running : List ℕ) (rank bin : ℕ) where

@@ -7,16 +7,16 @@ use mathlib.Core.List.{List, [], _∷_}
 use lib.Dec.{eqb, ltb}
 use lib.ListN.{length, getD, take}
 use lib.Ieee.{Float}
-use Rattle.tables.specs.Tables.{energyAt}
-use Rattle.histogram_bins.specs.Bin.{bins}
-use Rattle.history.specs.Set.{countersAt}
+use Rattle.bins_tables.specs.Tables.{energyAt}
+use Rattle.bins.specs.Bin.{bins}
+use Rattle.history_set.specs.Set.{countersAt}
 use Rattle.gate.specs.declared.blocks.Totals.{Totals}
 use Rattle.gate.specs.Totals.{none, binsFrom}
 unfoldable pub use Rattle.gate.specs.Totals.{blocksIn}
 use Rattle.gate.specs.Start.{startBin}
-use Rattle.ranks.specs.Ranks.{lowRank, highRank}
-use Rattle.spans.specs.Span.{Span, found, nothing, gateEnergy}
-use Rattle.block_range.specs.declared.Place.{Place}
+use Rattle.range_ranks.specs.Ranks.{lowRank, highRank}
+use Rattle.range_ranks.specs.Span.{Span, found, nothing, gateEnergy}
+use Rattle.range_one.specs.declared.Place.{Place}
 
 -- no bin has more than so many blocks
 abbrev pub AtMost : ℕ → List ℕ → Type 0

@@ -1,14 +1,14 @@
 // The loudness range of one histogram: the bins of the two ranks among the blocks that the gate leaves.
-use histogram_bins::Count;
-use spans::Range;
+use bins::Count;
+use range_ranks::spans::Range;
 ghost use mathlib.Core.Path.{_≡_};
 ghost use Prim.Native.Nat.{_+_, _-_, _≤_};
 ghost use lib.ListN.{length, take};
-ghost use Rattle.refusals.specs.Outcome.{says};
-ghost use Rattle.histogram_bins.specs.Bin.{bins};
+ghost use Rattle.base_refusals.specs.Outcome.{says};
+ghost use Rattle.bins.specs.Bin.{bins};
 ghost use Rattle.gate.specs.Totals.{mostBlocks};
-ghost use Rattle.spans.specs.Span.{said};
-ghost use Rattle.block_range.specs.Counted.{blocksIn, runningFrom, firstPast, leftIn, spanAt, Short};
+ghost use Rattle.range_ranks.specs.Span.{said};
+ghost use Rattle.range_one.specs.Counted.{blocksIn, runningFrom, firstPast, leftIn, spanAt, Short};
 
 // So many bins are counted together where the rank lies beyond them.
 const GROUP: usize = 20;
@@ -27,7 +27,7 @@ fn blocks_of(counters: &[Count], from: usize, until: usize) -> u64
     let mut blocks: u64 = 0;
     let mut bin = from;
     while bin < until {
-        blocks = blocks + histogram_bins::wide(counters[bin]);
+        blocks = blocks + bins::wide(counters[bin]);
         bin += 1;
     }
     blocks
@@ -40,7 +40,7 @@ fn pass_by(counters: &[Count], from: Place, rank: u64) -> Place
 {
     let mut bin = from.bin;
     let mut before = from.before;
-    while bin <= histogram_bins::BINS - GROUP {
+    while bin <= bins::BINS - GROUP {
         let next = before + blocks_of(counters, bin, bin + GROUP);
         if rank < next {
             return Place { bin, before };
@@ -59,8 +59,8 @@ fn first_past(counters: &[Count], from: Place, rank: u64) -> Place
     let near = pass_by(counters, from, rank);
     let mut bin = near.bin;
     let mut before = near.before;
-    while bin < histogram_bins::BINS {
-        let next = before + histogram_bins::wide(counters[bin]);
+    while bin < bins::BINS {
+        let next = before + bins::wide(counters[bin]);
         if rank < next {
             return Place { bin, before };
         }
@@ -81,21 +81,21 @@ fn ranked(counters: &[Count], count: u64, start: usize) -> Range
         return Range::Nothing;
     }
     let gate = Place { bin: start, before };
-    let low = first_past(counters, gate, ranks::low_rank(left - 1) + before);
-    let high = first_past(counters, low, ranks::high_rank(left - 1) + before);
-    spans::of_bins(low.bin, high.bin)
+    let low = first_past(counters, gate, range_ranks::low_rank(left - 1) + before);
+    let high = first_past(counters, low, range_ranks::high_rank(left - 1) + before);
+    range_ranks::spans::of_bins(low.bin, high.bin)
 }
 
 // The range of the histogram whose counters start at a place. There is none where 1,000 counters do not stand there.
 pub fn of_counters(counters: &[Count], start: usize) -> Range
     ensures { λ r. ⌜ said r ≡ says (spanAt (now (counters .entry)) start) ⌝ }
 {
-    let started = gate::blocks::started(counters, start, spans::gate_share());
+    let started = gate::blocks::started(counters, start, range_ranks::spans::gate_share());
     let totals = started.totals;
     let count = totals.count;
     if count == 0 {
         return Range::Nothing;
     }
-    let end = start + histogram_bins::BINS;
+    let end = start + bins::BINS;
     ranked(&counters[start..end], count, started.bin)
 }

@@ -6,17 +6,17 @@ use Prim.Native.Nat.{ℕ, _≤_, _<_}
 use borrow.Author.Tests.{lt-ltb, le-ltb}
 use lib.ListN.{length, drop}
 use lib.Ieee.{Float}
-use Rattle.refusals.specs.Refusal.{ROOM}
-use Rattle.refusals.specs.Outcome.{went, refused}
-use Rattle.refusals.specs.Rows.{numberOf}
-use Rattle.refusals.proofs.Rows.{Refuses}
-use Rattle.refusals.proofs.Behind.{stopped-first, goes-on}
-use Rattle.history.specs.Set.{Histories, historiesOf, setRows}
-use Rattle.rising_order.specs.Order.{inOrder}
-use Rattle.spans.specs.Span.{notANumber}
-use Rattle.rising_range.specs.Rising.{listedSpan}
-use Rattle.queue_range.specs.Listed.{allHeld, anyNan, placedIn, heldSpan, roomRow, queueRange}
-use Rattle.queue_range.specs.Inner.{listedRange}
+use Rattle.base_refusals.specs.Refusal.{ROOM}
+use Rattle.base_refusals.specs.Outcome.{went, refused}
+use Rattle.base_refusals.specs.Rows.{numberOf}
+use Rattle.base_refusals.proofs.Rows.{Refuses}
+use Rattle.base_refusals.proofs.Behind.{stopped-first, goes-on}
+use Rattle.history_set.specs.Set.{Histories, historiesOf, setRows}
+use Rattle.order_rules.specs.Order.{inOrder}
+use Rattle.range_ranks.specs.Span.{notANumber}
+use Rattle.range_queues.specs.Rising.{listedSpan}
+use Rattle.range_queues.specs.Listed.{allHeld, anyNan, placedIn, heldSpan, roomRow, queueRange}
+use Rattle.range_queues.specs.Inner.{listedRange}
 
 module _ (held work : List Float) where
   pub listed-room : length work < length held → listedRange held work ≡ refused ROOM

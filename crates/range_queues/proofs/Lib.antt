@@ -1,1 +1,5 @@
 pub mod Skipping
+pub mod Standing
+pub mod Looking
+pub mod Copying
+pub mod Answers

@@ -14,25 +14,25 @@ use lib.Seq.{sets}
 use lib.Ieee.{Float, nan, inf, fin, up, down, lt, ne, isNan}
 use lib.Ieee.Fits.{up-pos, down-pos}
 use lib.Ieee.Positive.{positive, above}
-use Rattle.floats.proofs.Nan.{differs}
-use Rattle.floats.proofs.Order.{is-true}
-use Rattle.tables.specs.Tables.{boundaryAt}
-use Rattle.tables.proofs.Rules.{boundary-positive}
-use Rattle.histogram_bins.specs.Energy.{dropped}
-use Rattle.history.specs.declared.set.Entry.{Entry}
-use Rattle.history.specs.declared.set.Shape.{Shape}
-use Rattle.history.specs.declared.set.Shape.the-variants.{Histogram, Queue as Queue-at}
-use Rattle.queue.specs.declared.Parts.{Parts}
-use Rattle.queue.specs.Queue.{suits, heldOf, slice}
-use Rattle.history.specs.Set.{queueAt, storeEnd, storesInside, noneBelow, shapeSound, isSound, allSound, shows, shapeShows, allShow}
-use Rattle.history.proofs.Entries.{past-the-last, both, either-not, every-at, next-entry, all-end, shows-next, shows-end, none-below-append}
-use Rattle.history.proofs.Slices.{slice-length, slice-next, slice-end}
-use Rattle.rising_order.specs.Order.{allAbove}
-use Rattle.queue_range.specs.declared.Seen.{Seen}
-use Rattle.queue_range.specs.Listed.{heldBy, allHeld, anyNan}
-use Rattle.queue_range.specs.Inner.{heldIn, heldAt, suitsAt, withSeen}
-use Rattle.queue_range.proofs.Copying.{sets-append}
-use Rattle.queue_range.proofs.Standing.{StandIn}
+use Rattle.base_floats.proofs.Nan.{differs}
+use Rattle.base_floats.proofs.Order.{is-true}
+use Rattle.bins_tables.specs.Tables.{boundaryAt}
+use Rattle.bins_tables.proofs.Rules.{boundary-positive}
+use Rattle.bins.specs.Energy.{dropped}
+use Rattle.history_set.specs.declared.set.Entry.{Entry}
+use Rattle.history_set.specs.declared.set.Shape.{Shape}
+use Rattle.history_set.specs.declared.set.Shape.the-variants.{Histogram, Queue as Queue-at}
+use Rattle.history_queue.specs.declared.Parts.{Parts}
+use Rattle.history_queue.specs.Queue.{suits, heldOf, slice}
+use Rattle.history_set.specs.Set.{queueAt, storeEnd, storesInside, noneBelow, shapeSound, isSound, allSound, shows, shapeShows, allShow}
+use Rattle.history_set.proofs.Entries.{past-the-last, both, either-not, every-at, next-entry, all-end, shows-next, shows-end, none-below-append}
+use Rattle.history_set.proofs.Slices.{slice-length, slice-next, slice-end}
+use Rattle.order_rules.specs.Order.{allAbove}
+use Rattle.range_queues.specs.declared.Seen.{Seen}
+use Rattle.range_queues.specs.Listed.{heldBy, allHeld, anyNan}
+use Rattle.range_queues.specs.Inner.{heldIn, heldAt, suitsAt, withSeen}
+use Rattle.range_queues.proofs.Copying.{sets-append}
+use Rattle.range_queues.proofs.Standing.{StandIn}
 
 -- ---- NaN in a part
 module _ (l : List Float) (i until : ℕ) where

@@ -12,9 +12,9 @@ use lib.Seq.{drop-cons, getD-drop}
 use lib.Ieee.{Float, nan, lt}
 use Rattle.gate.specs.declared.blocks.Totals.{Totals}
 use Rattle.gate.specs.Totals.{withBlocks, none, energiesFrom}
-use Rattle.ranks.specs.Ranks.{lowRank, highRank}
-use Rattle.spans.specs.Span.{found, nothing, gateEnergy}
-use Rattle.rising_range.specs.Rising.{fromGate, atRanks}
+use Rattle.range_ranks.specs.Ranks.{lowRank, highRank}
+use Rattle.range_ranks.specs.Span.{found, nothing, gateEnergy}
+use Rattle.range_queues.specs.Rising.{fromGate, atRanks}
 
 module _ (gate : Float) (rising : List Float) (i : ℕ) where
   next : (d : Float) (below : Bool) → i < length rising → lt (getD rising i d) gate ≡ below

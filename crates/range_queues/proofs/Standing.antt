@@ -5,15 +5,15 @@ use mathlib.Core.List.{List, []}
 use Prim.Native.Nat.{_≤_}
 use lib.ListN.{length}
 use lib.Ieee.{Float}
-use Rattle.queue.specs.declared.Parts.{Parts}
-use Rattle.queue.specs.Queue.{inParts}
-use Rattle.queue.proofs.Standing.{Within, nowhere-within, parts-within}
-use Rattle.history.specs.declared.set.Shape.{Shape}
-use Rattle.history.specs.declared.set.Shape.the-variants.{Histogram, Queue as Queue-at}
-use Rattle.history.specs.Set.{storeEnd, shapeShows}
-use Rattle.history.proofs.Slices.{held-slices}
-use Rattle.queue_range.specs.Listed.{heldBy}
-use Rattle.queue_range.specs.Inner.{suitsAt, partsAt}
+use Rattle.history_queue.specs.declared.Parts.{Parts}
+use Rattle.history_queue.specs.Queue.{inParts}
+use Rattle.history_queue.proofs.Standing.{Within, nowhere-within, parts-within}
+use Rattle.history_set.specs.declared.set.Shape.{Shape}
+use Rattle.history_set.specs.declared.set.Shape.the-variants.{Histogram, Queue as Queue-at}
+use Rattle.history_set.specs.Set.{storeEnd, shapeShows}
+use Rattle.history_set.proofs.Slices.{held-slices}
+use Rattle.range_queues.specs.Listed.{heldBy}
+use Rattle.range_queues.specs.Inner.{suitsAt, partsAt}
 
 pub record StandIn (energies : List Float) (shape : Shape) (parts : Parts) : Type 0 where
   pub places : Within parts (length energies)

@@ -4,17 +4,17 @@ use mathlib.Core.List.{List, [], _∷_}
 use Prim.Native.Nat.{ℕ, _+_, _*_}
 use lib.ListN.{length}
 use lib.Ieee.{Float}
-use Rattle.refusals.specs.Outcome.{Outcome, went}
-use Rattle.refusals.specs.Rows.{byRows}
-use Rattle.queue.specs.declared.Parts.{Parts}
-use Rattle.queue.specs.Queue.{longest, suits, nowhere, partsOf}
-use Rattle.history.specs.declared.set.Entry.{Entry}
-use Rattle.history.specs.declared.set.Shape.{Shape}
-use Rattle.history.specs.declared.set.Shape.the-variants.{Histogram, Queue as Queue-at}
-use Rattle.history.specs.Set.{mostHistories, noneBelow, shapeShows, allShow}
-use Rattle.spans.specs.Span.{Span}
-use Rattle.queue_range.specs.declared.Seen.{Seen}
-use Rattle.queue_range.specs.Listed.{heldBy, allHeld, anyNan, placedIn, heldSpan, roomRow}
+use Rattle.base_refusals.specs.Outcome.{Outcome, went}
+use Rattle.base_refusals.specs.Rows.{byRows}
+use Rattle.history_queue.specs.declared.Parts.{Parts}
+use Rattle.history_queue.specs.Queue.{longest, suits, nowhere, partsOf}
+use Rattle.history_set.specs.declared.set.Entry.{Entry}
+use Rattle.history_set.specs.declared.set.Shape.{Shape}
+use Rattle.history_set.specs.declared.set.Shape.the-variants.{Histogram, Queue as Queue-at}
+use Rattle.history_set.specs.Set.{mostHistories, noneBelow, shapeShows, allShow}
+use Rattle.range_ranks.specs.Span.{Span}
+use Rattle.range_queues.specs.declared.Seen.{Seen}
+use Rattle.range_queues.specs.Listed.{heldBy, allHeld, anyNan, placedIn, heldSpan, roomRow}
 
 -- the most energies that 16 queues hold
 abbrev pub mostHeld : ℕ

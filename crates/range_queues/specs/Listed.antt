@@ -5,13 +5,13 @@ use mathlib.Core.List.{List, [], _∷_, _++_}
 use lib.Dec.{ltb}
 use lib.ListN.{length, drop}
 use lib.Ieee.{Float, isNan}
-use Rattle.refusals.specs.Refusal.{ROOM}
-use Rattle.refusals.specs.Outcome.{Outcome, went}
-use Rattle.refusals.specs.Rows.{Row, row, byRows}
-use Rattle.history.specs.Set.{History, counted, listed, Histories, historiesOf, setRows}
-use Rattle.rising_order.specs.Order.{inOrder}
-use Rattle.spans.specs.Span.{Span, notANumber}
-use Rattle.rising_range.specs.Rising.{listedSpan}
+use Rattle.base_refusals.specs.Refusal.{ROOM}
+use Rattle.base_refusals.specs.Outcome.{Outcome, went}
+use Rattle.base_refusals.specs.Rows.{Row, row, byRows}
+use Rattle.history_set.specs.Set.{History, counted, listed, Histories, historiesOf, setRows}
+use Rattle.order_rules.specs.Order.{inOrder}
+use Rattle.range_ranks.specs.Span.{Span, notANumber}
+use Rattle.range_queues.specs.Rising.{listedSpan}
 
 -- all held energies, history by history, oldest first. A histogram has none
 abbrev pub heldBy : History → List Float

@@ -8,8 +8,8 @@ use lib.ListN.{length, getD}
 use lib.Ieee.{Float, nan}
 use Rattle.gate.specs.Totals.{none, energiesFrom}
 use Rattle.gate.specs.Start.{counts}
-use Rattle.ranks.specs.Ranks.{lowRank, highRank}
-use Rattle.spans.specs.Span.{Span, found, nothing, gateEnergy}
+use Rattle.range_ranks.specs.Ranks.{lowRank, highRank}
+use Rattle.range_ranks.specs.Span.{Span, found, nothing, gateEnergy}
 
 -- what is left when the leading energies below the gate are skipped
 unfoldable pub fromGate : Float → List Float → List Float

@@ -1,21 +1,23 @@
 // The loudness range over the queues of a set: their energies are put in rising order in a lent work slice.
-use histogram_bins::Count;
-use history::set::Entry;
-use history::set::MOST;
-use history::set::Shape;
-use queue::Parts;
-use spans::Range;
+use bins::Count;
+use history_queue::Parts;
+use history_set::set::Entry;
+use history_set::set::MOST;
+use history_set::set::Shape;
+use range_ranks::spans::Range;
 ghost use mathlib.Core.Path.{_≡_};
 ghost use mathlib.Core.Bool.{true, _&&_};
 ghost use Prim.Native.Nat.{_+_, _-_, _≤_};
 ghost use lib.Seq.{sets};
 ghost use lib.ListN.{length, take};
-ghost use Rattle.refusals.specs.Outcome.{saidBy, keptBy};
-ghost use Rattle.queue.specs.Queue.{longest, slice};
-ghost use Rattle.history.specs.Set.{mostHistories, histories, storeEnd, storesInside, isSound, allSound};
-ghost use Rattle.spans.specs.Span.{said};
-ghost use Rattle.queue_range.specs.Listed.{queueRange};
-ghost use Rattle.queue_range.specs.Inner.{mostHeld, heldIn, heldAt, suitsAt, partsAt, withSeen, seenOf, listedRange};
+ghost use Rattle.base_refusals.specs.Outcome.{saidBy, keptBy};
+ghost use Rattle.history_queue.specs.Queue.{longest, slice};
+ghost use Rattle.history_set.specs.Set.{mostHistories, histories, storeEnd, storesInside, isSound, allSound};
+ghost use Rattle.range_ranks.specs.Span.{said};
+ghost use Rattle.range_queues.specs.Listed.{queueRange};
+ghost use Rattle.range_queues.specs.Inner.{mostHeld, heldIn, heldAt, suitsAt, partsAt, withSeen, seenOf, listedRange};
+
+mod rising;
 
 // Where the energies of an entry stand among so many. Those of a histogram stand nowhere.
 fn parts_of(entry: Entry, places: usize) -> Parts
@@ -56,7 +58,7 @@ fn look_at(before: Seen, energies: &[f64], from: usize, until: usize) -> Seen
     requires { ⌜ (from ≤ until) × (until ≤ length (now energies)) × (before .blocks + (until - from) ≤ mostHeld) ⌝ }
     ensures { λ r. ⌜ r ≡ withSeen before (slice from until (now (energies .entry))) ⌝ }
 {
-    let least = histogram_bins::lowest_boundary();
+    let least = bins::lowest_boundary();
     let mut fine = before.fine;
     let mut nan = before.nan;
     let mut i = from;
@@ -168,14 +170,14 @@ fn in_order(
 {
     let blocks = seen.blocks;
     if work.len() < blocks {
-        return Range::Refused(refusals::ROOM);
+        return Range::Refused(base_refusals::ROOM);
     }
     if seen.nan {
         return Range::NotANumber;
     }
     copy_all(entries, count, energies, work);
-    ordering::order(&mut work[..blocks]);
-    rising_range::span_in_order(&work[..blocks])
+    order::order(&mut work[..blocks]);
+    crate::rising::span_in_order(&work[..blocks])
 }
 
 // The range over the queues of a set. Its histograms play no part.
@@ -189,12 +191,12 @@ pub fn of_queues(
     ensures { λ r. ⌜ (said r ≡ saidBy (queueRange (histories entries count (now (counters .entry)) (now (energies .entry))) (now (work .entry))))
         × (now (work .exit) ≡ keptBy (now (work .entry)) (queueRange (histories entries count (now (counters .entry)) (now (energies .entry))) (now (work .entry)))) ⌝ }
 {
-    if history::set::outside_set(entries, count, counters, energies) {
-        return Range::Refused(refusals::SET);
+    if history_set::set::outside_set(entries, count, counters, energies) {
+        return Range::Refused(base_refusals::SET);
     }
     let seen = look(entries, count, energies);
     if seen.fine {
         return in_order(entries, count, energies, work, seen);
     }
-    Range::Refused(refusals::STORE)
+    Range::Refused(base_refusals::STORE)
 }

@@ -1,14 +1,14 @@
 // The loudness range of energies in rising order: the energies at the two ranks among those that the gate leaves.
 use gate::blocks::Totals;
-use spans::Range;
+use range_ranks::spans::Range;
 ghost use mathlib.Core.Path.{_≡_};
 ghost use mathlib.Core.Bool.{true};
 ghost use Prim.Native.Nat.{_≤_};
 ghost use lib.ListN.{length, drop};
-ghost use Rattle.refusals.specs.Outcome.{says};
+ghost use Rattle.base_refusals.specs.Outcome.{says};
 ghost use Rattle.gate.specs.Totals.{none, energiesFrom};
-ghost use Rattle.spans.specs.Span.{said};
-ghost use Rattle.rising_range.specs.Rising.{fromGate, listedSpan};
+ghost use Rattle.range_ranks.specs.Span.{said};
+ghost use Rattle.range_queues.specs.Rising.{fromGate, listedSpan};
 
 // The energies one after the other, from 0.
 fn sum_of(rising: &[f64]) -> f64
@@ -59,11 +59,11 @@ fn skipped(rising: &[f64], gate: f64) -> usize
 }
 
 // The range of energies in rising order.
-pub fn span_in_order(rising: &[f64]) -> Range
+pub(crate) fn span_in_order(rising: &[f64]) -> Range
     ensures { λ r. ⌜ said r ≡ says (listedSpan (now (rising .entry))) ⌝ }
 {
     let count = rising.len();
-    let gate = spans::gate_energy(Totals {
+    let gate = range_ranks::spans::gate_energy(Totals {
         count: count as u64,
         sum: sum_of(rising),
     });
@@ -73,7 +73,7 @@ pub fn span_in_order(rising: &[f64]) -> Range
         return Range::Nothing;
     }
     let last = (left - 1) as u64;
-    let low = first + ranks::low_rank(last) as usize;
-    let high = first + ranks::high_rank(last) as usize;
+    let low = first + range_ranks::low_rank(last) as usize;
+    let high = first + range_ranks::high_rank(last) as usize;
     Range::Found(rising[low], rising[high])
 }

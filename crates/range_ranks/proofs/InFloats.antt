@@ -13,8 +13,8 @@ use lib.Ieee.{Float, nan, inf, fin, Format, binary64, prec, low, up, down, round
 use lib.Ieee.Fits.{down-pos}
 use lib.Ieee.Exact.{HasValue}
 use lib.Ieee.Scale.{round-same}
-use Rattle.ranks.specs.Ranks.{lowRank, highRank, rankInFloats, lowShare, highShare, exactBelow}
-use Rattle.ranks.proofs.Near.{Within, held, round-within}
+use Rattle.range_ranks.specs.Ranks.{lowRank, highRank, rankInFloats, lowShare, highShare, exactBelow}
+use Rattle.range_ranks.proofs.Near.{Within, held, round-within}
 
 -- ---- an integer as a float, and a product, by the fraction that the float equals
 of-whole : (f : Format) (n : ℕ) → n < 2 ^ prec f → HasValue (ofInt f (pos n)) false n 1

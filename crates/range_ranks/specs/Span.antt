@@ -1,11 +1,11 @@
 -- What a range answers, and its gate (01, step 9): "Gate energy = (f64 nearest 1/100) times the mean".
 use mathlib.Core.Bool.{false}
 use lib.Ieee.{Float, binary64, mul, round}
-use Rattle.refusals.specs.Outcome.{Said, says, refusal}
+use Rattle.base_refusals.specs.Outcome.{Said, says, refusal}
 use Rattle.gate.specs.declared.blocks.Totals.{Totals}
 use Rattle.gate.specs.Totals.{meanOf}
-use Rattle.spans.specs.declared.Range.{Range}
-use Rattle.spans.specs.declared.Range.the-variants.{Found, Nothing, NotANumber, Refused}
+use Rattle.range_ranks.specs.declared.spans.Range.{Range}
+use Rattle.range_ranks.specs.declared.spans.Range.the-variants.{Found, Nothing, NotANumber, Refused}
 
 -- what a range answers: two energies, nothing, or not a number
 pub data Span : Type 0 where

@@ -1,6 +1,8 @@
 // The two ranks of the loudness range, by whole numbers. Each is the whole number nearest to a share of n, a tie upwards, for every n: no sum can wrap.
 ghost use mathlib.Core.Path.{_≡_};
-ghost use Rattle.ranks.specs.Ranks.{lowRank, highRank};
+ghost use Rattle.range_ranks.specs.Ranks.{lowRank, highRank};
+
+pub mod spans;
 
 // A tenth of n. The tens are counted apart, so that nothing is added to n itself.
 pub fn low_rank(n: u64) -> u64

@@ -1,9 +1,9 @@
 // What a loudness range answers, and the gate that it is taken above.
 use gate::blocks::Totals;
 ghost use mathlib.Core.Path.{_≡_};
-ghost use Rattle.refusals.specs.Outcome.{says};
-ghost use Rattle.tables.specs.Tables.{energies as binEnergies, energyAt};
-ghost use Rattle.spans.specs.Span.{found, hundredth, gateEnergy, said};
+ghost use Rattle.base_refusals.specs.Outcome.{says};
+ghost use Rattle.bins_tables.specs.Tables.{energies as binEnergies, energyAt};
+ghost use Rattle.range_ranks.specs.Span.{found, hundredth, gateEnergy, said};
 
 // The answer: the energies at the low and at the high rank.
 pub enum Range {
@@ -39,6 +39,6 @@ fn energy_of(table: &[f64; 1000], bin: usize) -> f64
 pub fn of_bins(low: usize, high: usize) -> Range
     ensures { λ r. ⌜ said r ≡ says (found (energyAt low) (energyAt high)) ⌝ }
 {
-    let table = tables::all_energies();
+    let table = bins_tables::all_energies();
     Range::Found(energy_of(&table, low), energy_of(&table, high))
 }

@@ -7,17 +7,17 @@ use native.Mathlib.Omega.{arith}
 use borrow.Author.Tests.{eq-eqb}
 use lib.ListN.{length, getD, length-drop}
 use lib.Seq.{getD-drop}
-use Rattle.refusals.specs.Outcome.{went, done}
-use Rattle.refusals.specs.Rows.{numberOf}
-use Rattle.histogram_bins.specs.Bin.{bins}
-use Rattle.layout.specs.declared.Kind.the-variants.{Histogram}
-use Rattle.layout.specs.Layout.{kindWidth, headWidth, histogramLength, orderOf, bodyIn, numbersIn, allBytes, frameRows, recordOf}
-use Rattle.layout.proofs.Frames.{framed, passes}
-use Rattle.layout.proofs.Again.{record-body, record-passes, record-again, whole-read, whole-written}
-use Rattle.histogram_reader.specs.Record.{countWidth, countersIn, readHistogram}
-use Rattle.histogram_reader.proofs.Cases.{framed-length, read-went, read-by-frame}
-use Rattle.histogram_writer.specs.Writing.{histogramRecord}
-use Rattle.histogram_writer.proofs.Cases.{body-length}
+use Rattle.base_refusals.specs.Outcome.{went, done}
+use Rattle.base_refusals.specs.Rows.{numberOf}
+use Rattle.bins.specs.Bin.{bins}
+use Rattle.record_layout.specs.declared.Kind.the-variants.{Histogram}
+use Rattle.record_layout.specs.Layout.{kindWidth, headWidth, histogramLength, orderOf, bodyIn, numbersIn, allBytes, frameRows, recordOf}
+use Rattle.record_layout.proofs.Frames.{framed, passes}
+use Rattle.record_layout.proofs.Again.{record-body, record-passes, record-again, whole-read, whole-written}
+use Rattle.record_histogram.specs.Record.{countWidth, countersIn, readHistogram}
+use Rattle.record_histogram.proofs.Cases.{framed-length, read-went, read-by-frame}
+use Rattle.record_histogram.specs.Writing.{histogramRecord}
+use Rattle.record_histogram.proofs.WriterCases.{body-length}
 
 -- every counter fits its field
 abbrev pub Counting : List ℕ → Type 0

@@ -5,15 +5,15 @@ use Prim.Native.Nat.{ℕ}
 use native.Mathlib.Omega.{arith}
 use borrow.Author.Tests.{eq-eqb, eqb-true}
 use lib.ListN.{length}
-use Rattle.refusals.specs.Outcome.{Outcome, went, NoValues, done}
-use Rattle.refusals.specs.Rows.{numberOf, byRows}
-use Rattle.histogram_bins.specs.Bin.{bins}
-use Rattle.layout.specs.declared.Kind.the-variants.{Histogram}
-use Rattle.layout.specs.Layout.{histogramLength, lengthIn, frameRows}
-use Rattle.refusals.proofs.Rows.{goes, rows-then}
-use Rattle.refusals.proofs.Behind.{goes-on}
-use Rattle.layout.proofs.Frames.{framed}
-use Rattle.histogram_reader.specs.Record.{recordLength, countersIn, storeRows, readHistogram}
+use Rattle.base_refusals.specs.Outcome.{Outcome, went, NoValues, done}
+use Rattle.base_refusals.specs.Rows.{numberOf, byRows}
+use Rattle.bins.specs.Bin.{bins}
+use Rattle.record_layout.specs.declared.Kind.the-variants.{Histogram}
+use Rattle.record_layout.specs.Layout.{histogramLength, lengthIn, frameRows}
+use Rattle.base_refusals.proofs.Rows.{goes, rows-then}
+use Rattle.base_refusals.proofs.Behind.{goes-on}
+use Rattle.record_layout.proofs.Frames.{framed}
+use Rattle.record_histogram.specs.Record.{recordLength, countersIn, storeRows, readHistogram}
 
 -- bytes that pass are as many as a record has
 pub framed-length : (bytes : List ℕ) → numberOf (frameRows Histogram bytes) ≡ 0 → length bytes ≡ recordLength

@@ -1,2 +1,5 @@
 pub mod Copies
 pub mod Cases
+pub mod Words
+pub mod WriterCases
+pub mod Again

@@ -5,7 +5,7 @@ use Prim.Native.Nat.{ℕ, suc, _+_, _/_, _%_}
 use native.Mathlib.Omega.{arith}
 use lib.ListN.{set}
 use lib.Seq.{sets}
-use Rattle.fields.specs.Field.{lowBytes}
+use Rattle.base_fields.specs.Field.{lowBytes}
 
 pub four-stores : (out : List ℕ) (at word : ℕ)
     → set (set (set (set out at (word % 256)) (at + 1) (word / 256 % 256)) (at + 2) (word / 256 / 256 % 256)) (at + 3) (word / 256 / 256 / 256 % 256)

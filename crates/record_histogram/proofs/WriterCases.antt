@@ -5,13 +5,13 @@ use Prim.Native.Nat.{ℕ, _+_, _≤_}
 use native.Mathlib.Omega.{arith}
 use lib.ListN.{length, drop}
 use lib.Seq.{sets}
-use Rattle.histogram_bins.specs.Bin.{bins}
-use Rattle.layout.specs.declared.Kind.the-variants.{Histogram}
-use Rattle.layout.specs.Layout.{histogramLength, headWidth, orderOf, allBytes, withHead}
-use Rattle.layout.proofs.Heads.{record-length, record-put}
-use Rattle.layout.proofs.Runs.{all-length}
-use Rattle.histogram_reader.specs.Record.{countWidth, recordLength}
-use Rattle.histogram_writer.specs.Writing.{histogramRecord}
+use Rattle.bins.specs.Bin.{bins}
+use Rattle.record_layout.specs.declared.Kind.the-variants.{Histogram}
+use Rattle.record_layout.specs.Layout.{histogramLength, headWidth, orderOf, allBytes, withHead}
+use Rattle.record_layout.proofs.Heads.{record-length, record-put}
+use Rattle.record_layout.proofs.Runs.{all-length}
+use Rattle.record_histogram.specs.Record.{countWidth, recordLength}
+use Rattle.record_histogram.specs.Writing.{histogramRecord}
 
 module _ (counters : List ℕ) (h : length counters ≡ bins) where
   pub body-length : length (allBytes (orderOf Histogram) countWidth counters) ≡ 4000

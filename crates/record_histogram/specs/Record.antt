@@ -2,13 +2,13 @@
 use Prim.Native.Nat.{ℕ, _+_}
 use mathlib.Core.Bool.{not}
 use mathlib.Core.List.{List, [], _∷_, _++_}
-use Rattle.refusals.specs.Refusal.{STORE}
-use Rattle.refusals.specs.Outcome.{Outcome, went, NoValues, done}
-use Rattle.refusals.specs.Rows.{Row, row, byRows}
-use Rattle.histogram_bins.specs.Bin.{bins}
-use Rattle.histogram.specs.Histogram.{isHistogram}
-use Rattle.layout.specs.declared.Kind.the-variants.{Histogram}
-use Rattle.layout.specs.Layout.{lengthWidth, histogramLength, orderOf, bodyIn, numbersIn, frameRows}
+use Rattle.base_refusals.specs.Refusal.{STORE}
+use Rattle.base_refusals.specs.Outcome.{Outcome, went, NoValues, done}
+use Rattle.base_refusals.specs.Rows.{Row, row, byRows}
+use Rattle.bins.specs.Bin.{bins}
+use Rattle.history_histogram.specs.Histogram.{isHistogram}
+use Rattle.record_layout.specs.declared.Kind.the-variants.{Histogram}
+use Rattle.record_layout.specs.Layout.{lengthWidth, histogramLength, orderOf, bodyIn, numbersIn, frameRows}
 
 -- the bytes of a counter
 abbrev pub countWidth : ℕ

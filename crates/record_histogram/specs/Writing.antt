@@ -2,13 +2,13 @@
 use Prim.Native.Nat.{ℕ}
 use mathlib.Core.Bool.{not}
 use mathlib.Core.List.{List, [], _∷_}
-use Rattle.refusals.specs.Refusal.{STORE}
-use Rattle.refusals.specs.Outcome.{Outcome}
-use Rattle.refusals.specs.Rows.{Row, row, byRows}
-use Rattle.histogram.specs.Histogram.{isHistogram}
-use Rattle.layout.specs.declared.Kind.the-variants.{Histogram}
-use Rattle.layout.specs.Layout.{orderOf, allBytes, recordOf, roomRow, writtenTo}
-use Rattle.histogram_reader.specs.Record.{countWidth}
+use Rattle.base_refusals.specs.Refusal.{STORE}
+use Rattle.base_refusals.specs.Outcome.{Outcome}
+use Rattle.base_refusals.specs.Rows.{Row, row, byRows}
+use Rattle.history_histogram.specs.Histogram.{isHistogram}
+use Rattle.record_layout.specs.declared.Kind.the-variants.{Histogram}
+use Rattle.record_layout.specs.Layout.{orderOf, allBytes, recordOf, roomRow, writtenTo}
+use Rattle.record_histogram.specs.Record.{countWidth}
 
 -- the record of counters
 unfoldable pub histogramRecord : List ℕ → List ℕ

@@ -1,17 +1,17 @@
 // Records of kind 1: the 1,000 counters of a histogram, read.
-use fields::Order;
-use histogram_bins::Count;
-use layout::Kind;
-use refusals::Answer;
+use base_fields::Order;
+use base_refusals::Answer;
+use bins::Count;
+use record_layout::Kind;
 ghost use mathlib.Core.Path.{_≡_};
 ghost use Prim.Native.Nat.{_+_, _*_, _≤_};
 ghost use lib.ListN.{length, drop};
-ghost use Rattle.refusals.specs.Outcome.{saidBy, keptBy};
-ghost use Rattle.refusals.specs.Answer.{said};
-ghost use Rattle.fields.specs.Field.{numberIn};
-ghost use Rattle.histogram_bins.specs.Bin.{bins};
-ghost use Rattle.layout.specs.Layout.{numbersIn, bodyIn};
-ghost use Rattle.histogram_reader.specs.Record.{countWidth, recordLength, readHistogram};
+ghost use Rattle.base_refusals.specs.Outcome.{saidBy, keptBy};
+ghost use Rattle.base_refusals.specs.Answer.{said};
+ghost use Rattle.base_fields.specs.Field.{numberIn};
+ghost use Rattle.bins.specs.Bin.{bins};
+ghost use Rattle.record_layout.specs.Layout.{numbersIn, bodyIn};
+ghost use Rattle.record_histogram.specs.Record.{countWidth, recordLength, readHistogram};
 
 // The bytes of each counter.
 pub const COUNT: usize = 4;
@@ -21,7 +21,7 @@ fn word_at(order: Order, bytes: &[u8], at: usize) -> u32
     ensures { λ r. ⌜ r ≡ numberIn order countWidth (drop at (now (bytes .entry))) ⌝ }
 {
     let end = at + COUNT;
-    words::word(order, &bytes[at..end])
+    base_fields::words::word(order, &bytes[at..end])
 }
 
 // Each word becomes the number in its four bytes.
@@ -52,8 +52,8 @@ fn read_counters(order: Order, bytes: &[u8], counters: &mut [Count])
     requires { ⌜ (length (now bytes) ≡ recordLength) × (length (now counters) ≡ bins) ⌝ }
     ensures { λ _. ⌜ now (counters .exit) ≡ numbersIn order countWidth bins (bodyIn (now (bytes .entry))) ⌝ }
 {
-    let mut places = [0u32; histogram_bins::BINS];
-    read_words(order, bytes, layout::HEAD, &mut places);
+    let mut places = [0u32; bins::BINS];
+    read_words(order, bytes, record_layout::HEAD, &mut places);
     copy(&places, counters);
 }
 
@@ -62,12 +62,12 @@ pub fn read_histogram(bytes: &[u8], counters: &mut [Count]) -> Answer
     ensures { λ r. ⌜ (said r ≡ saidBy (readHistogram (now (bytes .entry)) (now (counters .entry))))
         × (now (counters .exit) ≡ keptBy (now (counters .entry)) (readHistogram (now (bytes .entry)) (now (counters .entry)))) ⌝ }
 {
-    match layout::frame(Kind::Histogram, bytes) {
+    match record_layout::frame(Kind::Histogram, bytes) {
         Answer::Done => {
-            if counters.len() != histogram_bins::BINS {
-                return Answer::Refused(refusals::STORE);
+            if counters.len() != bins::BINS {
+                return Answer::Refused(base_refusals::STORE);
             }
-            read_counters(layout::order_of(Kind::Histogram), bytes, counters);
+            read_counters(record_layout::order_of(Kind::Histogram), bytes, counters);
             Answer::Done
         }
         Answer::Refused(number) => Answer::Refused(number),

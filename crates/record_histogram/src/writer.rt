@@ -1,23 +1,23 @@
 // Records of kind 1: the 1,000 counters of a histogram, written.
-use fields::Order;
-use histogram_bins::Count;
-use histogram_reader::COUNT;
-use layout::Kind;
-use layout::Written;
+use crate::reader::COUNT;
+use base_fields::Order;
+use bins::Count;
+use record_layout::Kind;
+use record_layout::Written;
 ghost use mathlib.Core.Path.{_≡_};
 ghost use Prim.Native.Nat.{_+_, _*_, _≤_};
 ghost use lib.ListN.{length};
 ghost use lib.Seq.{sets};
-ghost use Rattle.refusals.specs.Outcome.{saidBy, keptBy};
-ghost use Rattle.fields.specs.Field.{lowBytes, bytesOf};
-ghost use Rattle.histogram_bins.specs.Bin.{bins};
-ghost use Rattle.layout.specs.Layout.{headWidth, allBytes};
-ghost use Rattle.layout.specs.Written.{said};
-ghost use Rattle.histogram_reader.specs.Record.{countWidth, recordLength};
-ghost use Rattle.histogram_writer.specs.Writing.{writeHistogram};
+ghost use Rattle.base_refusals.specs.Outcome.{saidBy, keptBy};
+ghost use Rattle.base_fields.specs.Field.{lowBytes, bytesOf};
+ghost use Rattle.bins.specs.Bin.{bins};
+ghost use Rattle.record_layout.specs.Layout.{headWidth, allBytes};
+ghost use Rattle.record_layout.specs.Written.{said};
+ghost use Rattle.record_histogram.specs.Record.{countWidth, recordLength};
+ghost use Rattle.record_histogram.specs.Writing.{writeHistogram};
 
 // The bytes of a whole record.
-const RECORD: usize = layout::LENGTH_BYTES + layout::HISTOGRAM_LENGTH as usize;
+const RECORD: usize = record_layout::LENGTH_BYTES + record_layout::HISTOGRAM_LENGTH as usize;
 
 fn put_low_word(out: &mut [u8], at: usize, word: u32)
     requires { ⌜ at + countWidth ≤ length (now out) ⌝ }
@@ -58,13 +58,13 @@ fn write_counters(order: Order, counters: &[Count], out: &mut [u8])
     requires { ⌜ (length (now counters) ≡ bins) × (recordLength ≤ length (now out)) ⌝ }
     ensures { λ _. ⌜ now (out .exit) ≡ sets (now (out .entry)) headWidth (allBytes order countWidth (now (counters .entry))) ⌝ }
 {
-    let mut places = [0u32; histogram_bins::BINS];
+    let mut places = [0u32; bins::BINS];
     let mut i = 0;
     while i < counters.len() {
         places[i] = counters[i];
         i += 1;
     }
-    write_words(order, &places, out, layout::HEAD);
+    write_words(order, &places, out, record_layout::HEAD);
 }
 
 // The record of a histogram, at the output's first places.
@@ -72,13 +72,13 @@ pub fn write_histogram(counters: &[Count], out: &mut [u8]) -> Written
     ensures { λ r. ⌜ (said r ≡ saidBy (writeHistogram (now (counters .entry)) (now (out .entry))))
         × (now (out .exit) ≡ keptBy (now (out .entry)) (writeHistogram (now (counters .entry)) (now (out .entry)))) ⌝ }
 {
-    if counters.len() != histogram_bins::BINS {
-        return Written::Refused(refusals::STORE);
+    if counters.len() != bins::BINS {
+        return Written::Refused(base_refusals::STORE);
     }
     if out.len() < RECORD {
-        return Written::Refused(refusals::ROOM);
+        return Written::Refused(base_refusals::ROOM);
     }
-    layout::put_head(Kind::Histogram, layout::HISTOGRAM_LENGTH, out);
-    write_counters(layout::order_of(Kind::Histogram), counters, out);
+    record_layout::put_head(Kind::Histogram, record_layout::HISTOGRAM_LENGTH, out);
+    write_counters(record_layout::order_of(Kind::Histogram), counters, out);
     Written::Bytes(RECORD)
 }

@@ -7,15 +7,15 @@ use Prim.Native.Nat.{ℕ, _+_, _*_, _^_, _<_}
 use native.Mathlib.Omega.{arith}
 use lib.ListN.{length, getD, take, length-drop, take-append-drop}
 use lib.Seq.{drop-at, take-all, take-add}
-use Rattle.fields.specs.declared.Order.{Order}
-use Rattle.fields.specs.Field.{fieldAt, lowBytes}
-use Rattle.fields.proofs.Written.{low-length, field-from, read-low, low-field}
-use Rattle.layout.specs.declared.Kind.{Kind}
-use Rattle.layout.specs.declared.Kind.the-variants.{Histogram, Queue}
-use Rattle.layout.specs.Layout.{kindNumber, canBe, kindWidth, headWidth, lengthIn, kindIn, bodyIn, numbersIn, allBytes, headOf, recordOf}
-use Rattle.layout.proofs.Frames.{Framed}
-use Rattle.layout.proofs.Heads.{head-length, record-length}
-use Rattle.layout.proofs.Runs.{all-read, all-written}
+use Rattle.base_fields.specs.declared.Order.{Order}
+use Rattle.base_fields.specs.Field.{fieldAt, lowBytes}
+use Rattle.base_fields.proofs.Written.{low-length, field-from, read-low, low-field}
+use Rattle.record_layout.specs.declared.Kind.{Kind}
+use Rattle.record_layout.specs.declared.Kind.the-variants.{Histogram, Queue}
+use Rattle.record_layout.specs.Layout.{kindNumber, canBe, kindWidth, headWidth, lengthIn, kindIn, bodyIn, numbersIn, allBytes, headOf, recordOf}
+use Rattle.record_layout.proofs.Frames.{Framed}
+use Rattle.record_layout.proofs.Heads.{head-length, record-length}
+use Rattle.record_layout.proofs.Runs.{all-read, all-written}
 
 -- ---- what was written
 module _ (kind : Kind) (body : List ℕ) where

@@ -6,12 +6,12 @@ use Prim.Native.Nat.{ℕ, _-_, _≤_}
 use borrow.Author.Tests.{le-ltb, ltb-false, eq-eqb, eqb-true, not-false}
 use lib.Dec.{eqb}
 use lib.ListN.{length}
-use Rattle.refusals.specs.Refusal.{LENGTH, KIND}
-use Rattle.refusals.specs.Rows.{numberOf}
-use Rattle.refusals.proofs.Rows.{not-held}
-use Rattle.layout.specs.declared.Kind.{Kind}
-use Rattle.layout.specs.Layout.{kindNumber, canBe, headWidth, lengthWidth, lengthIn, kindIn, frameRows}
-use Rattle.refusals.proofs.Rows.{not-held-after}
+use Rattle.base_refusals.specs.Refusal.{LENGTH, KIND}
+use Rattle.base_refusals.specs.Rows.{numberOf}
+use Rattle.base_refusals.proofs.Rows.{not-held}
+use Rattle.record_layout.specs.declared.Kind.{Kind}
+use Rattle.record_layout.specs.Layout.{kindNumber, canBe, headWidth, lengthWidth, lengthIn, kindIn, frameRows}
+use Rattle.base_refusals.proofs.Rows.{not-held-after}
 
 -- bytes that pass
 pub record Framed (kind : Kind) (bytes : List ℕ) : Type 0 where

@@ -8,10 +8,10 @@ use borrow.Author.Tests.{le-leb, lt-leb}
 use borrow.Rule.Slice.PartMut.{putMid}
 use lib.ListN.{length, take, drop, length-append, length-drop}
 use lib.Seq.{sets, sets-eq, take-at, drop-at, drop-append-add, drop-drop, length-take-le}
-use Rattle.fields.specs.Field.{lowBytes}
-use Rattle.fields.proofs.Written.{low-length}
-use Rattle.layout.specs.declared.Kind.{Kind}
-use Rattle.layout.specs.Layout.{kindNumber, kindWidth, headWidth, headOf, withHead, recordOf}
+use Rattle.base_fields.specs.Field.{lowBytes}
+use Rattle.base_fields.proofs.Written.{low-length}
+use Rattle.record_layout.specs.declared.Kind.{Kind}
+use Rattle.record_layout.specs.Layout.{kindNumber, kindWidth, headWidth, headOf, withHead, recordOf}
 
 pub head-length : (kind : Kind) (following : ℕ) → length (headOf kind following) ≡ headWidth
 head-length kind following = simp length-append (omega (arith, low-length 4 following, low-length 2 (kindNumber kind)))

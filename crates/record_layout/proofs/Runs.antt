@@ -8,10 +8,10 @@ use native.Mathlib.Omega.{arith}
 use lib.ListN.{length, getD, take, drop, length-append, length-drop}
 use lib.Pow.{pow-pos}
 use lib.Seq.{drop-at, take-add, getD-drop}
-use Rattle.fields.specs.declared.Order.{Order}
-use Rattle.fields.specs.Field.{bytesOf}
-use Rattle.fields.proofs.Orders.{bytes-length, read-again, write-again, number-small}
-use Rattle.layout.specs.Layout.{numbersIn, allBytes}
+use Rattle.base_fields.specs.declared.Order.{Order}
+use Rattle.base_fields.specs.Field.{bytesOf}
+use Rattle.base_fields.proofs.Orders.{bytes-length, read-again, write-again, number-small}
+use Rattle.record_layout.specs.Layout.{numbersIn, allBytes}
 
 pub numbers-length : (order : Order) (width count : ℕ) (bytes : List ℕ) → length (numbersIn order width count bytes) ≡ count
 unfolding numbersIn

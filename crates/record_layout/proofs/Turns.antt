@@ -7,10 +7,10 @@ use native.Mathlib.Omega.{arith}
 use lib.ListN.{length, getD, take, drop, set}
 use lib.Seq.{sets, drop-cons, drop-drop, take-suc-set, take-all}
 use lib.ListN.{drop-of-length-le}
-use Rattle.fields.specs.declared.Order.{Order}
-use Rattle.fields.specs.Field.{numberIn, bytesOf}
-use Rattle.fields.proofs.Orders.{bytes-length}
-use Rattle.layout.specs.Layout.{numbersIn, allBytes}
+use Rattle.base_fields.specs.declared.Order.{Order}
+use Rattle.base_fields.specs.Field.{numberIn, bytesOf}
+use Rattle.base_fields.proofs.Orders.{bytes-length}
+use Rattle.record_layout.specs.Layout.{numbersIn, allBytes}
 
 -- ---- reading
 -- before the first turn all are left

@@ -5,14 +5,14 @@ use mathlib.Core.Bool.{Bool, not, cond}
 use mathlib.Core.List.{List, [], _∷_, _++_}
 use lib.Dec.{eqb, leb, ltb}
 use lib.ListN.{length, drop}
-use Rattle.refusals.specs.Refusal.{LENGTH, KIND, ROOM}
-use Rattle.refusals.specs.Outcome.{Outcome, went, Question, answers, NoValues, done}
-use Rattle.refusals.specs.Rows.{Row, row, byRows}
-use Rattle.fields.specs.declared.Order.{Order}
-use Rattle.fields.specs.declared.Order.the-variants.{LowFirst}
-use Rattle.fields.specs.Field.{fieldAt, lowBytes, numberIn, bytesOf}
-use Rattle.layout.specs.declared.Kind.{Kind}
-use Rattle.layout.specs.declared.Kind.the-variants.{Histogram, Queue}
+use Rattle.base_refusals.specs.Refusal.{LENGTH, KIND, ROOM}
+use Rattle.base_refusals.specs.Outcome.{Outcome, went, Question, answers, NoValues, done}
+use Rattle.base_refusals.specs.Rows.{Row, row, byRows}
+use Rattle.base_fields.specs.declared.Order.{Order}
+use Rattle.base_fields.specs.declared.Order.the-variants.{LowFirst}
+use Rattle.base_fields.specs.Field.{fieldAt, lowBytes, numberIn, bytesOf}
+use Rattle.record_layout.specs.declared.Kind.{Kind}
+use Rattle.record_layout.specs.declared.Kind.the-variants.{Histogram, Queue}
 
 -- ---- fields one after the other
 -- the numbers in so many fields of one width, one after the other

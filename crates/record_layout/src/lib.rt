@@ -1,10 +1,10 @@
 // What records have in common: the length and the kind in front, and how a record is written.
-use fields::Order;
-use refusals::Answer;
+use base_fields::Order;
+use base_refusals::Answer;
 ghost use mathlib.Core.Path.{_≡_};
-ghost use Rattle.refusals.specs.Outcome.{saidBy};
-ghost use Rattle.refusals.specs.Answer.{said};
-ghost use Rattle.layout.specs.Layout.{kindNumber, orderOf, canBe, frameOf, withHead};
+ghost use Rattle.base_refusals.specs.Outcome.{saidBy};
+ghost use Rattle.base_refusals.specs.Answer.{said};
+ghost use Rattle.record_layout.specs.Layout.{kindNumber, orderOf, canBe, frameOf, withHead};
 
 // The bytes of the length, and of length and kind.
 pub const LENGTH_BYTES: usize = 4;
@@ -62,19 +62,19 @@ pub fn frame(kind: Kind, bytes: &[u8]) -> Answer
     ensures { λ r. ⌜ said r ≡ saidBy (frameOf kind (now (bytes .entry))) ⌝ }
 {
     if bytes.len() < HEAD {
-        return Answer::Refused(refusals::LENGTH);
+        return Answer::Refused(base_refusals::LENGTH);
     }
-    if fields::number_at(bytes, LENGTH_BYTES, 2) != kind_number(kind) {
-        return Answer::Refused(refusals::KIND);
+    if base_fields::number_at(bytes, LENGTH_BYTES, 2) != kind_number(kind) {
+        return Answer::Refused(base_refusals::KIND);
     }
-    let length = fields::number_at(bytes, 0, LENGTH_BYTES);
+    let length = base_fields::number_at(bytes, 0, LENGTH_BYTES);
     if length != (bytes.len() - LENGTH_BYTES) as u64 {
-        return Answer::Refused(refusals::LENGTH);
+        return Answer::Refused(base_refusals::LENGTH);
     }
     if can_be(kind, length) {
         Answer::Done
     } else {
-        Answer::Refused(refusals::LENGTH)
+        Answer::Refused(base_refusals::LENGTH)
     }
 }
 
@@ -83,8 +83,8 @@ pub fn put_head(kind: Kind, length: u64, out: &mut [u8])
     ensures { λ _. ⌜ now (out .exit) ≡ withHead kind length (now (out .entry)) ⌝ }
 {
     if HEAD <= out.len() {
-        fields::put_number(Order::LowFirst, &mut out[..LENGTH_BYTES], length);
-        fields::put_number(
+        base_fields::put_number(Order::LowFirst, &mut out[..LENGTH_BYTES], length);
+        base_fields::put_number(
             Order::LowFirst,
             &mut out[LENGTH_BYTES..HEAD],
             kind_number(kind),

@@ -9,19 +9,19 @@ use lib.Dec.{eqb, leb}
 use lib.ListN.{length, length-map, drop}
 use lib.Seq.{sets, sets-eq}
 use lib.Ieee.{Float, ofBits, binary64}
-use Rattle.refusals.specs.Refusal.{STORE, LENGTH, CONTENT}
-use Rattle.refusals.specs.Outcome.{went}
-use Rattle.refusals.specs.Rows.{numberOf}
-use Rattle.refusals.proofs.Rows.{goes, not-held}
-use Rattle.fields.specs.declared.Order.{Order}
-use Rattle.queue.specs.Queue.{longest}
-use Rattle.layout.specs.declared.Kind.the-variants.{Queue as QueueKind}
-use Rattle.layout.specs.Layout.{lengthWidth, queueLeast, orderOf, lengthIn, frameRows}
-use Rattle.refusals.proofs.Rows.{not-held-after}
-use Rattle.refusals.proofs.Behind.{goes-on}
-use Rattle.layout.proofs.Frames.{framed}
-use Rattle.layout.proofs.Runs.{numbers-length}
-use Rattle.queue_reader.specs.QueueRecord.{
+use Rattle.base_refusals.specs.Refusal.{STORE, LENGTH, CONTENT}
+use Rattle.base_refusals.specs.Outcome.{went}
+use Rattle.base_refusals.specs.Rows.{numberOf}
+use Rattle.base_refusals.proofs.Rows.{goes, not-held}
+use Rattle.base_fields.specs.declared.Order.{Order}
+use Rattle.history_queue.specs.Queue.{longest}
+use Rattle.record_layout.specs.declared.Kind.the-variants.{Queue as QueueKind}
+use Rattle.record_layout.specs.Layout.{lengthWidth, queueLeast, orderOf, lengthIn, frameRows}
+use Rattle.base_refusals.proofs.Rows.{not-held-after}
+use Rattle.base_refusals.proofs.Behind.{goes-on}
+use Rattle.record_layout.proofs.Frames.{framed}
+use Rattle.record_layout.proofs.Runs.{numbers-length}
+use Rattle.record_queue_reader.specs.QueueRecord.{
   energyWidth,
   leastLength,
   maximumIn,
@@ -35,7 +35,7 @@ use Rattle.queue_reader.specs.QueueRecord.{
   bodyRows,
   readQueue,
 }
-use Rattle.queue_reader.specs.Inner.{bodyRead}
+use Rattle.record_queue_reader.specs.Inner.{bodyRead}
 
 -- ---- bytes that pass the frame
 module _ (bytes : List ℕ) (e : numberOf (frameRows QueueKind bytes) ≡ 0) where

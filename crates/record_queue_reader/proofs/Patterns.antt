@@ -14,17 +14,17 @@ use lib.Dec.{T, eqb, leb, ltb, eqb→eq}
 use lib.Ieee.Positive.{positive, above, above-of-le}
 use lib.Ieee.Bits.{nanBits-is}
 use lib.Ieee.{Float, nan, inf, fin, Format, prec, low, hid, ones, odd, ofFields, ofBits, binary64, isNan, nanBits, lt, le}
-use Rattle.floats.proofs.Order.{is-true, is-false, lt-not-le, le-nan, le-infinity, total}
-use Rattle.floats.proofs.Nan.{only-nan, nan-pattern, to-infinity, past-infinity}
-use Rattle.histogram_bins.specs.Energy.{dropped}
-use Rattle.tables.specs.Tables.{boundaryAt}
-use Rattle.tables.proofs.Rules.{boundary-positive}
-use Rattle.fields.specs.declared.Order.{Order}
-use Rattle.fields.specs.Field.{numberIn}
-use Rattle.layout.specs.Layout.{numbersIn}
-use Rattle.layout.proofs.Turns.{next-number}
-use Rattle.queue_reader.specs.QueueRecord.{nanPattern, patternFits, every, allFit, energiesOf}
-use Rattle.queue_reader.specs.Inner.{infinityPattern, finiteFits, allFinite}
+use Rattle.base_floats.proofs.Order.{is-true, is-false, lt-not-le, le-nan, le-infinity, total}
+use Rattle.base_floats.proofs.Nan.{only-nan, nan-pattern, to-infinity, past-infinity}
+use Rattle.bins.specs.Energy.{dropped}
+use Rattle.bins_tables.specs.Tables.{boundaryAt}
+use Rattle.bins_tables.proofs.Rules.{boundary-positive}
+use Rattle.base_fields.specs.declared.Order.{Order}
+use Rattle.base_fields.specs.Field.{numberIn}
+use Rattle.record_layout.specs.Layout.{numbersIn}
+use Rattle.record_layout.proofs.Turns.{next-number}
+use Rattle.record_queue_reader.specs.QueueRecord.{nanPattern, patternFits, every, allFit, energiesOf}
+use Rattle.record_queue_reader.specs.Inner.{infinityPattern, finiteFits, allFinite}
 
 -- ---- which patterns fit
 own : (pattern : ℕ) → T (eqb pattern nanPattern) → isNan (ofBits binary64 pattern) ≡ true

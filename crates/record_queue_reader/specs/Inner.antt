@@ -4,11 +4,11 @@ use mathlib.Core.Bool.{Bool, _&&_}
 use mathlib.Core.List.{List}
 use lib.Dec.{ltb}
 use lib.Ieee.{Float}
-use Rattle.refusals.specs.Outcome.{Outcome, went}
-use Rattle.refusals.specs.Rows.{byRows}
-use Rattle.fields.specs.declared.Order.{Order}
-use Rattle.queue.specs.declared.Queue.{Queue}
-use Rattle.queue_reader.specs.QueueRecord.{patternFits, every, stored, queueIn, bodyRows}
+use Rattle.base_refusals.specs.Outcome.{Outcome, went}
+use Rattle.base_refusals.specs.Rows.{byRows}
+use Rattle.base_fields.specs.declared.Order.{Order}
+use Rattle.history_queue.specs.declared.Queue.{Queue}
+use Rattle.record_queue_reader.specs.QueueRecord.{patternFits, every, stored, queueIn, bodyRows}
 
 -- infinity's: every pattern below it is that of a finite float, none of them negative
 abbrev pub infinityPattern : ℕ

@@ -6,18 +6,18 @@ use mathlib.Core.List.{List, [], _∷_, _++_, map}
 use lib.Dec.{eqb, leb}
 use lib.ListN.{length, drop}
 use lib.Ieee.{Float, binary64, ofBits, toBits, isNan}
-use Rattle.refusals.specs.Refusal.{STORE, LENGTH, CONTENT}
-use Rattle.refusals.specs.Outcome.{Outcome, went, Said, says, refusal}
-use Rattle.refusals.specs.Rows.{Row, row, byRows}
-use Rattle.fields.specs.declared.Order.{Order}
-use Rattle.fields.specs.Field.{numberIn}
-use Rattle.queue.specs.declared.Queue.{Queue}
-use Rattle.histogram_bins.specs.Energy.{dropped}
-use Rattle.queue.specs.Queue.{longest}
-use Rattle.layout.specs.declared.Kind.the-variants.{Queue as QueueKind}
-use Rattle.layout.specs.Layout.{lengthWidth, headWidth, queueLeast, orderOf, numbersIn, lengthIn, frameRows}
-use Rattle.queue_reader.specs.declared.Received.{Received}
-use Rattle.queue_reader.specs.declared.Received.the-variants.{Held, Refused}
+use Rattle.base_refusals.specs.Refusal.{STORE, LENGTH, CONTENT}
+use Rattle.base_refusals.specs.Outcome.{Outcome, went, Said, says, refusal}
+use Rattle.base_refusals.specs.Rows.{Row, row, byRows}
+use Rattle.base_fields.specs.declared.Order.{Order}
+use Rattle.base_fields.specs.Field.{numberIn}
+use Rattle.history_queue.specs.declared.Queue.{Queue}
+use Rattle.bins.specs.Energy.{dropped}
+use Rattle.history_queue.specs.Queue.{longest}
+use Rattle.record_layout.specs.declared.Kind.the-variants.{Queue as QueueKind}
+use Rattle.record_layout.specs.Layout.{lengthWidth, headWidth, queueLeast, orderOf, numbersIn, lengthIn, frameRows}
+use Rattle.record_queue_reader.specs.declared.Received.{Received}
+use Rattle.record_queue_reader.specs.declared.Received.the-variants.{Held, Refused}
 
 -- what each case of `Received` says
 abbrev pub said : Received → Said Queue

@@ -1,20 +1,20 @@
 // Records of kind 2: the energies of a queue, oldest first, read.
-use fields::Order;
-use floats::INFINITY_PATTERN;
-use floats::NAN_PATTERN;
-use layout::Kind;
-use queue::Queue;
-use refusals::Answer;
+use base_fields::Order;
+use base_floats::INFINITY_PATTERN;
+use base_floats::NAN_PATTERN;
+use base_refusals::Answer;
+use history_queue::Queue;
+use record_layout::Kind;
 ghost use mathlib.Core.Path.{_≡_};
 ghost use mathlib.Core.Bool.{true};
 ghost use Prim.Native.Nat.{_+_, _-_, _*_, _≤_};
 ghost use lib.ListN.{length, drop};
 ghost use lib.Seq.{sets};
 ghost use lib.Ieee.{binary64, ofBits};
-ghost use Rattle.refusals.specs.Outcome.{saidBy, keptBy};
-ghost use Rattle.fields.specs.Field.{numberIn};
-ghost use Rattle.layout.specs.Layout.{numbersIn, lengthIn, lengthWidth};
-ghost use Rattle.queue_reader.specs.QueueRecord.{
+ghost use Rattle.base_refusals.specs.Outcome.{saidBy, keptBy};
+ghost use Rattle.base_fields.specs.Field.{numberIn};
+ghost use Rattle.record_layout.specs.Layout.{numbersIn, lengthIn, lengthWidth};
+ghost use Rattle.record_queue_reader.specs.QueueRecord.{
   numberWidth,
   energyWidth,
   leastLength,
@@ -25,7 +25,7 @@ ghost use Rattle.queue_reader.specs.QueueRecord.{
   readQueue,
   said,
 };
-ghost use Rattle.queue_reader.specs.Inner.{finiteFits, allFinite, bodyRead};
+ghost use Rattle.record_queue_reader.specs.Inner.{finiteFits, allFinite, bodyRead};
 
 // The bytes of a number, and of an energy.
 pub const NUMBER: usize = 4;
@@ -33,7 +33,7 @@ pub const NUMBER: usize = 4;
 pub const ENERGY: usize = 8;
 
 // Where the fields of the body start: the maximum, the number of energies held, and the energies.
-pub const MAXIMUM_AT: usize = layout::HEAD;
+pub const MAXIMUM_AT: usize = record_layout::HEAD;
 
 pub const HELD_AT: usize = MAXIMUM_AT + NUMBER;
 
@@ -51,7 +51,7 @@ fn numbers_fit(maximum: usize, held: usize) -> bool
     if maximum < 1 {
         return false;
     }
-    if maximum > queue::LONGEST {
+    if maximum > history_queue::LONGEST {
         return false;
     }
     held <= maximum
@@ -62,7 +62,7 @@ fn finite_fits(pattern: u64) -> bool
     ensures { λ r. ⌜ r ≡ finiteFits pattern ⌝ }
 {
     if pattern < INFINITY_PATTERN {
-        return f64::from_bits(pattern) >= histogram_bins::lowest_boundary();
+        return f64::from_bits(pattern) >= bins::lowest_boundary();
     }
     false
 }
@@ -90,7 +90,7 @@ fn number_at(order: Order, bytes: &[u8], at: usize) -> usize
     ensures { λ r. ⌜ r ≡ numberIn order numberWidth (drop at (now (bytes .entry))) ⌝ }
 {
     let end = at + NUMBER;
-    words::word(order, &bytes[at..end]) as usize
+    base_fields::words::word(order, &bytes[at..end]) as usize
 }
 
 fn pattern_at(order: Order, bytes: &[u8], at: usize) -> u64
@@ -98,7 +98,7 @@ fn pattern_at(order: Order, bytes: &[u8], at: usize) -> u64
     ensures { λ r. ⌜ r ≡ numberIn order energyWidth (drop at (now (bytes .entry))) ⌝ }
 {
     let end = at + ENERGY;
-    words::double_word(order, &bytes[at..end])
+    base_fields::words::double_word(order, &bytes[at..end])
 }
 
 // Every pattern is looked at, also past one that does not fit.
@@ -161,16 +161,16 @@ fn read_body(order: Order, bytes: &[u8], store: &mut [f64]) -> Received
     let maximum = number_at(order, bytes, MAXIMUM_AT);
     let held = number_at(order, bytes, HELD_AT);
     if !numbers_fit(maximum, held) {
-        return Received::Refused(refusals::CONTENT);
+        return Received::Refused(base_refusals::CONTENT);
     }
     if bytes.len() != ENERGIES_AT + ENERGY * held {
-        return Received::Refused(refusals::LENGTH);
+        return Received::Refused(base_refusals::LENGTH);
     }
     if !energies_fit(order, bytes, ENERGIES_AT, held) {
-        return Received::Refused(refusals::CONTENT);
+        return Received::Refused(base_refusals::CONTENT);
     }
     if store.len() != maximum {
-        return Received::Refused(refusals::STORE);
+        return Received::Refused(base_refusals::STORE);
     }
     read_energies(order, bytes, ENERGIES_AT, held, store);
     Received::Held(Queue {
@@ -185,8 +185,8 @@ pub fn read_queue(bytes: &[u8], store: &mut [f64]) -> Received
     ensures { λ r. ⌜ (said r ≡ saidBy (readQueue (now (bytes .entry)) (now (store .entry))))
         × (now (store .exit) ≡ keptBy (now (store .entry)) (readQueue (now (bytes .entry)) (now (store .entry)))) ⌝ }
 {
-    match layout::frame(Kind::Queue, bytes) {
-        Answer::Done => read_body(layout::order_of(Kind::Queue), bytes, store),
+    match record_layout::frame(Kind::Queue, bytes) {
+        Answer::Done => read_body(record_layout::order_of(Kind::Queue), bytes, store),
         Answer::Refused(number) => Received::Refused(number),
     }
 }

@@ -10,25 +10,25 @@ use lib.ListN.{length, getD, take, drop, length-append, length-drop, take-append
 use lib.Seq.{take-at, drop-at, drop-drop, getD-drop, take-add}
 use lib.Ieee.{Float, binary64}
 use lib.Ieee.Bits.{toBits-lt}
-use Rattle.refusals.specs.Outcome.{went, Said, saidBy}
-use Rattle.refusals.specs.Rows.{numberOf}
-use Rattle.refusals.proofs.Rows.{number-parts}
-use Rattle.fields.specs.declared.Order.{Order}
-use Rattle.fields.specs.Field.{numberIn, bytesOf}
-use Rattle.fields.proofs.Orders.{bytes-length, read-again, write-again}
-use Rattle.queue.specs.declared.Queue.{Queue}
-use Rattle.queue.specs.Queue.{longest, over, heldOf, firstPart}
-use Rattle.history.specs.Set.{noneBelow}
-use Rattle.queue.proofs.Ring.{Suited, suits-it}
-use Rattle.queue.proofs.Held.{held-parts}
-use Rattle.layout.specs.declared.Kind.{Kind}
-use Rattle.layout.specs.declared.Kind.the-variants.{Queue as QueueKind}
-use Rattle.layout.specs.Layout.{kindWidth, headWidth, queueLeast, orderOf, numbersIn, allBytes, lengthIn, frameRows, recordOf}
-use Rattle.refusals.proofs.Behind.{through}
-use Rattle.layout.proofs.Frames.{Framed, framed, passes}
-use Rattle.layout.proofs.Runs.{numbers-small}
-use Rattle.layout.proofs.Again.{record-body, record-passes, record-again, whole-read, whole-written}
-use Rattle.queue_reader.specs.QueueRecord.{
+use Rattle.base_refusals.specs.Outcome.{went, Said, saidBy}
+use Rattle.base_refusals.specs.Rows.{numberOf}
+use Rattle.base_refusals.proofs.Rows.{number-parts}
+use Rattle.base_fields.specs.declared.Order.{Order}
+use Rattle.base_fields.specs.Field.{numberIn, bytesOf}
+use Rattle.base_fields.proofs.Orders.{bytes-length, read-again, write-again}
+use Rattle.history_queue.specs.declared.Queue.{Queue}
+use Rattle.history_queue.specs.Queue.{longest, over, heldOf, firstPart}
+use Rattle.history_set.specs.Set.{noneBelow}
+use Rattle.history_queue.proofs.Ring.{Suited, suits-it}
+use Rattle.history_queue.proofs.Held.{held-parts}
+use Rattle.record_layout.specs.declared.Kind.{Kind}
+use Rattle.record_layout.specs.declared.Kind.the-variants.{Queue as QueueKind}
+use Rattle.record_layout.specs.Layout.{kindWidth, headWidth, queueLeast, orderOf, numbersIn, allBytes, lengthIn, frameRows, recordOf}
+use Rattle.base_refusals.proofs.Behind.{through}
+use Rattle.record_layout.proofs.Frames.{Framed, framed, passes}
+use Rattle.record_layout.proofs.Runs.{numbers-small}
+use Rattle.record_layout.proofs.Again.{record-body, record-passes, record-again, whole-read, whole-written}
+use Rattle.record_queue_reader.specs.QueueRecord.{
   numberWidth,
   energyWidth,
   maximumAt,
@@ -47,11 +47,11 @@ use Rattle.queue_reader.specs.QueueRecord.{
   readQueueRows,
   readQueue,
 }
-use Rattle.queue_reader.proofs.Cases.{Sound, sound, read-behind, body-went, numbers-within, energies-count}
-use Rattle.queue_writer.specs.Writing.{bodyOf, queueRecord, writeQueue}
-use Rattle.queue_writer.proofs.Places.{patterns-length}
-use Rattle.queue_writer.proofs.Cases.{body-length, whole-length}
-use Rattle.queue_writer.proofs.Patterns.{Doubles, energies-again, patterns-in, patterns-again, energies-in}
+use Rattle.record_queue_reader.proofs.Cases.{Sound, sound, read-behind, body-went, numbers-within, energies-count}
+use Rattle.record_queue_writer.specs.Writing.{bodyOf, queueRecord, writeQueue}
+use Rattle.record_queue_writer.proofs.Places.{patterns-length}
+use Rattle.record_queue_writer.proofs.Cases.{body-length, whole-length}
+use Rattle.record_queue_writer.proofs.Patterns.{Doubles, energies-again, patterns-in, patterns-again, energies-in}
 
 -- two numbers that a sound queue has
 numbers-in : (maximum held : ℕ) → 1 ≤ maximum → maximum ≤ longest → held ≤ maximum → numbersFit maximum held ≡ true

@@ -6,17 +6,17 @@ use native.Mathlib.Omega.{arith}
 use lib.ListN.{length, drop, length-append}
 use lib.Seq.{sets}
 use lib.Ieee.{Float}
-use Rattle.fields.specs.declared.Order.{Order}
-use Rattle.fields.specs.Field.{bytesOf}
-use Rattle.fields.proofs.Orders.{bytes-length}
-use Rattle.layout.specs.declared.Kind.the-variants.{Queue as QueueKind}
-use Rattle.layout.specs.Layout.{queueLeast, orderOf, allBytes, withHead}
-use Rattle.layout.proofs.Heads.{record-length, record-put}
-use Rattle.layout.proofs.Runs.{all-length}
-use Rattle.layout.proofs.Turns.{sets-append}
-use Rattle.queue_reader.specs.QueueRecord.{numberWidth, energyWidth, maximumAt, heldAt, leastLength, patternsOf}
-use Rattle.queue_writer.specs.Writing.{bodyOf, queueRecord}
-use Rattle.queue_writer.proofs.Places.{patterns-length}
+use Rattle.base_fields.specs.declared.Order.{Order}
+use Rattle.base_fields.specs.Field.{bytesOf}
+use Rattle.base_fields.proofs.Orders.{bytes-length}
+use Rattle.record_layout.specs.declared.Kind.the-variants.{Queue as QueueKind}
+use Rattle.record_layout.specs.Layout.{queueLeast, orderOf, allBytes, withHead}
+use Rattle.record_layout.proofs.Heads.{record-length, record-put}
+use Rattle.record_layout.proofs.Runs.{all-length}
+use Rattle.record_layout.proofs.Turns.{sets-append}
+use Rattle.record_queue_reader.specs.QueueRecord.{numberWidth, energyWidth, maximumAt, heldAt, leastLength, patternsOf}
+use Rattle.record_queue_writer.specs.Writing.{bodyOf, queueRecord}
+use Rattle.record_queue_writer.proofs.Places.{patterns-length}
 
 pub body-length : (order : Order) (maximum : ℕ) (energies : List Float) → length (bodyOf order maximum energies) ≡ 8 + energyWidth * length energies
 body-length order maximum energies =

@@ -9,10 +9,10 @@ use lib.Dec.{T, eqb}
 use lib.ListN.{getD}
 use lib.Ieee.{Float, nan, binary64, ofBits, toBits, isNan, fits}
 use lib.Ieee.Bits.{ofBits-toBits, toBits-ofBits}
-use Rattle.floats.proofs.Nan.{only-nan}
-use Rattle.histogram_bins.specs.Energy.{dropped}
-use Rattle.history.specs.Set.{noneBelow}
-use Rattle.queue_reader.specs.QueueRecord.{nanPattern, patternFits, every, allFit, energiesOf, patternsOf}
+use Rattle.base_floats.proofs.Nan.{only-nan}
+use Rattle.bins.specs.Energy.{dropped}
+use Rattle.history_set.specs.Set.{noneBelow}
+use Rattle.record_queue_reader.specs.QueueRecord.{nanPattern, patternFits, every, allFit, energiesOf, patternsOf}
 
 -- every energy is an f64
 abbrev pub Doubles : List Float → Type 0

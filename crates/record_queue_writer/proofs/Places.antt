@@ -8,16 +8,16 @@ use borrow.Rule.Slice.PartMut.{putMid}
 use lib.ListN.{length, getD, take, drop, length-take, length-drop}
 use lib.Seq.{sets, sets-eq, drop-drop}
 use lib.Ieee.{Float, nan, toBits, binary64}
-use Rattle.queue.specs.declared.Queue.{Queue}
-use Rattle.queue.specs.Queue.{over, heldOf}
-use Rattle.queue.proofs.Held.{held-count}
-use Rattle.fields.specs.declared.Order.{Order}
-use Rattle.fields.specs.Field.{bytesOf}
-use Rattle.fields.proofs.Orders.{bytes-length}
-use Rattle.layout.specs.Layout.{allBytes}
-use Rattle.layout.proofs.Runs.{all-length, all-append}
-use Rattle.layout.proofs.Turns.{sets-append}
-use Rattle.queue_reader.specs.QueueRecord.{patternsOf}
+use Rattle.history_queue.specs.declared.Queue.{Queue}
+use Rattle.history_queue.specs.Queue.{over, heldOf}
+use Rattle.history_queue.proofs.Held.{held-count}
+use Rattle.base_fields.specs.declared.Order.{Order}
+use Rattle.base_fields.specs.Field.{bytesOf}
+use Rattle.base_fields.proofs.Orders.{bytes-length}
+use Rattle.record_layout.specs.Layout.{allBytes}
+use Rattle.record_layout.proofs.Runs.{all-length, all-append}
+use Rattle.record_layout.proofs.Turns.{sets-append}
+use Rattle.record_queue_reader.specs.QueueRecord.{patternsOf}
 
 -- a number's bytes put into a part of the output as wide as they are
 pub field-put : (order : Order) (out part : List ℕ) (at width until number : ℕ) → until ≡ at + width → at + width ≤ length out

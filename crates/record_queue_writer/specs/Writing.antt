@@ -4,16 +4,16 @@ use mathlib.Core.Bool.{not, _&&_}
 use mathlib.Core.List.{List, [], _∷_, _++_}
 use lib.ListN.{length}
 use lib.Ieee.{Float}
-use Rattle.refusals.specs.Refusal.{STORE}
-use Rattle.refusals.specs.Outcome.{Outcome}
-use Rattle.refusals.specs.Rows.{Row, row, byRows}
-use Rattle.fields.specs.declared.Order.{Order}
-use Rattle.fields.specs.Field.{bytesOf}
-use Rattle.queue.specs.Queue.{Stored, suits, heldOf}
-use Rattle.history.specs.Set.{noneBelow}
-use Rattle.layout.specs.declared.Kind.the-variants.{Queue as QueueKind}
-use Rattle.layout.specs.Layout.{orderOf, allBytes, recordOf, roomRow, writtenTo}
-use Rattle.queue_reader.specs.QueueRecord.{numberWidth, energyWidth, patternsOf}
+use Rattle.base_refusals.specs.Refusal.{STORE}
+use Rattle.base_refusals.specs.Outcome.{Outcome}
+use Rattle.base_refusals.specs.Rows.{Row, row, byRows}
+use Rattle.base_fields.specs.declared.Order.{Order}
+use Rattle.base_fields.specs.Field.{bytesOf}
+use Rattle.history_queue.specs.Queue.{Stored, suits, heldOf}
+use Rattle.history_set.specs.Set.{noneBelow}
+use Rattle.record_layout.specs.declared.Kind.the-variants.{Queue as QueueKind}
+use Rattle.record_layout.specs.Layout.{orderOf, allBytes, recordOf, roomRow, writtenTo}
+use Rattle.record_queue_reader.specs.QueueRecord.{numberWidth, energyWidth, patternsOf}
 
 -- the body of a queue that holds these energies
 abbrev pub bodyOf : Order → ℕ → List Float → List ℕ

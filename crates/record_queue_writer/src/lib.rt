@@ -1,25 +1,25 @@
 // Records of kind 2: the energies of a queue, oldest first, written.
-use fields::Order;
-use layout::Kind;
-use layout::Written;
-use queue::Queue;
-use queue_reader::ENERGIES_AT;
-use queue_reader::ENERGY;
-use queue_reader::HELD_AT;
-use queue_reader::MAXIMUM_AT;
-use queue_reader::NUMBER;
+use base_fields::Order;
+use history_queue::Queue;
+use record_layout::Kind;
+use record_layout::Written;
+use record_queue_reader::ENERGIES_AT;
+use record_queue_reader::ENERGY;
+use record_queue_reader::HELD_AT;
+use record_queue_reader::MAXIMUM_AT;
+use record_queue_reader::NUMBER;
 ghost use mathlib.Core.Path.{_≡_};
 ghost use mathlib.Core.Bool.{true};
 ghost use Prim.Native.Nat.{_+_, _*_, _≤_};
 ghost use lib.ListN.{length};
 ghost use lib.Seq.{sets};
-ghost use Rattle.refusals.specs.Outcome.{saidBy, keptBy};
-ghost use Rattle.fields.specs.Field.{bytesOf};
-ghost use Rattle.queue.specs.Queue.{over, suits, heldOf};
-ghost use Rattle.layout.specs.Layout.{allBytes};
-ghost use Rattle.layout.specs.Written.{said};
-ghost use Rattle.queue_reader.specs.QueueRecord.{energyWidth, leastLength, patternsOf};
-ghost use Rattle.queue_writer.specs.Writing.{writeQueue};
+ghost use Rattle.base_refusals.specs.Outcome.{saidBy, keptBy};
+ghost use Rattle.base_fields.specs.Field.{bytesOf};
+ghost use Rattle.history_queue.specs.Queue.{over, suits, heldOf};
+ghost use Rattle.record_layout.specs.Layout.{allBytes};
+ghost use Rattle.record_layout.specs.Written.{said};
+ghost use Rattle.record_queue_reader.specs.QueueRecord.{energyWidth, leastLength, patternsOf};
+ghost use Rattle.record_queue_writer.specs.Writing.{writeQueue};
 
 // A number goes into so many bytes.
 fn put_field(order: Order, out: &mut [u8], at: usize, width: usize, number: u64)
@@ -27,7 +27,7 @@ fn put_field(order: Order, out: &mut [u8], at: usize, width: usize, number: u64)
     ensures { λ _. ⌜ now (out .exit) ≡ sets (now (out .entry)) at (bytesOf order width number) ⌝ }
 {
     let end = at + width;
-    fields::put_number(order, &mut out[at..end], number);
+    base_fields::put_number(order, &mut out[at..end], number);
 }
 
 fn write_energies(order: Order, energies: &[f64], out: &mut [u8], at: usize)
@@ -41,7 +41,7 @@ fn write_energies(order: Order, energies: &[f64], out: &mut [u8], at: usize)
             out,
             at + ENERGY * i,
             ENERGY,
-            floats::pattern_of(energies[i]),
+            base_floats::pattern_of(energies[i]),
         );
         i += 1;
     }
@@ -67,20 +67,24 @@ pub fn write_queue(queue: Queue, store: &[f64], out: &mut [u8]) -> Written
     ensures { λ r. ⌜ (said r ≡ saidBy (writeQueue (over queue (now (store .entry))) (now (out .entry))))
         × (now (out .exit) ≡ keptBy (now (out .entry)) (writeQueue (over queue (now (store .entry))) (now (out .entry)))) ⌝ }
 {
-    if sound_stores::sound_queue(queue, store) {
+    if history_set::stores::sound_queue(queue, store) {
         let maximum = queue.maximum;
         let held = queue.held;
         let length = ENERGIES_AT + ENERGY * held;
         if out.len() < length {
-            return Written::Refused(refusals::ROOM);
+            return Written::Refused(base_refusals::ROOM);
         }
-        let order = layout::order_of(Kind::Queue);
-        layout::put_head(Kind::Queue, (length - layout::LENGTH_BYTES) as u64, out);
+        let order = record_layout::order_of(Kind::Queue);
+        record_layout::put_head(
+            Kind::Queue,
+            (length - record_layout::LENGTH_BYTES) as u64,
+            out,
+        );
         put_field(order, out, MAXIMUM_AT, NUMBER, maximum as u64);
         put_field(order, out, HELD_AT, NUMBER, held as u64);
         write_held(order, queue, store, out);
         Written::Bytes(length)
     } else {
-        Written::Refused(refusals::STORE)
+        Written::Refused(base_refusals::STORE)
     }
 }

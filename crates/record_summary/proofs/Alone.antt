@@ -7,23 +7,23 @@ use Prim.Native.Nat.{ℕ, _+_, _-_, _≤_}
 use native.Mathlib.Omega.{arith}
 use borrow.Author.Tests.{le-ltb}
 use lib.ListN.{length, length-replicate}
-use Rattle.refusals.specs.Outcome.{Outcome, went, refused, Question, answers, NoValues, done}
-use Rattle.refusals.specs.Rows.{Row, byRows}
-use Rattle.histogram_bins.specs.Bin.{bins, binOf}
-use Rattle.histogram.specs.Histogram.{empty, sums}
-use Rattle.history.specs.Set.{countersAt, anyOutside, allSound, allShow}
-use Rattle.spans.specs.Span.{Span, found, nothing, notANumber}
-use Rattle.histogram_range.specs.Counted.{addedTo, blocksIn, countedSpan}
-use Rattle.histogram_range.proofs.Adding.{sums-length}
+use Rattle.base_refusals.specs.Outcome.{Outcome, went, refused, Question, answers, NoValues, done}
+use Rattle.base_refusals.specs.Rows.{Row, byRows}
+use Rattle.bins.specs.Bin.{bins, binOf}
+use Rattle.history_histogram.specs.Histogram.{empty, sums}
+use Rattle.history_set.specs.Set.{countersAt, anyOutside, allSound, allShow}
+use Rattle.range_ranks.specs.Span.{Span, found, nothing, notANumber}
+use Rattle.range_histograms.specs.Counted.{addedTo, blocksIn, countedSpan}
+use Rattle.range_histograms.proofs.Adding.{sums-length}
 use Rattle.range.specs.Range.{queuesIn, rangeOf}
-use Rattle.layout.specs.declared.Kind.the-variants.{Histogram}
-use Rattle.layout.specs.Layout.{orderOf, bodyIn, frameRows}
-use Rattle.refusals.proofs.Behind.{made-of}
-use Rattle.layout.proofs.Runs.{numbers-length}
-use Rattle.histogram_reader.specs.Record.{countWidth, countersIn}
-use Rattle.histogram_reader.proofs.Cases.{read-by-frame}
-use Rattle.summary.specs.Summary.{Figures, ranged, rangeless, figuresBy, alone, figuresOf, figuresRead, summaryOf}
-use Rattle.summary.proofs.Rising.{Rising, counted-rises}
+use Rattle.record_layout.specs.declared.Kind.the-variants.{Histogram}
+use Rattle.record_layout.specs.Layout.{orderOf, bodyIn, frameRows}
+use Rattle.base_refusals.proofs.Behind.{made-of}
+use Rattle.record_layout.proofs.Runs.{numbers-length}
+use Rattle.record_histogram.specs.Record.{countWidth, countersIn}
+use Rattle.record_histogram.proofs.Cases.{read-by-frame}
+use Rattle.record_summary.specs.Summary.{Figures, ranged, rangeless, figuresBy, alone, figuresOf, figuresRead, summaryOf}
+use Rattle.record_summary.proofs.Rising.{Rising, counted-rises}
 
 -- ---- counters alone
 -- their range: that of the counters added to none

@@ -4,10 +4,10 @@ use mathlib.Core.List.{List, []}
 use Prim.Native.Nat.{ℕ}
 use native.Mathlib.Omega.{arith}
 use lib.Ieee.{Float}
-use Rattle.refusals.specs.Refusal.{number}
-use Rattle.refusals.specs.Outcome.{Outcome, went, refused, NoValues, done, says, refusal, saidBy, keptBy}
+use Rattle.base_refusals.specs.Refusal.{number}
+use Rattle.base_refusals.specs.Outcome.{Outcome, went, refused, NoValues, done, says, refusal, saidBy, keptBy}
 use Rattle.range.specs.Range.{Span, found, nothing, notANumber}
-use Rattle.summary.specs.Summary.{figuresBy, figuresOf, figuresRead}
+use Rattle.record_summary.specs.Summary.{figuresBy, figuresOf, figuresRead}
 
 module _ (blocks : ℕ) where
   pub span-figures : (o : Outcome (List Float) Span) (span : Span) → says span ≡ saidBy o → saidBy (figuresBy blocks o) ≡ saidBy (figuresBy blocks (went [] span))

@@ -8,15 +8,15 @@ use native.Mathlib.Omega.{arith}
 use borrow.Author.Tests.{ltb-true, ltb-false, eqb-false}
 use lib.Dec.{eqb, ltb}
 use lib.ListN.{length, take}
-use Rattle.histogram_bins.specs.Bin.{bins, binOf}
-use Rattle.histogram_bins.proofs.Bins.{bin-of-energy}
+use Rattle.bins.specs.Bin.{bins, binOf}
+use Rattle.bins.proofs.Bins.{bin-of-energy}
 use Rattle.gate.specs.declared.blocks.Totals.{Totals}
 use Rattle.gate.specs.Totals.{none, binsFrom}
 use Rattle.gate.specs.Start.{startBin}
-use Rattle.ranks.specs.Ranks.{lowRank, highRank}
-use Rattle.spans.specs.Span.{Span, found, nothing, notANumber, gateEnergy}
-use Rattle.histogram_range.specs.Counted.{blocksIn, runningFrom, firstPast, rankedIn, leftIn, gatedBlocks, countedSpan}
-use Rattle.histogram_range.proofs.Counting.{count-is, blocks-part}
+use Rattle.range_ranks.specs.Ranks.{lowRank, highRank}
+use Rattle.range_ranks.specs.Span.{Span, found, nothing, notANumber, gateEnergy}
+use Rattle.range_histograms.specs.Counted.{blocksIn, runningFrom, firstPast, rankedIn, leftIn, gatedBlocks, countedSpan}
+use Rattle.range_histograms.proofs.Counting.{count-is, blocks-part}
 
 -- ---- the first bin whose running count passes a rank
 first-from : (rank bin : ℕ) (running : List ℕ) → bin ≤ firstPast rank bin running

@@ -4,16 +4,16 @@ use Prim.Native.Nat.{ℕ, _-_}
 use mathlib.Core.List.{List, []}
 use lib.ListN.{replicate}
 use lib.Ieee.{Float}
-use Rattle.refusals.specs.Outcome.{Outcome, went, refused, Question, answers, NoValues, Said, says, refusal}
-use Rattle.histogram_bins.specs.Bin.{binOf}
-use Rattle.history.specs.declared.set.Shape.the-variants.{Histogram}
-use Rattle.histogram.specs.Histogram.{empty}
-use Rattle.history.specs.Set.{mostHistories, Histories, histories}
+use Rattle.base_refusals.specs.Outcome.{Outcome, went, refused, Question, answers, NoValues, Said, says, refusal}
+use Rattle.bins.specs.Bin.{binOf}
+use Rattle.history_set.specs.declared.set.Shape.the-variants.{Histogram}
+use Rattle.history_histogram.specs.Histogram.{empty}
+use Rattle.history_set.specs.Set.{mostHistories, Histories, histories}
 use Rattle.range.specs.Range.{Span, found, nothing, notANumber, rangeOf}
-use Rattle.histogram_range.specs.Counted.{blocksIn}
-use Rattle.histogram_reader.specs.Record.{readHistogram}
-use Rattle.summary.specs.declared.Summary.{Summary}
-use Rattle.summary.specs.declared.Summary.the-variants.{Ranged, Rangeless, Refused}
+use Rattle.range_histograms.specs.Counted.{blocksIn}
+use Rattle.record_histogram.specs.Record.{readHistogram}
+use Rattle.record_summary.specs.declared.Summary.{Summary}
+use Rattle.record_summary.specs.declared.Summary.the-variants.{Ranged, Rangeless, Refused}
 
 -- the lines of a report: the total, the bins of the two energies and the range; or the total alone
 pub data Figures : Type 0 where

@@ -1,16 +1,16 @@
 // The figures of a report on one histogram's record: how many blocks, the bins of the range's two energies, and the range in tenths.
-use histogram_bins::Count;
-use history::set::Entry;
-use history::set::Shape;
-use refusals::Answer;
-use spans::Range;
+use base_refusals::Answer;
+use bins::Count;
+use history_set::set::Entry;
+use history_set::set::Shape;
+use range_ranks::spans::Range;
 ghost use mathlib.Core.Path.{_≡_};
 ghost use Prim.Native.Nat.{_-_};
 ghost use lib.ListN.{length};
-ghost use Rattle.refusals.specs.Outcome.{saidBy};
-ghost use Rattle.histogram_bins.specs.Bin.{bins};
-ghost use Rattle.histogram_range.specs.Counted.{blocksIn};
-ghost use Rattle.summary.specs.Summary.{said, figuresOf, summaryOf};
+ghost use Rattle.base_refusals.specs.Outcome.{saidBy};
+ghost use Rattle.bins.specs.Bin.{bins};
+ghost use Rattle.range_histograms.specs.Counted.{blocksIn};
+ghost use Rattle.record_summary.specs.Summary.{said, figuresOf, summaryOf};
 
 // What a report says.
 pub enum Summary {
@@ -31,7 +31,7 @@ fn blocks_in(counters: &[Count]) -> u64
     let mut blocks: u64 = 0;
     let mut bin = 0;
     while bin < counters.len() {
-        blocks = blocks + histogram_bins::wide(counters[bin]);
+        blocks = blocks + bins::wide(counters[bin]);
         bin += 1;
     }
     blocks
@@ -56,8 +56,8 @@ fn figures(counters: &[Count]) -> Summary
     let mut work = [0.0f64; 0];
     match range::loudness_range(entries, 1, counters, &energies, &mut work) {
         Range::Found(low, high) => {
-            let low = bin_search::find_histogram_index(low);
-            let high = bin_search::find_histogram_index(high);
+            let low = bins::search::find_histogram_index(low);
+            let high = bins::search::find_histogram_index(high);
             Summary::Ranged {
                 blocks,
                 low,
@@ -75,8 +75,8 @@ fn figures(counters: &[Count]) -> Summary
 pub fn of_record(bytes: &[u8]) -> Summary
     ensures { λ r. ⌜ said r ≡ saidBy (summaryOf (now (bytes .entry))) ⌝ }
 {
-    let mut counters: [Count; histogram_bins::BINS] = [0; histogram_bins::BINS];
-    match histogram_reader::read_histogram(bytes, &mut counters) {
+    let mut counters: [Count; bins::BINS] = [0; bins::BINS];
+    match record_histogram::reader::read_histogram(bytes, &mut counters) {
         Answer::Done => figures(&counters),
         Answer::Refused(number) => Summary::Refused(number),
     }

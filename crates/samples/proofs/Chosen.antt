@@ -12,9 +12,9 @@ use lib.IntN.{ℤ}
 use lib.ListN.{length, getD, take, drop, length-drop, length-map, drop-of-length-le}
 use lib.Seq.{sets, take-all}
 use lib.Ieee.{Float}
 use Rattle.samples.specs.Sample.{sampleOf16, sampleOfF32}
 use Rattle.samples.proofs.Columns.{entry-of}
-use Rattle.sources.specs.Source.{sourceOf}
+use Rattle.samples.specs.Source.{sourceOf}
 
 -- ---- the samples of a call
 

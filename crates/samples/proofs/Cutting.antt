@@ -9,14 +9,18 @@ use lib.IntN.{ℤ}
 use lib.ListN.{length, getD, drop, length-drop}
 use lib.Seq.{sets, getD-drop}
 use lib.Ieee.{Float}
-use Rattle.samples.specs.Frames.{silence, framesOf, column}
+use Rattle.samples.specs.Frames.{silence, framesOf, column, mostChannels}
 use Rattle.samples.proofs.Columns.{frames-of, column-append, column-agrees}
-use Rattle.calls.specs.Calls.{mostChannels}
-use Rattle.calls.proofs.Checking.{Framed}
-use Rattle.sources.specs.Blocks.{Whole}
-use Rattle.sources.specs.Source.{sourceOf}
+use Rattle.samples.specs.Blocks.{Whole}
+use Rattle.samples.specs.Source.{sourceOf}
 use Rattle.samples.proofs.Stored.{at-within}
-use Rattle.sources.proofs.ByKind.{source-below}
+use Rattle.samples.proofs.Chosen.{source-below}
+
+-- the samples are whole frames of few channels
+pub record Framed (channels samples : ℕ) : Type 0 where
+  pub some : 0 < channels
+  pub few : channels ≤ mostChannels
+  pub whole : samples / channels * channels ≡ samples
 
 -- ---- a block that was filled from place `far` on
 

@@ -13,7 +13,7 @@ use lib.Ieee.Exact.{HasValue, round-exact}
 use lib.Ieee.Fits.{down-pos, div-fits, fits-widens}
 use lib.Ieee.Back.{round-whole}
 use Rattle.samples.specs.Sample.{fullScale16, sampleIn}
-use Rattle.floats.proofs.Value.{same-float}
+use Rattle.base_floats.proofs.Value.{same-float}
 
 -- sign and size of a whole number
 abbrev pub negative : ℤ → Bool

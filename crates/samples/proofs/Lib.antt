@@ -2,3 +2,8 @@ pub mod Exact
 pub mod ByKind
 pub mod Columns
 pub mod Stored
+pub mod Fill
+pub mod Stores
+pub mod Chosen
+pub mod Reaching
+pub mod Cutting

@@ -3,8 +3,8 @@ use Prim.Native.Nat.{ℕ, suc, _+_, _*_, _-_, _≤_, _<_}
 use native.Mathlib.Nat.{suc-mul}
 use native.Mathlib.Omega.{arith}
 use mathlib.Core.Path.{_≡_, ap, _∙_}
-use Rattle.calls.specs.Calls.{mostChannels}
-use Rattle.sources.specs.Blocks.{Reach}
+use Rattle.samples.specs.Blocks.{Reach}
+use Rattle.samples.specs.Frames.{mostChannels}
 
 pub one-less : (n : ℕ) → 0 < n → n ≡ suc (n - 1)
 one-less n h = omega arith

@@ -1,7 +1,7 @@
 -- A call's samples in blocks: what the inner functions rely on once nothing is refused.
 use Prim.Native.Nat.{ℕ, _+_, _*_, _^_, _<_, _≤_}
 use mathlib.Core.Path.{_≡_}
-use Rattle.calls.specs.Calls.{mostChannels}
+use Rattle.samples.specs.Frames.{mostChannels}
 
 -- the places of a block
 abbrev pub blockPlaces : ℕ

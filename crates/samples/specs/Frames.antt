@@ -5,7 +5,11 @@ use mathlib.Core.Bool.{cond}
 use lib.Dec.{eqb}
 use lib.ListN.{length, getD}
 use lib.Ieee.{Float}
-use Rattle.floats.specs.Entry.{plusZero}
+use Rattle.base_floats.specs.Entry.{plusZero}
+
+-- the channels that states and peaks have places for
+abbrev pub mostChannels : ℕ
+mostChannels = 8
 
 -- what stands where there is no sample
 abbrev pub silence : Float

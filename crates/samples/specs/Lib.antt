@@ -1,3 +1,5 @@
 pub mod Sample
 pub mod Kinds
 pub mod Frames
+pub mod Source
+pub mod Blocks

@@ -13,24 +13,24 @@ pub fn shorter(a: usize, b: usize) -> usize
 }
 
 // The samples as floats in the block's first places, as many as both have. Its other places stay.
-pub fn fill_f64_i16(block: &mut [f64], from: &[i16])
+pub(crate) fn fill_f64_i16(block: &mut [f64], from: &[i16])
     ensures { λ _. ⌜ now (block .exit) ≡ sets (now (block .entry)) 0 (map sampleOf16 (now (from .entry))) ⌝ }
 {
     let n = shorter(block.len(), from.len());
     let mut i = 0;
     while i < n {
-        block[i] = samples::i16_to_f64(from[i]);
+        block[i] = crate::i16_to_f64(from[i]);
         i += 1;
     }
 }
 
-pub fn fill_f64_f32(block: &mut [f64], from: &[f32])
+pub(crate) fn fill_f64_f32(block: &mut [f64], from: &[f32])
     ensures { λ _. ⌜ now (block .exit) ≡ sets (now (block .entry)) 0 (map sampleOfF32 (now (from .entry))) ⌝ }
 {
     let n = shorter(block.len(), from.len());
     let mut i = 0;
     while i < n {
-        block[i] = samples::f32_to_f64(from[i]);
+        block[i] = crate::f32_to_f64(from[i]);
         i += 1;
     }
 }
@@ -41,7 +41,7 @@ pub fn fill_f32_i16(block: &mut [f32], from: &[i16])
     let n = shorter(block.len(), from.len());
     let mut i = 0;
     while i < n {
-        block[i] = samples::i16_to_f32(from[i]);
+        block[i] = crate::i16_to_f32(from[i]);
         i += 1;
     }
 }

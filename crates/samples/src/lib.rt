@@ -2,6 +2,9 @@
 ghost use mathlib.Core.Path.{_≡_};
 ghost use Rattle.samples.specs.Sample.{sampleOf16, sampleOfF32};
 
+pub mod fills;
+pub mod sources;
+
 // s/32768. Both formats hold it exactly.
 pub fn i16_to_f64(s: i16) -> f64
     ensures { λ r. ⌜ r ≡ sampleOf16 s ⌝ }

@@ -2,7 +2,7 @@
 ghost use mathlib.Core.Path.{_≡_};
 ghost use lib.ListN.{length, drop};
 ghost use lib.Seq.{sets};
-ghost use Rattle.sources.specs.Source.{sourceOf};
+ghost use Rattle.samples.specs.Source.{sourceOf};
 
 // How many samples a call has. They are of one kind: integers, or floats where there are no integers.
 pub fn size_of(ints: &[i16], floats: &[f32]) -> usize
@@ -22,13 +22,13 @@ pub fn fill(block: &mut [f64], ints: &[i16], floats: &[f32], at: usize)
         if floats.len() <= at {
             return;
         }
-        fills::fill_f64_f32(block, &floats[at..]);
+        crate::fills::fill_f64_f32(block, &floats[at..]);
         return;
     }
     if ints.len() <= at {
         return;
     }
-    fills::fill_f64_i16(block, &ints[at..]);
+    crate::fills::fill_f64_i16(block, &ints[at..]);
 }
 
 // The places of a run of samples on their way to a seed call's weighting. At eight channels they are 16 frames.

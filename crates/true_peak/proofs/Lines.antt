@@ -9,12 +9,12 @@ use native.Mathlib.Omega.{arith}
 use lib.ListN.{length, getD, take, set}
 use lib.Seq.{sets, getD-set-other, getD-set-same}
 use lib.Ieee.{Float, nan}
-use Rattle.interp.specs.declared.Interp.{Interp}
-use Rattle.interp.specs.Phase.{phases}
+use Rattle.true_peak_interp.specs.declared.Interp.{Interp}
+use Rattle.true_peak_interp.specs.Phase.{phases}
 use Rattle.true_peak_state.specs.Channel.{Channel, hear, heard, past}
-use Rattle.floats.specs.Largest.{greatest, largest}
-use Rattle.floats.proofs.Magnitude.{largest-append}
-use Rattle.largest_phase.specs.Line.{back, phasesOver}
+use Rattle.base_floats.specs.Largest.{greatest, largest}
+use Rattle.base_floats.proofs.Magnitude.{largest-append}
+use Rattle.true_peak_scan.specs.Line.{back, phasesOver}
 use Rattle.samples.specs.Frames.{silence, column}
 use Rattle.samples.proofs.Columns.{within}
 use Rattle.true_peak_state.specs.TruePeak.{historyAt}

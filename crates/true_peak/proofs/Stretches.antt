@@ -7,11 +7,11 @@ use native.Mathlib.Omega.{arith}
 use lib.ListN.{length}
 use lib.Seq.{sets, length-sets}
 use lib.Ieee.{Float}
-use Rattle.interp.specs.declared.Interp.{Interp}
-use Rattle.interp.specs.Phase.{phases}
+use Rattle.true_peak_interp.specs.declared.Interp.{Interp}
+use Rattle.true_peak_interp.specs.Phase.{phases}
 use Rattle.true_peak_state.specs.Channel.{Channel, channel, heard, past}
-use Rattle.floats.specs.Largest.{largest}
-use Rattle.largest_phase.specs.Line.{back, phasesOver}
+use Rattle.base_floats.specs.Largest.{largest}
+use Rattle.true_peak_scan.specs.Line.{back, phasesOver}
 use Rattle.samples.specs.Frames.{column}
 use Rattle.samples.proofs.Columns.{length-column, column-append}
 use Rattle.true_peak_state.proofs.Cuts.{heard-append}

@@ -10,24 +10,24 @@ use lib.IntN.{ℤ}
 use lib.ListN.{length, getD, length-map, take, drop, length-drop, take-append-drop, drop-of-length-le}
 use lib.Seq.{sets, length-sets, length-take-le, drop-drop, ext-getD, getD-take}
 use lib.Ieee.{Float, nan}
-use Rattle.refusals.specs.Outcome.{keptBy, went, done}
+use Rattle.base_refusals.specs.Outcome.{keptBy, went, done}
 use Rattle.samples.specs.Sample.{sampleOf16, samplesOf16}
-use Rattle.samples.specs.Frames.{column}
-use Rattle.refusals.specs.Rows.{numberOf}
-use Rattle.refusals.proofs.Rows.{goes}
-use Rattle.calls.specs.Calls.{mostChannels, frameRows}
-use Rattle.calls.proofs.Checking.{frames-pass}
+use Rattle.samples.specs.Frames.{column, mostChannels}
+use Rattle.base_refusals.specs.Rows.{numberOf}
+use Rattle.base_refusals.proofs.Rows.{goes}
+use Rattle.filter_checks.specs.Calls.{frameRows}
+use Rattle.filter_checks.proofs.Checking.{frames-pass}
 use Rattle.samples.proofs.Stored.{at-within}
-use Rattle.sources.proofs.Cutting.{some-frames}
-use Rattle.sources.proofs.ByKind.{rest-from}
-use Rattle.interp.specs.Interp.{Kind, upsampled, noTruePeak, kindOf}
+use Rattle.samples.proofs.Cutting.{some-frames}
+use Rattle.samples.proofs.Chosen.{rest-from}
+use Rattle.true_peak_interp.specs.Interp.{Kind, upsampled, noTruePeak, kindOf}
 use Rattle.true_peak_state.specs.declared.TruePeak.{TruePeak}
 use Rattle.true_peak_state.specs.Channel.{Channel, heard}
 use Rattle.true_peak_state.specs.TruePeak.{Block, channelOf, channelSamples, measured, heardBy}
 use Rattle.true_peak.specs.TruePeak.{processed}
 use Rattle.true_peak_state.proofs.Independence.{Sized, either, measured-sized, own-channel, other-channel, same-state}
 use Rattle.true_peak_state.proofs.Cuts.{cut}
-use Rattle.true_peaks.specs.Inner.{places}
+use Rattle.true_peak.specs.CallsInner.{places}
 
 -- ---- no samples: nothing moves
 

@@ -1,2 +1,3 @@
 pub mod Inner
 pub mod TruePeak
+pub mod CallsInner

@@ -2,19 +2,20 @@
 ghost use mathlib.Core.Path.{_≡_};
 ghost use Prim.Native.Nat.{_+_, _*_, _<_, _≤_};
 ghost use lib.ListN.{length, take, drop};
-ghost use Rattle.refusals.specs.Answer.{said};
-ghost use Rattle.refusals.specs.Outcome.{saidBy, keptBy};
+ghost use Rattle.base_refusals.specs.Answer.{said};
+ghost use Rattle.base_refusals.specs.Outcome.{saidBy, keptBy};
 ghost use Rattle.samples.specs.Sample.{samplesOf16};
-ghost use Rattle.refusals.specs.Rows.{numberOf};
-ghost use Rattle.calls.specs.Calls.{mostChannels, frameRows};
-ghost use Rattle.sources.specs.Source.{sourceOf};
-ghost use Rattle.interp.specs.Interp.{kindOf};
+ghost use Rattle.base_refusals.specs.Rows.{numberOf};
+ghost use Rattle.filter_checks.specs.Calls.{frameRows};
+ghost use Rattle.samples.specs.Source.{sourceOf};
+ghost use Rattle.samples.specs.Frames.{mostChannels};
+ghost use Rattle.true_peak_interp.specs.Interp.{kindOf};
 ghost use Rattle.true_peak_state.specs.Channel.{past};
 ghost use Rattle.true_peak_state.specs.TruePeak.{measured};
 ghost use Rattle.true_peak.specs.TruePeak.{processed, seeded};
-ghost use Rattle.true_peaks.specs.Inner.{places};
-use refusals::Answer;
-use true_peak::Measured;
+ghost use Rattle.true_peak.specs.CallsInner.{places};
+use crate::Measured;
+use base_refusals::Answer;
 use true_peak_state::TruePeak;
 
 // The places of a block, and the frames that the interpolator takes at a time: a block is whole runs of them.
@@ -56,8 +57,8 @@ fn hear_ints(
     ensures { λ r. ⌜ r ≡ measured (kindOf rate) (record { channels = channels; samples = take size (drop from (samplesOf16 (now (ints .entry)))) }) t ⌝ }
 {
     let mut block: [f32; BLOCK] = [0.0; BLOCK];
-    fills::fill_f32_i16(&mut block, &ints[from..]);
-    let m = true_peak::process(rate, t, channels, &block[..size]);
+    samples::fills::fill_f32_i16(&mut block, &ints[from..]);
+    let m = crate::process(rate, t, channels, &block[..size]);
     m.state
 }
 
@@ -78,7 +79,7 @@ fn hear(
 {
     if ints.len() == 0 {
         let end = from + size;
-        let m = true_peak::process(rate, t, channels, &floats[from..end]);
+        let m = crate::process(rate, t, channels, &floats[from..end]);
         return m.state;
     }
     hear_ints(rate, t, channels, ints, from, size)
@@ -89,14 +90,14 @@ fn measure(rate: u32, t: TruePeak, channels: usize, ints: &[i16], floats: &[f32]
     requires { ⌜ numberOf (frameRows channels (length (sourceOf (now ints) (now floats)))) ≡ 0 ⌝ }
     ensures { λ r. ⌜ r ≡ measured (kindOf rate) (record { channels = channels; samples = sourceOf (now (ints .entry)) (now (floats .entry)) }) t ⌝ }
 {
-    let frames = sources::size_of(ints, floats) / channels;
+    let frames = samples::sources::size_of(ints, floats) / channels;
     let most = most(channels);
     let memory = t.memory;
     let peaks = t.peaks;
     let mut w = state_of(memory, peaks);
     let mut done = 0;
     while done < frames {
-        let count = fills::shorter(frames - done, most);
+        let count = samples::fills::shorter(frames - done, most);
         w = hear(
             rate,
             w,
@@ -116,7 +117,7 @@ pub fn process(rate: u32, t: TruePeak, channels: usize, ints: &[i16], floats: &[
     ensures { λ r. ⌜ said (r .answer) ≡ saidBy (processed rate (record { channels = channels; samples = sourceOf (now (ints .entry)) (now (floats .entry)) }) t) ⌝ }
     ensures { λ r. ⌜ r .state ≡ keptBy t (processed rate (record { channels = channels; samples = sourceOf (now (ints .entry)) (now (floats .entry)) }) t) ⌝ }
 {
-    let number = calls::refused_frames(channels, sources::size_of(ints, floats));
+    let number = filter_checks::refused_frames(channels, samples::sources::size_of(ints, floats));
     if number != 0 {
         return Measured {
             answer: Answer::Refused(number),
@@ -134,7 +135,7 @@ pub fn seed(rate: u32, t: TruePeak, channels: usize, ints: &[i16], floats: &[f32
     ensures { λ r. ⌜ said (r .answer) ≡ saidBy (seeded rate (record { channels = channels; samples = sourceOf (now (ints .entry)) (now (floats .entry)) }) t) ⌝ }
     ensures { λ r. ⌜ r .state ≡ keptBy t (seeded rate (record { channels = channels; samples = sourceOf (now (ints .entry)) (now (floats .entry)) }) t) ⌝ }
 {
-    let number = calls::refused_frames(channels, sources::size_of(ints, floats));
+    let number = filter_checks::refused_frames(channels, samples::sources::size_of(ints, floats));
     if number != 0 {
         return Measured {
             answer: Answer::Refused(number),

@@ -3,22 +3,23 @@ ghost use mathlib.Core.Path.{_≡_};
 ghost use Prim.Native.Nat.{_+_, _*_, _<_, _≤_, _^_};
 ghost use lib.ListN.{length};
 ghost use lib.Seq.{sets};
-ghost use Rattle.refusals.specs.Answer.{said};
-ghost use Rattle.refusals.specs.Outcome.{saidBy, keptBy};
-ghost use Rattle.interp.specs.Interp.{upsampled, kindOf, Known};
-ghost use Rattle.interp.specs.Phase.{coefficients, phases};
-ghost use Rattle.floats.specs.Largest.{largest};
-ghost use Rattle.largest_phase.specs.Line.{back, stretch, phasesOver};
+ghost use Rattle.base_refusals.specs.Answer.{said};
+ghost use Rattle.base_refusals.specs.Outcome.{saidBy, keptBy};
+ghost use Rattle.true_peak_interp.specs.Interp.{upsampled, kindOf, Known};
+ghost use Rattle.true_peak_interp.specs.Phase.{coefficients, phases};
+ghost use Rattle.base_floats.specs.Largest.{largest};
+ghost use Rattle.true_peak_scan.specs.Line.{back, stretch, phasesOver};
 ghost use Rattle.true_peak_state.specs.Channel.{channel, heard, past};
 ghost use Rattle.true_peak.specs.Inner.{room};
-ghost use Rattle.samples.specs.Frames.{column};
-ghost use Rattle.calls.specs.Calls.{mostChannels};
+ghost use Rattle.samples.specs.Frames.{column, mostChannels};
 ghost use Rattle.true_peak_state.specs.TruePeak.{historyAt, channelOf, withChannel, measured};
 ghost use Rattle.true_peak.specs.TruePeak.{processed};
-use interp::Interp;
-use interp::Scan;
-use refusals::Answer;
+use base_refusals::Answer;
+use true_peak_interp::Interp;
+use true_peak_interp::Scan;
 use true_peak_state::TruePeak;
+
+pub mod calls;
 
 // What a call answers, beside the state.
 pub struct Measured {
@@ -30,7 +31,7 @@ pub struct Measured {
 fn scan(
     i: Interp,
     taps: &[f32; Interp::COEFFICIENTS],
-    line: &[f32; largest_phase::LINE],
+    line: &[f32; true_peak_scan::LINE],
     n: usize,
     peak: f32,
 ) -> f32
@@ -40,13 +41,13 @@ fn scan(
     ensures { λ r. ⌜ r ≡ largest peak (phasesOver (phases i) (now (line .entry)) 0 n) ⌝ }
 {
     if i.factor == Interp::FOURFOLD {
-        return largest_phase::scan_fourfold(taps, line, n, peak);
+        return true_peak_scan::scan_fourfold(taps, line, n, peak);
     }
-    largest_phase::scan_twofold(taps, line, n, peak)
+    true_peak_scan::scan_twofold(taps, line, n, peak)
 }
 
 // A channel's history, newest first in the memory, to the line's first places, oldest first.
-fn recall(memory: &[f32; 184], c: usize, line: &mut [f32; largest_phase::LINE])
+fn recall(memory: &[f32; 184], c: usize, line: &mut [f32; true_peak_scan::LINE])
     requires { ⌜ c < mostChannels ⌝ }
     requires { ⌜ length (now memory) ≡ mostChannels * past ⌝ }
     requires { ⌜ length (now line) ≡ room ⌝ }
@@ -66,7 +67,7 @@ fn gather_four(
     first: usize,
     step: usize,
     k: usize,
-    line: &mut [f32; largest_phase::LINE],
+    line: &mut [f32; true_peak_scan::LINE],
 )
     requires { ⌜ k + 4 ≤ stretch ⌝ }
     requires { ⌜ first + step + step + step < length (now samples) ⌝ }
@@ -89,7 +90,7 @@ fn gather(
     first: usize,
     step: usize,
     n: usize,
-    line: &mut [f32; largest_phase::LINE],
+    line: &mut [f32; true_peak_scan::LINE],
 )
     requires { ⌜ n ≤ stretch ⌝ }
     requires { ⌜ first + n * step < length (now samples) + step ⌝ }
@@ -112,7 +113,7 @@ fn gather(
 }
 
 // The last 23 samples of a line with n new ones become its first.
-fn carry(line: &mut [f32; largest_phase::LINE], n: usize)
+fn carry(line: &mut [f32; true_peak_scan::LINE], n: usize)
     requires { ⌜ n ≤ stretch ⌝ }
     requires { ⌜ length (now line) ≡ room ⌝ }
     ensures { λ _. ⌜ back (now (line .exit)) 0 past ≡ back (now (line .entry)) n past ⌝ }
@@ -126,7 +127,7 @@ fn carry(line: &mut [f32; largest_phase::LINE], n: usize)
 }
 
 // The line's first places back to the memory.
-fn keep(line: &[f32; largest_phase::LINE], c: usize, memory: &mut [f32; 184])
+fn keep(line: &[f32; true_peak_scan::LINE], c: usize, memory: &mut [f32; 184])
     requires { ⌜ c < mostChannels ⌝ }
     ensures { λ _. ⌜ now (memory .exit) ≡ sets (now (memory .entry)) (c * past) (back (now (line .entry)) 0 past) ⌝ }
 {
@@ -145,7 +146,7 @@ fn hear_stretch(
     first: usize,
     channels: usize,
     n: usize,
-    line: &mut [f32; largest_phase::LINE],
+    line: &mut [f32; true_peak_scan::LINE],
     peak: f32,
 ) -> f32
     requires { ⌜ Known i ⌝ }
@@ -182,24 +183,24 @@ fn one_channel(
     ensures { λ r. ⌜ (let after = heard i (channel (historyAt (now (memory .entry)) c) peak) (column (now (samples .entry)) c channels frames) in
         (r ≡ after .peak) × (now (memory .exit) ≡ sets (now (memory .entry)) (c * past) (after .history))) ⌝ }
 {
-    let mut line = [0.0; largest_phase::LINE];
+    let mut line = [0.0; true_peak_scan::LINE];
     recall(memory, c, &mut line);
     let mut loud = peak;
     let mut first = c;
     let mut left = frames;
-    while largest_phase::STRETCH < left {
+    while true_peak_scan::STRETCH < left {
         loud = hear_stretch(
             i,
             taps,
             samples,
             first,
             channels,
-            largest_phase::STRETCH,
+            true_peak_scan::STRETCH,
             &mut line,
             loud,
         );
-        first += largest_phase::STRETCH * channels;
-        left -= largest_phase::STRETCH;
+        first += true_peak_scan::STRETCH * channels;
+        left -= true_peak_scan::STRETCH;
     }
     loud = hear_stretch(i, taps, samples, first, channels, left, &mut line, loud);
     keep(&line, c, memory);
@@ -261,7 +262,7 @@ pub fn process(rate: u32, t: TruePeak, channels: usize, samples: &[f32]) -> Meas
     ensures { λ r. ⌜ said (r .answer) ≡ saidBy (processed rate (record { channels = channels; samples = now (samples .entry) }) t) ⌝ }
     ensures { λ r. ⌜ r .state ≡ keptBy t (processed rate (record { channels = channels; samples = now (samples .entry) }) t) ⌝ }
 {
-    let number = calls::refused_frames(channels, samples.len());
+    let number = filter_checks::refused_frames(channels, samples.len());
     if number != 0 {
         return Measured {
             answer: Answer::Refused(number),

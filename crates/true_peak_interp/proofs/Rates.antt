@@ -5,8 +5,8 @@ use mathlib.Core.Bool.{Bool, true, false, cond}
 use Prim.Native.Nat.{ℕ}
 use native.Mathlib.Omega.{arith}
 use lib.Dec.{ltb}
-use Rattle.interp.specs.declared.Interp.{Interp}
-use Rattle.interp.specs.Interp.{fourfold, twofold, fourfoldBelow, twofoldBelow, upsampled, noTruePeak, kindOf, Known}
+use Rattle.true_peak_interp.specs.declared.Interp.{Interp}
+use Rattle.true_peak_interp.specs.Interp.{fourfold, twofold, fourfoldBelow, twofoldBelow, upsampled, noTruePeak, kindOf, Known}
 
 pub rate-known : (rate : ℕ) (i : Interp) → upsampled i ≡ kindOf rate → Known i
 rate-known rate i = go (ltb rate fourfoldBelow) (ltb rate twofoldBelow)

@@ -10,8 +10,8 @@ use lib.Dec.{T}
 use lib.ListN.{length, getD}
 use lib.Ieee.{Float, nan, le, ofBits}
 use lib.Ieee.Fits.{and-l, and-r}
-use Rattle.interp.specs.Taps.{fourfold, twofold}
-use Rattle.interp.specs.Rules.{one, withinOne, near, Ruled}
+use Rattle.true_peak_interp.specs.Taps.{fourfold, twofold}
+use Rattle.true_peak_interp.specs.Rules.{one, withinOne, near, Ruled}
 
 -- ---- the test
 abbrev allWithin : List Float → Bool

@@ -4,9 +4,9 @@ use mathlib.Core.Logic.{_⊎_}
 use mathlib.Core.Bool.{cond}
 use Prim.Native.Nat.{ℕ}
 use lib.Dec.{ltb}
-use Rattle.interp.specs.declared.Interp.{Interp}
-use Rattle.interp.specs.declared.Scan.{Scan}
-use Rattle.interp.specs.declared.Scan.the-variants.{By, Off}
+use Rattle.true_peak_interp.specs.declared.Interp.{Interp}
+use Rattle.true_peak_interp.specs.declared.Scan.{Scan}
+use Rattle.true_peak_interp.specs.declared.Scan.the-variants.{By, Off}
 
 abbrev pub fourfold : Interp
 fourfold = record { factor = 4; taps = 12 }

@@ -6,10 +6,10 @@ use Prim.Native.Nat.{ℕ, zero, suc, _+_}
 use lib.Dec.{eqb}
 use lib.ListN.{take, getD, replicate}
 use lib.Ieee.{Float, nan, add, mul, binary32}
-use Rattle.floats.specs.Entry.{plusZero}
-use Rattle.interp.specs.declared.Interp.{Interp}
-use Rattle.interp.specs.Taps.{fourfold as fourfoldTaps, twofold as twofoldTaps}
-use Rattle.interp.specs.Interp.{fourfold, twofold}
+use Rattle.base_floats.specs.Entry.{plusZero}
+use Rattle.true_peak_interp.specs.declared.Interp.{Interp}
+use Rattle.true_peak_interp.specs.Taps.{fourfold as fourfoldTaps, twofold as twofoldTaps}
+use Rattle.true_peak_interp.specs.Interp.{fourfold, twofold}
 
 -- the coefficients of a factor, and NaN where there are none
 abbrev pub coefficients : ℕ → List Float

@@ -8,7 +8,7 @@ use lib.Dec.{T, leb}
 use lib.ListN.{getD}
 use lib.IntN.{pos}
 use lib.Ieee.{Float, nan, inf, fin, up, down, le}
-use Rattle.floats.specs.Largest.{magnitude}
+use Rattle.base_floats.specs.Largest.{magnitude}
 
 abbrev pub one : Float
 one = fin false 1 (pos 0)

@@ -2,8 +2,8 @@
 ghost use mathlib.Core.Path.{_≡_};
 ghost use Prim.Native.Nat.{_*_, _<_, _≤_};
 ghost use lib.ListN.{length};
-ghost use Rattle.interp.specs.Interp.{fourfold, twofold, kindOf, said};
-ghost use Rattle.interp.specs.Phase.{coefficients, phase, phases};
+ghost use Rattle.true_peak_interp.specs.Interp.{fourfold, twofold, kindOf, said};
+ghost use Rattle.true_peak_interp.specs.Phase.{coefficients, phase, phases};
 
 mod taps;
 

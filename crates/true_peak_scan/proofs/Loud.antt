@@ -6,11 +6,11 @@ use Prim.Native.Nat.{ℕ, zero, suc, _+_, _≤_, _<_}
 use native.Mathlib.Omega.{arith}
 use lib.ListN.{getD}
 use lib.Ieee.{Float, nan}
-use Rattle.floats.proofs.Largest.{Over, greater-old, over-greatest, apart}
-use Rattle.floats.proofs.Magnitude.{largest-append}
-use Rattle.floats.specs.Largest.{magnitude, greater, greatest, largest}
-use Rattle.largest_phase.specs.Line.{back, phasesOver}
-use Rattle.largest_phase.specs.Inner.{valuesFrom, greatestOf}
+use Rattle.base_floats.proofs.Largest.{Over, greater-old, over-greatest, apart}
+use Rattle.base_floats.proofs.Magnitude.{largest-append}
+use Rattle.base_floats.specs.Largest.{magnitude, greater, greatest, largest}
+use Rattle.true_peak_scan.specs.Line.{back, phasesOver}
+use Rattle.true_peak_scan.specs.Inner.{valuesFrom, greatestOf}
 
 -- a run of n and of m values more
 pub greatest-join : (l : List Float) (at n m : ℕ) (q : Float) → greatestOf l at (n + m) q ≡ greatestOf l (at + n) m (greatestOf l at n q)

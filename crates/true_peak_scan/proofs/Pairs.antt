@@ -11,12 +11,12 @@ use lib.Dec.{T}
 use lib.ListN.{length, getD, set}
 use lib.Seq.{getD-set-other, getD-set-same}
 use lib.Ieee.{Float, nan, lt}
-use Rattle.floats.proofs.Order.{is-true, lt-lt}
-use Rattle.floats.proofs.Largest.{Over, over-self, over-greater, greater-old, apart}
-use Rattle.floats.specs.Largest.{greater, greatest}
-use Rattle.floats.specs.Inner.{Raised}
-use Rattle.largest_phase.specs.Line.{stretch}
-use Rattle.largest_phase.specs.Inner.{valuesFrom, quarter, greatestOf, Pairs}
+use Rattle.base_floats.proofs.Order.{is-true, lt-lt}
+use Rattle.base_floats.proofs.Largest.{Over, over-self, over-greater, greater-old, apart}
+use Rattle.base_floats.specs.Largest.{greater, greatest}
+use Rattle.base_floats.specs.Inner.{Raised}
+use Rattle.true_peak_scan.specs.Line.{stretch}
+use Rattle.true_peak_scan.specs.Inner.{valuesFrom, quarter, greatestOf, Pairs}
 
 -- the peak is raised to a value that was raised from it
 again : (p u : Float) → Raised p u → greater p u ≡ u

@@ -9,12 +9,12 @@ use native.Mathlib.Omega.{arith}
 use lib.ListN.{length, getD, set, length-set}
 use lib.Seq.{getD-set-other, getD-set-same}
 use lib.Ieee.{Float, nan}
-use Rattle.floats.specs.Largest.{magnitude, greater, greatest, largest}
-use Rattle.floats.specs.Inner.{Raised}
-use Rattle.largest_phase.specs.Line.{stretch, back, phasesOver}
-use Rattle.largest_phase.specs.Inner.{valuesFrom, quarter, greatestOf, Louds}
-use Rattle.floats.proofs.Largest.{Over, over-self, over-greatest, apart, raised-greatest}
-use Rattle.largest_phase.proofs.Loud.{greatest-join, greatest-none, scanned-louds}
+use Rattle.base_floats.specs.Largest.{magnitude, greater, greatest, largest}
+use Rattle.base_floats.specs.Inner.{Raised}
+use Rattle.true_peak_scan.specs.Line.{stretch, back, phasesOver}
+use Rattle.true_peak_scan.specs.Inner.{valuesFrom, quarter, greatestOf, Louds}
+use Rattle.base_floats.proofs.Largest.{Over, over-self, over-greatest, apart, raised-greatest}
+use Rattle.true_peak_scan.proofs.Loud.{greatest-join, greatest-none, scanned-louds}
 
 pub either : (d c : ℕ) → (d < c) ⊎ (c ≤ d)
 either d c = elim (eq-zero-or-pos (c - d)) [ inl z ↦ inr (omega arith) | inr p ↦ inl (omega arith) ]

@@ -7,9 +7,9 @@ use native.Mathlib.Omega.{arith}
 use lib.Dec.{T}
 use lib.Ieee.{Float, nan, inf, fin, binary32, fits, isNan, lt, eq, ne, ofBits, toBits, nanBits}
 use lib.Ieee.Bits.{ofBits-toBits, toBits-lt, nanBits-is}
-use Rattle.floats.proofs.Nan.{differs, only-nan}
-use Rattle.floats.proofs.Magnitude.{magnitude-fits, nan-never}
-use Rattle.floats.specs.Largest.{magnitude, greater}
+use Rattle.base_floats.proofs.Nan.{differs, only-nan}
+use Rattle.base_floats.proofs.Magnitude.{magnitude-fits, nan-never}
+use Rattle.base_floats.specs.Largest.{magnitude, greater}
 
 no-nan-magnitude : (x : Float) → T (not (isNan x)) → T (not (isNan (magnitude x)))
 unfolding isNan

@@ -13,13 +13,13 @@ use lib.ListN.{getD, take}
 use lib.IntN.{pos}
 use lib.Ieee.{Float, nan, inf, fin, binary32, up, down, round, sum, add, mul, ofBits}
 use lib.Ieee.Fits.{down-pos}
-use Rattle.floats.proofs.Value.{round-zero}
-use Rattle.interp.specs.declared.Interp.{Interp}
-use Rattle.interp.specs.Phase.{plus, summed, phasesFrom, phasesBy}
-use Rattle.floats.specs.Entry.{plusZero}
-use Rattle.floats.specs.Largest.{magnitude, greater, greatest, largest}
-use Rattle.largest_phase.specs.Line.{back}
-use Rattle.largest_phase.specs.Inner.{minusZero, sumsFrom, sumsBy}
+use Rattle.base_floats.proofs.Value.{round-zero}
+use Rattle.true_peak_interp.specs.declared.Interp.{Interp}
+use Rattle.true_peak_interp.specs.Phase.{plus, summed, phasesFrom, phasesBy}
+use Rattle.base_floats.specs.Entry.{plusZero}
+use Rattle.base_floats.specs.Largest.{magnitude, greater, greatest, largest}
+use Rattle.true_peak_scan.specs.Line.{back}
+use Rattle.true_peak_scan.specs.Inner.{minusZero, sumsFrom, sumsBy}
 
 -- a zero of a sign
 abbrev zeroOf : Bool → Float

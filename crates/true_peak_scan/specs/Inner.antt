@@ -4,16 +4,16 @@ use mathlib.Core.List.{List, [], _∷_}
 use Prim.Native.Nat.{ℕ, zero, suc, _+_, _*_, _<_}
 use lib.ListN.{length, getD, take}
 use lib.Ieee.{Float, nan, ofBits, binary32}
-use Rattle.floats.specs.Largest.{greater, greatest, largest}
-use Rattle.interp.specs.declared.Interp.{Interp}
-use Rattle.interp.specs.Interp.{twofold}
-use Rattle.interp.specs.Phase.{plus, summed}
-use Rattle.largest_phase.specs.declared.Four.{Four}
-use Rattle.largest_phase.specs.declared.Two.{Two}
-use Rattle.largest_phase.specs.declared.Fours.{Fours}
-use Rattle.largest_phase.specs.declared.Twos.{Twos}
-use Rattle.largest_phase.specs.declared.Windows.{Windows}
-use Rattle.largest_phase.specs.Line.{stretch, back}
+use Rattle.base_floats.specs.Largest.{greater, greatest, largest}
+use Rattle.true_peak_interp.specs.declared.Interp.{Interp}
+use Rattle.true_peak_interp.specs.Interp.{twofold}
+use Rattle.true_peak_interp.specs.Phase.{plus, summed}
+use Rattle.true_peak_scan.specs.declared.Four.{Four}
+use Rattle.true_peak_scan.specs.declared.Two.{Two}
+use Rattle.true_peak_scan.specs.declared.Fours.{Fours}
+use Rattle.true_peak_scan.specs.declared.Twos.{Twos}
+use Rattle.true_peak_scan.specs.declared.Windows.{Windows}
+use Rattle.true_peak_scan.specs.Line.{stretch, back}
 
 -- ---- the code's types as lists
 abbrev pub four : Four → List Float

@@ -3,7 +3,7 @@ use mathlib.Core.List.{List, [], _∷_, _++_}
 use Prim.Native.Nat.{ℕ, zero, suc, _+_}
 use lib.ListN.{getD}
 use lib.Ieee.{Float, nan}
-use Rattle.interp.specs.Interp.{twofold}
+use Rattle.true_peak_interp.specs.Interp.{twofold}
 
 -- how many frames are taken at a time
 abbrev pub stretch : ℕ

@@ -5,13 +5,13 @@ ghost use Prim.Native.Nat.{ℕ, _+_, _*_, _<_, _≤_, min};
 ghost use lib.ListN.{length, getD, set};
 ghost use lib.Dec.{T};
 ghost use lib.Ieee.{nan, isNan, lt};
-ghost use Rattle.interp.specs.Interp.{fourfold, twofold};
-ghost use Rattle.interp.specs.Phase.{phasesBy};
-ghost use Rattle.floats.specs.Largest.{magnitude, greater, largest};
-ghost use Rattle.floats.specs.Inner.{Raised};
-ghost use Rattle.largest_phase.specs.Line.{stretch, back, phasesOver};
-ghost use Rattle.largest_phase.specs.Inner.{four, two, sumsBy, Within, samplesAt, fourAt, onFour, tapFour, onPair, tapPair, Louds, greatestOf, Pairs, quarter};
-use interp::Interp;
+ghost use Rattle.true_peak_interp.specs.Interp.{fourfold, twofold};
+ghost use Rattle.true_peak_interp.specs.Phase.{phasesBy};
+ghost use Rattle.base_floats.specs.Largest.{magnitude, greater, largest};
+ghost use Rattle.base_floats.specs.Inner.{Raised};
+ghost use Rattle.true_peak_scan.specs.Line.{stretch, back, phasesOver};
+ghost use Rattle.true_peak_scan.specs.Inner.{four, two, sumsBy, Within, samplesAt, fourAt, onFour, tapFour, onPair, tapPair, Louds, greatestOf, Pairs, quarter};
+use true_peak_interp::Interp;
 
 // How many frames of a channel are taken at a time, a half of them and a quarter.
 pub const STRETCH: usize = 128;

@@ -8,7 +8,7 @@ use native.Mathlib.Omega.{arith}
 use lib.ListN.{set}
 use lib.Seq.{sets}
 use lib.Ieee.{Float}
-use Rattle.interp.specs.declared.Interp.{Interp}
+use Rattle.true_peak_interp.specs.declared.Interp.{Interp}
 use Rattle.true_peak_state.specs.declared.TruePeak.{TruePeak}
 use Rattle.true_peak_state.specs.Channel.{Channel, heard, past}
 use Rattle.true_peak_state.specs.TruePeak.{Block, channelOf, withChannel, channelSamples, channelsFrom}

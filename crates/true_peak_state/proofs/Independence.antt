@@ -9,13 +9,13 @@ use native.Mathlib.Omega.{arith}
 use lib.ListN.{length, getD, drop, length-take, length-drop, length-set}
 use lib.Seq.{sets, length-sets, ext-getD, getD-take, getD-drop, getD-set-other, getD-set-same}
 use lib.Ieee.{Float, nan}
-use Rattle.interp.specs.declared.Interp.{Interp}
-use Rattle.interp.specs.Interp.{Kind, upsampled, noTruePeak}
+use Rattle.true_peak_interp.specs.declared.Interp.{Interp}
+use Rattle.true_peak_interp.specs.Interp.{Kind, upsampled, noTruePeak}
 use Rattle.true_peak_state.specs.declared.TruePeak.{TruePeak}
 use Rattle.true_peak_state.specs.Channel.{Channel, hear, heard, past}
-use Rattle.calls.specs.Calls.{mostChannels}
 use Rattle.true_peak_state.specs.TruePeak.{Block, historyAt, channelOf, withChannel, channelSamples, channelsFrom, measured, heardBy}
 use Rattle.samples.proofs.Stored.{at-before, at-within, at-after}
+use Rattle.samples.specs.Frames.{mostChannels}
 
 -- a state as the code has it
 pub record Sized (t : TruePeak) : Type 0 where

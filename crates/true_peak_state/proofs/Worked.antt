@@ -6,13 +6,13 @@ use Prim.Native.Nat.{ℕ}
 use lib.IntN.{pos}
 use lib.ListN.{getD, replicate}
 use lib.Ieee.{Float, nan, fin, add, mul, lt, ofBits}
-use Rattle.floats.specs.Entry.{plusZero}
-use Rattle.interp.specs.Interp.{kindOf}
-use Rattle.interp.specs.Rules.{one}
-use Rattle.interp.specs.Taps.{fourfold, twofold}
-use Rattle.interp.specs.Phase.{phasesBy}
+use Rattle.base_floats.specs.Entry.{plusZero}
+use Rattle.true_peak_interp.specs.Interp.{kindOf}
+use Rattle.true_peak_interp.specs.Rules.{one}
+use Rattle.true_peak_interp.specs.Taps.{fourfold, twofold}
+use Rattle.true_peak_interp.specs.Phase.{phasesBy}
 use Rattle.true_peak_state.specs.declared.TruePeak.{TruePeak}
-use Rattle.floats.specs.Largest.{greatest}
+use Rattle.base_floats.specs.Largest.{greatest}
 use Rattle.true_peak_state.specs.Channel.{heard}
 use Rattle.samples.specs.Frames.{column}
 use Rattle.true_peak_state.specs.TruePeak.{Block, silent, measured}

@@ -3,10 +3,10 @@ use mathlib.Core.List.{List, [], _∷_}
 use Prim.Native.Nat.{ℕ, _-_}
 use lib.ListN.{take}
 use lib.Ieee.{Float}
-use Rattle.interp.specs.declared.Interp.{Interp}
-use Rattle.interp.specs.Interp.{twofold}
-use Rattle.interp.specs.Phase.{phases}
-use Rattle.floats.specs.Largest.{largest}
+use Rattle.true_peak_interp.specs.declared.Interp.{Interp}
+use Rattle.true_peak_interp.specs.Interp.{twofold}
+use Rattle.true_peak_interp.specs.Phase.{phases}
+use Rattle.base_floats.specs.Largest.{largest}
 
 -- How many samples a channel remembers: those before a frame's own that the interpolator with the most taps looks at.
 abbrev pub past : ℕ

@@ -4,11 +4,10 @@ use Prim.Native.Nat.{ℕ, zero, suc, _*_, _/_}
 use lib.ListN.{length, getD, take, drop, set, replicate}
 use lib.Seq.{sets}
 use lib.Ieee.{Float, nan}
-use Rattle.floats.specs.Entry.{plusZero}
-use Rattle.samples.specs.Frames.{column}
-use Rattle.calls.specs.Calls.{mostChannels}
-use Rattle.interp.specs.declared.Interp.{Interp}
-use Rattle.interp.specs.Interp.{Kind, upsampled, noTruePeak}
+use Rattle.base_floats.specs.Entry.{plusZero}
+use Rattle.samples.specs.Frames.{column, mostChannels}
+use Rattle.true_peak_interp.specs.declared.Interp.{Interp}
+use Rattle.true_peak_interp.specs.Interp.{Kind, upsampled, noTruePeak}
 use Rattle.true_peak_state.specs.declared.TruePeak.{TruePeak}
 use Rattle.true_peak_state.specs.Channel.{Channel, past, heard}
 

@@ -1,7 +1,7 @@
 // What the true peak keeps from one call to the next. What a call makes of it is defined here, and `true_peak` has its code.
 ghost use mathlib.Core.Path.{_≡_};
 ghost use Rattle.true_peak_state.specs.TruePeak.{silent};
-use interp::Interp;
+use true_peak_interp::Interp;
 
 // The memory and the peaks of eight channels.
 pub struct TruePeak {

@@ -1,11 +1,11 @@
--- `fields::byte_at` meets its contract: past the end the list has its default, 0. Assumes nothing.
+-- `base_fields::byte_at` meets its contract: past the end the list has its default, 0. Assumes nothing.
 use mathlib.Core.Path.{sym}
 use native.Mathlib.Omega.{arith}
 use borrow.Author.Needs.{needs}
 use denote.Ref.{now}
 use lib.ListN.{List·getD-eq-default}
-use Rattle.fields.proofs.byte_at.Statement.{statement}
-use Rattle.fields.proofs.byte_at.Tie as tie
+use Rattle.base_fields.proofs.byte_at.Statement.{statement}
+use Rattle.base_fields.proofs.byte_at.Tie as tie
 
 cast-result : tie.Need-cast-result
 cast-result c = omega (arith, c .shared-slice-known .given (c .before .before .args .at))

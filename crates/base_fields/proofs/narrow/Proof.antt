@@ -1,7 +1,7 @@
--- `fields::narrow` meets its contract. Assumes nothing.
+-- `base_fields::narrow` meets its contract. Assumes nothing.
 use borrow.Author.Tests.{lt-ltb, le-ltb}
-use Rattle.fields.proofs.narrow.Statement.{statement}
-use Rattle.fields.proofs.narrow.Tie as tie
+use Rattle.base_fields.proofs.narrow.Statement.{statement}
+use Rattle.base_fields.proofs.narrow.Tie as tie
 
 returns : tie.Need-returns
 returns c = rw (lt-ltb _ _ (c .if1 .taken))

@@ -1,4 +1,4 @@
--- `fields::number_at` meets its contract. The loop's invariant: `number` is the field of the bytes from `left` on. The measure is `left`.
+-- `base_fields::number_at` meets its contract. The loop's invariant: `number` is the field of the bytes from `left` on. The measure is `left`.
 -- Assumes nothing.
 use mathlib.Core.Path.{_≡_, sym, ap, _∙_}
 use Prim.Native.Nat.{ℕ, _+_, _-_, _*_, _^_, _≤_, _<_}
@@ -7,10 +7,10 @@ use native.Mathlib.Omega.{arith}
 use borrow.Author.Needs.{needs}
 use denote.Ref.{now}
 use lib.ListN.{getD}
-use Rattle.fields.specs.Field.{fieldAt, narrowed}
-use Rattle.fields.proofs.Fields.{first-byte, past-end, narrowed-small, seven-bytes}
-use Rattle.fields.proofs.number_at.Statement.{statement}
-use Rattle.fields.proofs.number_at.Tie as tie
+use Rattle.base_fields.specs.Field.{fieldAt, narrowed}
+use Rattle.base_fields.proofs.Fields.{first-byte, past-end, narrowed-small, seven-bytes}
+use Rattle.base_fields.proofs.number_at.Statement.{statement}
+use Rattle.base_fields.proofs.number_at.Tie as tie
 
 abbrev Inv-loop : tie.InvT-loop
 Inv-loop bytes at width left₀ number₀ left number = (left ≤ left₀) × (number ≡ fieldAt bytes (at + left) (left₀ - left))

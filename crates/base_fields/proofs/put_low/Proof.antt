@@ -1,14 +1,14 @@
--- `fields::put_low` meets its contract. The invariant: the bytes written and those of what is left are those of the whole number. Assumes nothing.
+-- `base_fields::put_low` meets its contract. The invariant: the bytes written and those of what is left are those of the whole number. Assumes nothing.
 use mathlib.Core.Path.{_≡_, refl, sym, ap, _∙_}
 use mathlib.Core.List.{_++_}
 use Prim.Native.Nat.{ℕ, _-_, _≤_}
 use native.Mathlib.Omega.{arith}
 use borrow.Author.Needs.{needs}
 use lib.ListN.{length, length-set, take}
-use Rattle.fields.specs.Field.{lowBytes}
-use Rattle.fields.proofs.Written.{low-turn, low-end}
-use Rattle.fields.proofs.put_low.Statement.{statement}
-use Rattle.fields.proofs.put_low.Tie as tie
+use Rattle.base_fields.specs.Field.{lowBytes}
+use Rattle.base_fields.proofs.Written.{low-turn, low-end}
+use Rattle.base_fields.proofs.put_low.Statement.{statement}
+use Rattle.base_fields.proofs.put_low.Tie as tie
 
 abbrev Inv-loop : tie.InvT-loop
 Inv-loop field₀ number left₀ i₀ field left i =

@@ -1,13 +1,13 @@
--- `fields::put_number` meets its contract, order by order. Assumes nothing.
+-- `base_fields::put_number` meets its contract, order by order. Assumes nothing.
 use mathlib.Core.Path.{sym, ap, _∙_}
 use borrow.Author.Needs.{needs}
 use denote.Ref.{now}
 use lib.ListN.{length}
-use Rattle.fields.specs.declared.Order.{Order}
-use Rattle.fields.specs.Field.{bytesOf}
-use Rattle.fields.proofs.Orders.{low-first}
-use Rattle.fields.proofs.put_number.Statement.{statement}
-use Rattle.fields.proofs.put_number.Tie as tie
+use Rattle.base_fields.specs.declared.Order.{Order}
+use Rattle.base_fields.specs.Field.{bytesOf}
+use Rattle.base_fields.proofs.Orders.{low-first}
+use Rattle.base_fields.proofs.put_number.Statement.{statement}
+use Rattle.base_fields.proofs.put_number.Tie as tie
 
 returns : tie.Need-returns
 returns c =

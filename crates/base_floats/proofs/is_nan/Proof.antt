@@ -1,7 +1,7 @@
--- `floats::is_nan` meets its contract: NaN alone differs from itself. Assumes nothing.
-use Rattle.floats.proofs.Nan.{differs}
-use Rattle.floats.proofs.is_nan.Statement.{statement}
-use Rattle.floats.proofs.is_nan.Tie as tie
+-- `base_floats::is_nan` meets its contract: NaN alone differs from itself. Assumes nothing.
+use Rattle.base_floats.proofs.Nan.{differs}
+use Rattle.base_floats.proofs.is_nan.Statement.{statement}
+use Rattle.base_floats.proofs.is_nan.Tie as tie
 
 returns : tie.Need-returns
 returns c = differs (c .args .x)

@@ -1,10 +1,10 @@
--- `floats::pattern_of` meets its contract: NaN is told apart first, and any other float has one pattern. Assumes nothing.
+-- `base_floats::pattern_of` meets its contract: NaN is told apart first, and any other float has one pattern. Assumes nothing.
 use mathlib.Core.Path.{sym, _∙_}
 use borrow.Author.Needs.{needs}
 use lib.Ieee.{toBits}
-use Rattle.floats.proofs.Nan.{differs, only-nan}
-use Rattle.floats.proofs.pattern_of.Statement.{statement}
-use Rattle.floats.proofs.pattern_of.Tie as tie
+use Rattle.base_floats.proofs.Nan.{differs, only-nan}
+use Rattle.base_floats.proofs.pattern_of.Statement.{statement}
+use Rattle.base_floats.proofs.pattern_of.Tie as tie
 
 returns : tie.Need-returns
 unfolding toBits

@@ -1,12 +1,12 @@
--- `histogram_bins::boundary` meets its contract: an entry of the table that was taken is the table's, and past its end both sides are NaN.
+-- `bins::boundary` meets its contract: an entry of the table that was taken is the table's, and past its end both sides are NaN.
 -- Assumes nothing.
 use mathlib.Core.Path.{sym}
 use borrow.Author.Needs.{needs}
 use lib.Ieee.{div, ofBits}
-use Rattle.tables.proofs.Rules.{boundary-past}
-use Rattle.tables.proofs.Taken.{boundary-entry}
-use Rattle.histogram_bins.proofs.boundary.Statement.{statement}
-use Rattle.histogram_bins.proofs.boundary.Tie as tie
+use Rattle.bins_tables.proofs.Rules.{boundary-past}
+use Rattle.bins_tables.proofs.Taken.{boundary-entry}
+use Rattle.bins.proofs.boundary.Statement.{statement}
+use Rattle.bins.proofs.boundary.Tie as tie
 
 returns : tie.Need-returns
 returns c = boundary-entry (c .all-boundaries .result) (c .before .before .args .i) (c .all-boundaries .ensures)

@@ -1,12 +1,12 @@
--- `histogram_bins::energy` meets its contract: an entry of the table that was taken is the table's, and past its end both sides are NaN.
+-- `bins::energy` meets its contract: an entry of the table that was taken is the table's, and past its end both sides are NaN.
 -- Assumes nothing.
 use mathlib.Core.Path.{sym}
 use borrow.Author.Needs.{needs}
 use lib.Ieee.{div, ofBits}
-use Rattle.tables.proofs.Rules.{energy-past}
-use Rattle.tables.proofs.Taken.{energy-entry}
-use Rattle.histogram_bins.proofs.energy.Statement.{statement}
-use Rattle.histogram_bins.proofs.energy.Tie as tie
+use Rattle.bins_tables.proofs.Rules.{energy-past}
+use Rattle.bins_tables.proofs.Taken.{energy-entry}
+use Rattle.bins.proofs.energy.Statement.{statement}
+use Rattle.bins.proofs.energy.Tie as tie
 
 returns : tie.Need-returns
 returns c = energy-entry (c .all-energies .result) (c .before .before .args .i) (c .all-energies .ensures)

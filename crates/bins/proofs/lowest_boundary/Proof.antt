@@ -1,9 +1,9 @@
--- `histogram_bins::lowest_boundary` meets its contract: the constant is the table's entry 0, bit for bit. Assumes nothing.
+-- `bins::lowest_boundary` meets its contract: the constant is the table's entry 0, bit for bit. Assumes nothing.
 use borrow.Author.Needs.{needs}
 use lib.Ieee.{ofBits}
-use Rattle.tables.specs.Tables.{boundaryAt}
-use Rattle.histogram_bins.proofs.lowest_boundary.Statement.{statement}
-use Rattle.histogram_bins.proofs.lowest_boundary.Tie as tie
+use Rattle.bins_tables.specs.Tables.{boundaryAt}
+use Rattle.bins.proofs.lowest_boundary.Statement.{statement}
+use Rattle.bins.proofs.lowest_boundary.Tie as tie
 
 returns : tie.Need-returns
 unfolding boundaryAt ofBits

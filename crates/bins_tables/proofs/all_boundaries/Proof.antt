@@ -1,9 +1,9 @@
--- `tables::all_boundaries` meets its contract: the constant is the table, bit for bit. Assumes nothing.
+-- `bins_tables::all_boundaries` meets its contract: the constant is the table, bit for bit. Assumes nothing.
 use borrow.Author.Needs.{needs}
 use lib.Ieee.{ofBits}
-use Rattle.tables.specs.Tables.{boundaries}
-use Rattle.tables.proofs.all_boundaries.Statement.{statement}
-use Rattle.tables.proofs.all_boundaries.Tie as tie
+use Rattle.bins_tables.specs.Tables.{boundaries}
+use Rattle.bins_tables.proofs.all_boundaries.Statement.{statement}
+use Rattle.bins_tables.proofs.all_boundaries.Tie as tie
 
 returns : tie.Need-returns
 unfolding boundaries ofBits

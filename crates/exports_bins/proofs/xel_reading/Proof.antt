@@ -4,8 +4,8 @@ use borrow.Author.Needs.{needs}
 use denote.Ref.{now}
 use mir.Syntax.{w32}
 use mir.Val.{toZ, ofZ}
-use Rattle.bin_search.specs.Reading.{readingOf, said}
-use Rattle.codes.proofs.Told.{values-told, refusal-told}
+use Rattle.bins.specs.Reading.{readingOf, said}
+use Rattle.base_refusals.proofs.Told.{values-told, refusal-told}
 use Rattle.exports_bins.proofs.xel_reading.Statement.{statement}
 use Rattle.exports_bins.proofs.xel_reading.Tie as tie
 

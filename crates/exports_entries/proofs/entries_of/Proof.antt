@@ -1,10 +1,10 @@
--- `entries::entries_of` meets its contract: each entry is the one at its place. Assumes nothing.
+-- `exports_entries::entries_of` meets its contract: each entry is the one at its place. Assumes nothing.
 use mathlib.Core.Path.{refl}
-use Rattle.entries.specs.Sets.{entriesFrom}
-use Rattle.entries.proofs.Asked.{one-more}
+use Rattle.exports_entries.specs.Sets.{entriesFrom}
+use Rattle.exports_entries.proofs.Asked.{one-more}
 use borrow.Author.Needs.{needs}
-use Rattle.entries.proofs.entries_of.Statement.{statement}
-use Rattle.entries.proofs.entries_of.Tie as tie
+use Rattle.exports_entries.proofs.entries_of.Statement.{statement}
+use Rattle.exports_entries.proofs.entries_of.Tie as tie
 
 returns : tie.Need-returns
 unfolding entriesFrom

@@ -1,13 +1,13 @@
--- `entries::entry_at` meets its contract: the kind decides, and each number is read at its place. Assumes nothing.
+-- `exports_entries::entry_at` meets its contract: the kind decides, and each number is read at its place. Assumes nothing.
 use mathlib.Core.Path.{_≡_, _∙_}
 use denote.Ref.{now}
 use Prim.Native.Nat.{ℕ}
-use Rattle.queue.specs.declared.Queue.{Queue}
-use Rattle.entries.specs.Sets.{entryOf, entryAt}
-use Rattle.entries.proofs.Asked.{histogram-entry, queue-entry, no-entry, same-numbers}
+use Rattle.history_queue.specs.declared.Queue.{Queue}
+use Rattle.exports_entries.specs.Sets.{entryOf, entryAt}
+use Rattle.exports_entries.proofs.Asked.{histogram-entry, queue-entry, no-entry, same-numbers}
 use borrow.Author.Needs.{needs}
-use Rattle.entries.proofs.entry_at.Statement.{statement}
-use Rattle.entries.proofs.entry_at.Tie as tie
+use Rattle.exports_entries.proofs.entry_at.Statement.{statement}
+use Rattle.exports_entries.proofs.entry_at.Tie as tie
 
 -- the numbers that were read
 abbrev kind : tie.After-number-at5 → ℕ

@@ -1,10 +1,10 @@
 -- `exports_gate::xel_gate` meets its contract: the set is that of the numbers, and each case of the answer is told as the C interface tells it. Assumes nothing.
 use mathlib.Core.Path.{_≡_, sym, ap, _∙_}
 use denote.Ref.{now}
-use Rattle.refusals.specs.Outcome.{saidBy}
+use Rattle.base_refusals.specs.Outcome.{saidBy}
 use Rattle.gate.specs.Gate.{gateOf, said}
-use Rattle.entries.specs.Sets.{asked}
-use Rattle.entries.proofs.Asked.{asked-part, asked-whole}
+use Rattle.exports_entries.specs.Sets.{asked}
+use Rattle.exports_entries.proofs.Asked.{asked-part, asked-whole}
 use Rattle.exports_gate.proofs.Told.{totals-told, no-totals-told}
 use borrow.Author.Needs.{needs}
 use Rattle.exports_gate.proofs.xel_gate.Statement.{statement}

@@ -1,11 +1,11 @@
 -- `exports_gate::xel_gated_energy` meets its contract: the set is that of the numbers, and each case of the answer is told as the C interface tells it. Assumes nothing.
 use mathlib.Core.Path.{_≡_, sym, ap, _∙_}
 use denote.Ref.{now}
-use Rattle.refusals.specs.Outcome.{saidBy}
-use Rattle.gated_energy.specs.GatedEnergy.{gatedEnergyOf, said}
-use Rattle.entries.specs.Sets.{asked}
-use Rattle.entries.proofs.Asked.{asked-part, asked-whole}
-use Rattle.codes.proofs.Told.{values-told, refusal-told}
+use Rattle.base_refusals.specs.Outcome.{saidBy}
+use Rattle.gate.specs.GatedEnergy.{gatedEnergyOf, said}
+use Rattle.exports_entries.specs.Sets.{asked}
+use Rattle.exports_entries.proofs.Asked.{asked-part, asked-whole}
+use Rattle.base_refusals.proofs.Told.{values-told, refusal-told}
 use borrow.Author.Needs.{needs}
 use Rattle.exports_gate.proofs.xel_gated_energy.Statement.{statement}
 use Rattle.exports_gate.proofs.xel_gated_energy.Tie as tie

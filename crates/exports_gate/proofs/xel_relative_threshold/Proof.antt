@@ -1,16 +1,16 @@
--- `exports_threshold::xel_relative_threshold` meets its contract: the history is that of the numbers, and each case of the answer is told as the C interface tells it.
+-- `exports_gate::xel_relative_threshold` meets its contract: the history is that of the numbers, and each case of the answer is told as the C interface tells it.
 -- Assumes nothing.
 use mathlib.Core.Path.{_≡_, sym, ap, _∙_}
 use denote.Ref.{now}
-use Rattle.refusals.specs.Outcome.{saidBy}
-use Rattle.history.specs.declared.set.Entry.{Entry}
+use Rattle.base_refusals.specs.Outcome.{saidBy}
+use Rattle.history_set.specs.declared.set.Entry.{Entry}
 use Rattle.gate.specs.Relative.{relativeOf, said, loudness, energy}
-use Rattle.entries.specs.Sets.{askedAlone}
-use Rattle.entries.proofs.Asked.{alone-part, alone-whole}
-use Rattle.exports_threshold.proofs.Told.{level-told, no-level-told}
+use Rattle.exports_entries.specs.Sets.{askedAlone}
+use Rattle.exports_entries.proofs.Asked.{alone-part, alone-whole}
+use Rattle.exports_gate.proofs.Levels.{level-told, no-level-told}
 use borrow.Author.Needs.{needs}
-use Rattle.exports_threshold.proofs.xel_relative_threshold.Statement.{statement}
-use Rattle.exports_threshold.proofs.xel_relative_threshold.Tie as tie
+use Rattle.exports_gate.proofs.xel_relative_threshold.Statement.{statement}
+use Rattle.exports_gate.proofs.xel_relative_threshold.Tie as tie
 
 -- what the answer says is what the question over the numbers comes to
 asked-says : (c : tie.After-relative-threshold) →

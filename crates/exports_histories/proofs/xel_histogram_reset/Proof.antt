@@ -2,8 +2,8 @@
 use mathlib.Core.Path.{_∙_}
 use borrow.Author.Needs.{needs}
 use denote.Ref.{now}
-use Rattle.histogram.specs.Histogram.{cleared}
-use Rattle.codes.proofs.Told.{answer-told}
+use Rattle.history_histogram.specs.Histogram.{cleared}
+use Rattle.base_refusals.proofs.Told.{answer-told}
 use Rattle.exports_histories.proofs.xel_histogram_reset.Statement.{statement}
 use Rattle.exports_histories.proofs.xel_histogram_reset.Tie as tie
 

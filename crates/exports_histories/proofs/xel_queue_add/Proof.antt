@@ -5,13 +5,13 @@ use Prim.Native.Nat.{ℕ}
 use native.Mathlib.Omega.{arith}
 use borrow.Author.Needs.{needs}
 use denote.Ref.{now}
-use Rattle.refusals.specs.Outcome.{Outcome, went, refused, NoValues, refusal, saidBy, keptBy}
-use Rattle.refusals.specs.Answer.{said}
-use Rattle.queue.specs.Queue.{Stored}
-use Rattle.queue_add.specs.Adding.{enqueued}
+use Rattle.base_refusals.specs.Outcome.{Outcome, went, refused, NoValues, refusal, saidBy, keptBy}
+use Rattle.base_refusals.specs.Answer.{said}
+use Rattle.history_queue.specs.Queue.{Stored}
+use Rattle.history_queue.specs.Adding.{enqueued}
 use Rattle.exports_histories.specs.Queues.{queueOver}
-use Rattle.codes.specs.Codes.{numberSaid}
-use Rattle.codes.proofs.Told.{answer-told}
+use Rattle.base_refusals.specs.Codes.{numberSaid}
+use Rattle.base_refusals.proofs.Told.{answer-told}
 use Rattle.exports_histories.proofs.xel_queue_add.Statement.{statement}
 use Rattle.exports_histories.proofs.xel_queue_add.Tie as tie
 

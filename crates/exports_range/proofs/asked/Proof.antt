@@ -3,11 +3,11 @@ use mathlib.Core.Path.{_≡_, sym, ap, _∙_}
 use Prim.Native.Nat.{ℕ, _%_}
 use denote.Ref.{now}
 use lib.ListN.{length}
-use Rattle.refusals.specs.Outcome.{saidBy, keptBy}
-use Rattle.history.specs.Set.{Histories}
+use Rattle.base_refusals.specs.Outcome.{saidBy, keptBy}
+use Rattle.history_set.specs.Set.{Histories}
 use Rattle.range.specs.Range.{rangeOf}
-use Rattle.entries.specs.Sets.{numbersAnEntry, setOf}
-use Rattle.entries.proofs.Asked.{asked-part, asked-whole}
+use Rattle.exports_entries.specs.Sets.{numbersAnEntry, setOf}
+use Rattle.exports_entries.proofs.Asked.{asked-part, asked-whole}
 use Rattle.exports_range.specs.Spans.{rangeAsked}
 use borrow.Author.Needs.{needs}
 use Rattle.exports_range.proofs.asked.Statement.{statement}

@@ -5,7 +5,7 @@ use native.Mathlib.Omega.{arith}
 use borrow.Author.Tests.{lt-ltb, le-ltb}
 use denote.Ref.{now}
 use lib.ListN.{length}
-use Rattle.histogram_bins.specs.Bin.{bins}
+use Rattle.bins.specs.Bin.{bins}
 use borrow.Author.Needs.{needs}
 use Rattle.exports_range.proofs.of_histogram.Statement.{statement}
 use Rattle.exports_range.proofs.of_histogram.Tie as tie

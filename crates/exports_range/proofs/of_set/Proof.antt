@@ -4,11 +4,11 @@ use mathlib.Core.List.{List}
 use Prim.Native.Nat.{_/_}
 use denote.Ref.{now}
 use lib.ListN.{length}
-use Rattle.refusals.specs.Outcome.{saidBy, keptBy}
-use Rattle.history.specs.declared.set.Entry.{Entry}
-use Rattle.history.specs.Set.{histories}
+use Rattle.base_refusals.specs.Outcome.{saidBy, keptBy}
+use Rattle.history_set.specs.declared.set.Entry.{Entry}
+use Rattle.history_set.specs.Set.{histories}
 use Rattle.range.specs.Range.{rangeOf}
-use Rattle.entries.specs.Sets.{numbersAnEntry}
+use Rattle.exports_entries.specs.Sets.{numbersAnEntry}
 use borrow.Author.Needs.{needs}
 use Rattle.exports_range.proofs.of_set.Statement.{statement}
 use Rattle.exports_range.proofs.of_set.Tie as tie

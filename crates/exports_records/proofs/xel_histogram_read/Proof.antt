@@ -1,11 +1,11 @@
--- `exports_histogram_records::xel_histogram_read` meets its contract: what the answer says is told by its number. Assumes nothing.
+-- `exports_records::xel_histogram_read` meets its contract: what the answer says is told by its number. Assumes nothing.
 use mathlib.Core.Path.{_∙_}
 use borrow.Author.Needs.{needs}
 use denote.Ref.{now}
-use Rattle.histogram_reader.specs.Record.{readHistogram}
-use Rattle.codes.proofs.Told.{answer-told}
-use Rattle.exports_histogram_records.proofs.xel_histogram_read.Statement.{statement}
-use Rattle.exports_histogram_records.proofs.xel_histogram_read.Tie as tie
+use Rattle.record_histogram.specs.Record.{readHistogram}
+use Rattle.base_refusals.proofs.Told.{answer-told}
+use Rattle.exports_records.proofs.xel_histogram_read.Statement.{statement}
+use Rattle.exports_records.proofs.xel_histogram_read.Tie as tie
 
 returns : tie.Need-returns
 returns c =

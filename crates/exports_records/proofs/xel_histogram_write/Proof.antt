@@ -1,12 +1,12 @@
--- `exports_histogram_records::xel_histogram_write` meets its contract: each case of the answer is told as the C interface tells it. Assumes nothing.
+-- `exports_records::xel_histogram_write` meets its contract: each case of the answer is told as the C interface tells it. Assumes nothing.
 use mathlib.Core.Path.{sym, ap, _∙_}
 use borrow.Author.Needs.{needs}
 use denote.Ref.{now}
-use Rattle.histogram_writer.specs.Writing.{writeHistogram}
-use Rattle.layout.specs.Written.{said}
-use Rattle.codes.proofs.Told.{values-told, refusal-told}
-use Rattle.exports_histogram_records.proofs.xel_histogram_write.Statement.{statement}
-use Rattle.exports_histogram_records.proofs.xel_histogram_write.Tie as tie
+use Rattle.record_histogram.specs.Writing.{writeHistogram}
+use Rattle.record_layout.specs.Written.{said}
+use Rattle.base_refusals.proofs.Told.{values-told, refusal-told}
+use Rattle.exports_records.proofs.xel_histogram_write.Statement.{statement}
+use Rattle.exports_records.proofs.xel_histogram_write.Tie as tie
 
 returns : tie.Need-returns
 returns c =

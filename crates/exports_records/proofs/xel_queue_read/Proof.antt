@@ -1,12 +1,12 @@
--- `exports_queue_records::xel_queue_read` meets its contract: each case of the answer is told as the C interface tells it, the queue's numbers one by one. Assumes nothing.
+-- `exports_records::xel_queue_read` meets its contract: each case of the answer is told as the C interface tells it, the queue's numbers one by one. Assumes nothing.
 use mathlib.Core.Path.{sym, ap, _∙_}
 use borrow.Author.Needs.{needs}
 use denote.Ref.{now}
-use Rattle.queue.specs.declared.Queue.{Queue}
-use Rattle.queue_reader.specs.QueueRecord.{readQueue, said}
-use Rattle.codes.proofs.Told.{values-told, refusal-told}
-use Rattle.exports_queue_records.proofs.xel_queue_read.Statement.{statement}
-use Rattle.exports_queue_records.proofs.xel_queue_read.Tie as tie
+use Rattle.history_queue.specs.declared.Queue.{Queue}
+use Rattle.record_queue_reader.specs.QueueRecord.{readQueue, said}
+use Rattle.base_refusals.proofs.Told.{values-told, refusal-told}
+use Rattle.exports_records.proofs.xel_queue_read.Statement.{statement}
+use Rattle.exports_records.proofs.xel_queue_read.Tie as tie
 
 returns : tie.Need-returns
 returns c =

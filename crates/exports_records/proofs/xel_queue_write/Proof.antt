@@ -1,13 +1,13 @@
--- `exports_queue_records::xel_queue_write` meets its contract: each case of the answer is told as the C interface tells it. Assumes nothing.
+-- `exports_records::xel_queue_write` meets its contract: each case of the answer is told as the C interface tells it. Assumes nothing.
 use mathlib.Core.Path.{sym, ap, _∙_}
 use borrow.Author.Needs.{needs}
 use denote.Ref.{now}
-use Rattle.queue.specs.Queue.{over}
-use Rattle.queue_writer.specs.Writing.{writeQueue}
-use Rattle.layout.specs.Written.{said}
-use Rattle.codes.proofs.Told.{values-told, refusal-told}
-use Rattle.exports_queue_records.proofs.xel_queue_write.Statement.{statement}
-use Rattle.exports_queue_records.proofs.xel_queue_write.Tie as tie
+use Rattle.history_queue.specs.Queue.{over}
+use Rattle.record_queue_writer.specs.Writing.{writeQueue}
+use Rattle.record_layout.specs.Written.{said}
+use Rattle.base_refusals.proofs.Told.{values-told, refusal-told}
+use Rattle.exports_records.proofs.xel_queue_write.Statement.{statement}
+use Rattle.exports_records.proofs.xel_queue_write.Tie as tie
 
 returns : tie.Need-returns
 returns c =

@@ -1,12 +1,12 @@
--- `calls::all_admitted` meets its contract: the bytes left are admitted exactly where all are. Assumes nothing.
+-- `filter_checks::all_admitted` meets its contract: the bytes left are admitted exactly where all are. Assumes nothing.
 use borrow.Author.Needs.{needs}
 use Prim.Native.Nat.{_-_, _≤_}
 use mathlib.Core.Path.{_≡_, sym, ap, _∙_}
 use lib.ListN.{length, drop, drop-of-length-le}
-use Rattle.calls.specs.Calls.{allAdmitted}
-use Rattle.calls.proofs.Checking.{admitted-not, admitted-next}
-use Rattle.calls.proofs.all_admitted.Statement.{statement}
-use Rattle.calls.proofs.all_admitted.Tie as tie
+use Rattle.filter_checks.specs.Calls.{allAdmitted}
+use Rattle.filter_checks.proofs.Checking.{admitted-not, admitted-next}
+use Rattle.filter_checks.proofs.all_admitted.Statement.{statement}
+use Rattle.filter_checks.proofs.all_admitted.Tie as tie
 
 abbrev Inv-loop : tie.InvT-loop
 Inv-loop map i₀ i = (i ≤ length map) × (allAdmitted (drop i map) ≡ allAdmitted map)

@@ -1,10 +1,10 @@
--- `calls::refused_dest` meets its contract: each return rewrites with the tests that led there. Assumes nothing.
+-- `filter_checks::refused_dest` meets its contract: each return rewrites with the tests that led there. Assumes nothing.
 use borrow.Author.Needs.{needs}
 use borrow.Author.Tests.{eq-eqb, ne-eqb, not-true, not-false}
-use Rattle.calls.specs.Calls.{destRows}
-use Rattle.calls.proofs.Checking.{too-short, too-late, has-room}
-use Rattle.calls.proofs.refused_dest.Statement.{statement}
-use Rattle.calls.proofs.refused_dest.Tie as tie
+use Rattle.filter_checks.specs.Calls.{destRows}
+use Rattle.filter_checks.proofs.Checking.{too-short, too-late, has-room}
+use Rattle.filter_checks.proofs.refused_dest.Statement.{statement}
+use Rattle.filter_checks.proofs.refused_dest.Tie as tie
 
 returns : tie.Need-returns
 unfolding destRows

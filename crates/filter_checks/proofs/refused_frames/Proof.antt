@@ -1,9 +1,9 @@
--- `calls::refused_frames` meets its contract: each return rewrites with the tests that led there. Assumes nothing.
+-- `filter_checks::refused_frames` meets its contract: each return rewrites with the tests that led there. Assumes nothing.
 use borrow.Author.Needs.{needs}
 use borrow.Author.Tests.{eq-eqb, ne-eqb, lt-ltb, le-ltb}
-use Rattle.calls.specs.Calls.{frameRows}
-use Rattle.calls.proofs.refused_frames.Statement.{statement}
-use Rattle.calls.proofs.refused_frames.Tie as tie
+use Rattle.filter_checks.specs.Calls.{frameRows}
+use Rattle.filter_checks.proofs.refused_frames.Statement.{statement}
+use Rattle.filter_checks.proofs.refused_frames.Tie as tie
 
 returns : tie.Need-returns
 unfolding frameRows

@@ -1,10 +1,10 @@
--- `calls::refused_map` meets its contract: each return rewrites with the tests that led there. Assumes nothing.
+-- `filter_checks::refused_map` meets its contract: each return rewrites with the tests that led there. Assumes nothing.
 use borrow.Author.Needs.{needs}
 use borrow.Author.Tests.{eq-eqb, ne-eqb, not-true, not-false}
 use mathlib.Core.Path.{sym, _∙_}
-use Rattle.calls.specs.Calls.{mapRows}
-use Rattle.calls.proofs.refused_map.Statement.{statement}
-use Rattle.calls.proofs.refused_map.Tie as tie
+use Rattle.filter_checks.specs.Calls.{mapRows}
+use Rattle.filter_checks.proofs.refused_map.Statement.{statement}
+use Rattle.filter_checks.proofs.refused_map.Tie as tie
 
 returns : tie.Need-returns
 unfolding mapRows

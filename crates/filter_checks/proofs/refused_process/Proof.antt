@@ -1,11 +1,11 @@
--- `calls::refused_process` meets its contract: the first number where it is one, and else the second. Assumes nothing.
+-- `filter_checks::refused_process` meets its contract: the first number where it is one, and else the second. Assumes nothing.
 use borrow.Author.Needs.{needs}
 use mathlib.Core.Path.{sym, _∙_}
-use Rattle.refusals.proofs.Rows.{number-first, number-next}
-use Rattle.calls.proofs.Checking.{seeds}
-use Rattle.calls.specs.Calls.{seedRows, destRows}
-use Rattle.calls.proofs.refused_process.Statement.{statement}
-use Rattle.calls.proofs.refused_process.Tie as tie
+use Rattle.base_refusals.proofs.Rows.{number-first, number-next}
+use Rattle.filter_checks.proofs.Checking.{seeds}
+use Rattle.filter_checks.specs.Calls.{seedRows, destRows}
+use Rattle.filter_checks.proofs.refused_process.Statement.{statement}
+use Rattle.filter_checks.proofs.refused_process.Tie as tie
 
 returns : tie.Need-returns
 returns c =

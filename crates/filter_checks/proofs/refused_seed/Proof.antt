@@ -1,10 +1,10 @@
--- `calls::refused_seed` meets its contract: the first number where it is one, and else the second. Assumes nothing.
+-- `filter_checks::refused_seed` meets its contract: the first number where it is one, and else the second. Assumes nothing.
 use borrow.Author.Needs.{needs}
 use mathlib.Core.Path.{sym, _∙_}
-use Rattle.refusals.proofs.Rows.{number-first, number-next}
-use Rattle.calls.specs.Calls.{frameRows, mapRows}
-use Rattle.calls.proofs.refused_seed.Statement.{statement}
-use Rattle.calls.proofs.refused_seed.Tie as tie
+use Rattle.base_refusals.proofs.Rows.{number-first, number-next}
+use Rattle.filter_checks.specs.Calls.{frameRows, mapRows}
+use Rattle.filter_checks.proofs.refused_seed.Statement.{statement}
+use Rattle.filter_checks.proofs.refused_seed.Tie as tie
 
 returns : tie.Need-returns
 returns c =

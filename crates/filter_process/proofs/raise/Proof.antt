@@ -4,9 +4,9 @@ use borrow.Author.Tests.{not-true, not-false}
 use mathlib.Core.Path.{ap, _∙_}
 use mathlib.Core.List.{List}
 use lib.Ieee.{Float}
-use Rattle.refusals.specs.Outcome.{keptBy}
-use Rattle.sample_peak.specs.declared.Peaks.{Peaks}
-use Rattle.sample_peak.specs.Peak.{raised}
+use Rattle.base_refusals.specs.Outcome.{keptBy}
+use Rattle.filter_sample_peak.specs.declared.Peaks.{Peaks}
+use Rattle.filter_sample_peak.specs.Peak.{raised}
 use Rattle.filter.proofs.Lent.{lent-f64}
 use Rattle.filter_process.proofs.raise.Statement.{statement}
 use Rattle.filter_process.proofs.raise.Tie as tie

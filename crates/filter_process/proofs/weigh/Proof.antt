@@ -4,8 +4,8 @@ use borrow.Author.Tests.{not-true, not-false}
 use mathlib.Core.Path.{refl, ap, _∙_}
 use mathlib.Core.List.{List}
 use lib.Ieee.{Float}
-use Rattle.states.specs.Channels.{callOf}
-use Rattle.weighting.specs.Weighting.{Kept, kept}
+use Rattle.filter_recurrence.specs.Channels.{callOf}
+use Rattle.filter_weighting.specs.Weighting.{Kept, kept}
 use Rattle.filter.proofs.Lent.{lent-f64}
 use Rattle.filter_process.proofs.weigh.Statement.{statement}
 use Rattle.filter_process.proofs.weigh.Tie as tie

@@ -1,6 +1,6 @@
--- `sample_peak::greater_of` meets its contract: its test is the definition's. Assumes nothing.
-use Rattle.sample_peak.proofs.greater_of.Statement.{statement}
-use Rattle.sample_peak.proofs.greater_of.Tie as tie
+-- `filter_sample_peak::greater_of` meets its contract: its test is the definition's. Assumes nothing.
+use Rattle.filter_sample_peak.proofs.greater_of.Statement.{statement}
+use Rattle.filter_sample_peak.proofs.greater_of.Tie as tie
 
 returns : tie.Need-returns
 returns c = simp (c .if1 .taken)

@@ -1,4 +1,4 @@
--- `sample_peak::largest_all` meets its contract: each top is the largest magnitude of the frames done. Assumes nothing.
+-- `filter_sample_peak::largest_all` meets its contract: each top is the largest magnitude of the frames done. Assumes nothing.
 use borrow.Author.Needs.{needs}
 use Prim.Native.Nat.{ℕ, _-_, _≤_, _<_}
 use native.Mathlib.Omega.{arith}
@@ -8,16 +8,16 @@ use lib.ListN.{length, getD}
 use lib.Ieee.{Float, nan}
 use lib.Ieee.{lt, ofBits}
 use Rattle.samples.specs.Frames.{column}
-use Rattle.sources.specs.Blocks.{blockPlaces}
-use Rattle.sources.specs.Source.{sourceOf}
-use Rattle.floats.specs.Entry.{plusZero}
-use Rattle.floats.specs.Largest.{largest}
-use Rattle.floats.proofs.Magnitude.{largest-high, zero-high}
-use Rattle.sample_peak.proofs.Loudest.{peaks, channels-length, channels-first, start-tops}
-use Rattle.sources.proofs.Cutting.{Next, Step, step, filled}
-use Rattle.sample_peak.proofs.Cutting.{cut-peaks}
-use Rattle.sample_peak.proofs.largest_all.Statement.{statement}
-use Rattle.sample_peak.proofs.largest_all.Tie as tie
+use Rattle.samples.specs.Blocks.{blockPlaces}
+use Rattle.samples.specs.Source.{sourceOf}
+use Rattle.base_floats.specs.Entry.{plusZero}
+use Rattle.base_floats.specs.Largest.{largest}
+use Rattle.base_floats.proofs.Magnitude.{largest-high, zero-high}
+use Rattle.filter_sample_peak.proofs.Loudest.{peaks, channels-length, channels-first, start-tops}
+use Rattle.samples.proofs.Cutting.{Next, Step, step, filled}
+use Rattle.filter_sample_peak.proofs.Cutting.{cut-peaks}
+use Rattle.filter_sample_peak.proofs.largest_all.Statement.{statement}
+use Rattle.filter_sample_peak.proofs.largest_all.Tie as tie
 
 abbrev Inv-loop : tie.InvT-loop
 Inv-loop channels frames ints floats stretch₀ most tops₀ done₀ stretch tops done =

@@ -1,4 +1,4 @@
--- `sample_peak::process` meets its contract: the number of the check is the refusal, and past it the peaks are what the definitions say. Assumes nothing.
+-- `filter_sample_peak::process` meets its contract: the number of the check is the refusal, and past it the peaks are what the definitions say. Assumes nothing.
 use borrow.Author.Needs.{needs}
 use Prim.Native.Nat.{ℕ}
 use native.Mathlib.Omega.{arith}
@@ -6,18 +6,18 @@ use mathlib.Core.Path.{_≡_, sym, ap, _∙_}
 use mathlib.Core.List.{List}
 use lib.ListN.{length}
 use lib.Ieee.{Float}
-use Rattle.refusals.specs.Outcome.{Outcome, saidBy, keptBy, went, NoValues, done}
-use Rattle.refusals.specs.Rows.{Row, numberOf}
-use Rattle.refusals.proofs.Rows.{stopped, goes}
-use Rattle.calls.specs.Calls.{frameRows}
-use Rattle.calls.proofs.Checking.{Framed, frames-fine}
-use Rattle.sources.specs.Source.{sourceOf}
-use Rattle.sources.proofs.Cutting.{all-frames}
-use Rattle.sample_peak.specs.declared.Peaks.{Peaks}
-use Rattle.sample_peak.specs.Peak.{peaksAfter, raised}
-use Rattle.sample_peak.proofs.Cutting.{peaks-are}
-use Rattle.sample_peak.proofs.process.Statement.{statement}
-use Rattle.sample_peak.proofs.process.Tie as tie
+use Rattle.base_refusals.specs.Outcome.{Outcome, saidBy, keptBy, went, NoValues, done}
+use Rattle.base_refusals.specs.Rows.{Row, numberOf}
+use Rattle.base_refusals.proofs.Rows.{stopped, goes}
+use Rattle.filter_checks.specs.Calls.{frameRows}
+use Rattle.filter_checks.proofs.Checking.{frames-fine}
+use Rattle.samples.specs.Source.{sourceOf}
+use Rattle.samples.proofs.Cutting.{all-frames, Framed}
+use Rattle.filter_sample_peak.specs.declared.Peaks.{Peaks}
+use Rattle.filter_sample_peak.specs.Peak.{peaksAfter, raised}
+use Rattle.filter_sample_peak.proofs.Cutting.{peaks-are}
+use Rattle.filter_sample_peak.proofs.process.Statement.{statement}
+use Rattle.filter_sample_peak.proofs.process.Tie as tie
 
 -- the call's floats
 abbrev src : tie.Start → List Float

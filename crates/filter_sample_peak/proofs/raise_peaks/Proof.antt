@@ -1,4 +1,4 @@
--- `sample_peak::raise_peaks` meets its contract: the channels left, from the peaks as they are, give what all of them give. Assumes nothing.
+-- `filter_sample_peak::raise_peaks` meets its contract: the channels left, from the peaks as they are, give what all of them give. Assumes nothing.
 use borrow.Author.Needs.{needs}
 use Prim.Native.Nat.{ℕ, _-_, _≤_}
 use native.Mathlib.Omega.{arith}
@@ -6,11 +6,11 @@ use mathlib.Core.Path.{_≡_, sym, ap, _∙_}
 use mathlib.Core.List.{List}
 use lib.ListN.{getD, set}
 use lib.Ieee.{Float, nan}
-use Rattle.floats.specs.Largest.{greater}
-use Rattle.sample_peak.specs.Peak.{overChannels}
-use Rattle.sample_peak.proofs.Loudest.{channels-again, channels-end}
-use Rattle.sample_peak.proofs.raise_peaks.Statement.{statement}
-use Rattle.sample_peak.proofs.raise_peaks.Tie as tie
+use Rattle.base_floats.specs.Largest.{greater}
+use Rattle.filter_sample_peak.specs.Peak.{overChannels}
+use Rattle.filter_sample_peak.proofs.Loudest.{channels-again, channels-end}
+use Rattle.filter_sample_peak.proofs.raise_peaks.Statement.{statement}
+use Rattle.filter_sample_peak.proofs.raise_peaks.Tie as tie
 
 abbrev raises : List Float → ℕ → Float → Float
 raises tops k peak = greater peak (getD tops k nan)

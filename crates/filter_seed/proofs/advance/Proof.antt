@@ -4,10 +4,10 @@ use borrow.Author.Tests.{not-true, not-false}
 use mathlib.Core.Path.{ap, _∙_}
 use mathlib.Core.List.{List}
 use lib.Ieee.{Float}
-use Rattle.refusals.specs.Outcome.{keptBy}
-use Rattle.states.specs.declared.State.{State}
-use Rattle.states.specs.Channels.{callOf}
-use Rattle.seeding.specs.Seeding.{moved}
+use Rattle.base_refusals.specs.Outcome.{keptBy}
+use Rattle.filter_recurrence.specs.declared.states.State.{State}
+use Rattle.filter_recurrence.specs.Channels.{callOf}
+use Rattle.filter_weighting.specs.Seeding.{moved}
 use Rattle.filter.proofs.Lent.{lent-f64}
 use Rattle.filter_seed.proofs.advance.Statement.{statement}
 use Rattle.filter_seed.proofs.advance.Tie as tie

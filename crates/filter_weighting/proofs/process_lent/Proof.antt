@@ -1,4 +1,4 @@
--- `weighting::process_lent` meets its contract: the number of the check is the refusal, and past it state and destination are what the definitions say. Assumes nothing.
+-- `filter_weighting::process_lent` meets its contract: the number of the check is the refusal, and past it state and destination are what the definitions say. Assumes nothing.
 use borrow.Author.Needs.{needs}
 use Prim.Native.Nat.{ℕ}
 use native.Mathlib.Nat.{le-of-eq}
@@ -7,19 +7,19 @@ use mathlib.Core.Path.{_≡_, sym, ap, _∙_}
 use mathlib.Core.Bool.{true}
 use mathlib.Core.List.{List}
 use lib.ListN.{length}
-use Rattle.refusals.specs.Outcome.{Outcome, saidBy, keptBy, went, NoValues, done}
-use Rattle.refusals.specs.Rows.{Row, numberOf}
-use Rattle.refusals.proofs.Rows.{stopped, goes}
-use Rattle.calls.specs.Calls.{sizes, processRows}
-use Rattle.calls.proofs.Checking.{Processes, processes}
-use Rattle.sources.specs.Source.{sourceOf}
-use Rattle.sources.proofs.Cutting.{all-frames}
-use Rattle.states.specs.Channels.{Call, callOf, stateAfter}
-use Rattle.states.proofs.Runs.{state-is}
-use Rattle.weighting.specs.Weighting.{Kept, destAfter, weighingRows, weighed}
-use Rattle.weighting.proofs.Destinations.{dest-is}
-use Rattle.weighting.proofs.process_lent.Statement.{statement}
-use Rattle.weighting.proofs.process_lent.Tie as tie
+use Rattle.base_refusals.specs.Outcome.{Outcome, saidBy, keptBy, went, NoValues, done}
+use Rattle.base_refusals.specs.Rows.{Row, numberOf}
+use Rattle.base_refusals.proofs.Rows.{stopped, goes}
+use Rattle.filter_checks.specs.Calls.{sizes, processRows}
+use Rattle.filter_checks.proofs.Checking.{Processes, processes}
+use Rattle.samples.specs.Source.{sourceOf}
+use Rattle.samples.proofs.Cutting.{all-frames}
+use Rattle.filter_recurrence.specs.Channels.{Call, callOf, stateAfter}
+use Rattle.filter_recurrence.proofs.Runs.{state-is}
+use Rattle.filter_weighting.specs.Weighting.{Kept, destAfter, weighingRows, weighed}
+use Rattle.filter_weighting.proofs.Destinations.{dest-is}
+use Rattle.filter_weighting.proofs.process_lent.Statement.{statement}
+use Rattle.filter_weighting.proofs.process_lent.Tie as tie
 
 -- the call of the definitions
 abbrev call : tie.Start → Call

@@ -5,9 +5,9 @@ use mathlib.Core.Path.{_≡_, refl, sym, ap, _∙_}
 use borrow.Author.Needs.{needs}
 use denote.Ref.{now}
 use lib.ListN.{length, getD, take, drop}
-use Rattle.history.specs.Set.{Histories, histories, chosen, shows, allShow}
-use Rattle.history.proofs.Entries.{past-the-last, inside-at, sound-at, shows-next, shows-end}
-use Rattle.history.proofs.Rows.{Kept, kept}
+use Rattle.history_set.specs.Set.{Histories, histories, chosen, shows, allShow}
+use Rattle.history_set.proofs.Entries.{past-the-last, inside-at, sound-at, shows-next, shows-end}
+use Rattle.history_set.proofs.Rows.{Kept, kept}
 use Rattle.gate.specs.declared.blocks.Totals.{Totals}
 use Rattle.gate.specs.Totals.{mostBlocks, none}
 use Rattle.gate.specs.Inner.{Steady}

@@ -2,8 +2,8 @@
 use mathlib.Core.Path.{_≡_, sym, _∙_}
 use borrow.Author.Needs.{needs}
 use denote.Ref.{now}
-use Rattle.refusals.specs.Rows.{numberOf}
-use Rattle.history.specs.Set.{Histories, histories, setRows}
+use Rattle.base_refusals.specs.Rows.{numberOf}
+use Rattle.history_set.specs.Set.{Histories, histories, setRows}
 use Rattle.gate.proofs.Gating.{gate-refused, gate-asked}
 use Rattle.gate.proofs.gate.Statement.{statement}
 use Rattle.gate.proofs.gate.Tie as tie

@@ -2,8 +2,8 @@
 use mathlib.Core.Path.{_≡_, sym, _∙_}
 use borrow.Author.Needs.{needs}
 use denote.Ref.{now}
-use Rattle.refusals.specs.Rows.{numberOf}
-use Rattle.history.specs.Set.{Histories, historiesOf, allShow, setRows}
+use Rattle.base_refusals.specs.Rows.{numberOf}
+use Rattle.history_set.specs.Set.{Histories, historiesOf, allShow, setRows}
 use Rattle.gate.specs.Totals.{none}
 use Rattle.gate.specs.Sums.{alone}
 use Rattle.gate.specs.Gate.{allGated}

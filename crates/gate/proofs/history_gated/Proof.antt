@@ -4,9 +4,9 @@ use mathlib.Core.Path.{sym, ap, subst, _∙_}
 use borrow.Author.Needs.{needs}
 use denote.Ref.{now}
 use lib.ListN.{length, drop}
-use Rattle.history.specs.declared.set.Shape.{Shape}
-use Rattle.history.specs.Set.{countersEnd, storeEnd, countersAt, shapeShows}
-use Rattle.history.proofs.Entries.{counters-inside, store-inside, sound-queue}
+use Rattle.history_set.specs.declared.set.Shape.{Shape}
+use Rattle.history_set.specs.Set.{countersEnd, storeEnd, countersAt, shapeShows}
+use Rattle.history_set.proofs.Entries.{counters-inside, store-inside, sound-queue}
 use Rattle.gate.specs.declared.blocks.Totals.{Totals}
 use Rattle.gate.specs.Totals.{onTopOf, binsFrom}
 use Rattle.gate.specs.Inner.{Steady}

@@ -1,4 +1,4 @@
--- `histogram::add` meets its contract, case by case: the bin found is the energy's, so the counter read and written is the bin's.
+-- `history_histogram::add` meets its contract, case by case: the bin found is the energy's, so the counter read and written is the bin's.
 -- Assumes nothing.
 use Prim.Native.Nat.{ℕ, _<_, _+_}
 use native.Mathlib.Omega.{arith}
@@ -8,12 +8,12 @@ use borrow.Author.Needs.{needs}
 use denote.Ref.{now}
 use lib.Ieee.{lt}
 use lib.ListN.{getD, set}
-use Rattle.histogram_bins.specs.Bin.{bins, binOf}
-use Rattle.histogram_bins.proofs.Bins.{bin-below}
-use Rattle.histogram_bins.specs.Energy.{dropped}
-use Rattle.histogram.proofs.Counters.{add-store, add-dropped, add-full, add-went}
-use Rattle.histogram.proofs.add.Statement.{statement}
-use Rattle.histogram.proofs.add.Tie as tie
+use Rattle.bins.specs.Bin.{bins, binOf}
+use Rattle.bins.proofs.Bins.{bin-below}
+use Rattle.bins.specs.Energy.{dropped}
+use Rattle.history_histogram.proofs.Counters.{add-store, add-dropped, add-full, add-went}
+use Rattle.history_histogram.proofs.add.Statement.{statement}
+use Rattle.history_histogram.proofs.add.Tie as tie
 
 returns : tie.Need-returns
 returns c = rw (add-store _ _ (c .if1 .taken)) (refl, refl)

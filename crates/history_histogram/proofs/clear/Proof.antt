@@ -1,4 +1,4 @@
--- `histogram::clear` meets its contract. The invariant: the counters before `bin` are 0, and the others are as they were.
+-- `history_histogram::clear` meets its contract. The invariant: the counters before `bin` are 0, and the others are as they were.
 -- Assumes nothing.
 use Prim.Native.Nat.{ℕ, _-_, _≤_}
 use native.Mathlib.Omega.{arith}
@@ -8,9 +8,9 @@ use borrow.Author.Needs.{needs}
 use borrow.Author.Fill.{fill-more}
 use denote.Ref.{now}
 use lib.ListN.{length, length-set, replicate, drop, set}
-use Rattle.histogram.proofs.Counters.{all-zero}
-use Rattle.histogram.proofs.clear.Statement.{statement}
-use Rattle.histogram.proofs.clear.Tie as tie
+use Rattle.history_histogram.proofs.Counters.{all-zero}
+use Rattle.history_histogram.proofs.clear.Statement.{statement}
+use Rattle.history_histogram.proofs.clear.Tie as tie
 
 abbrev Inv-loop : tie.InvT-loop
 Inv-loop counters₀ bin₀ counters bin = (bin ≤ length counters₀) × (length counters ≡ length counters₀) × (counters ≡ replicate bin 0 ++ drop bin counters₀)

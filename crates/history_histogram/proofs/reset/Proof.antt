@@ -1,9 +1,9 @@
--- `histogram::reset` meets its contract: `clear` empties a histogram, and no other store is touched. Assumes nothing.
+-- `history_histogram::reset` meets its contract: `clear` empties a histogram, and no other store is touched. Assumes nothing.
 use mathlib.Core.Path.{refl}
 use borrow.Author.Needs.{needs}
-use Rattle.histogram.proofs.Counters.{clear-store, clear-went}
-use Rattle.histogram.proofs.reset.Statement.{statement}
-use Rattle.histogram.proofs.reset.Tie as tie
+use Rattle.history_histogram.proofs.Counters.{clear-store, clear-went}
+use Rattle.history_histogram.proofs.reset.Statement.{statement}
+use Rattle.history_histogram.proofs.reset.Tie as tie
 
 returns : tie.Need-returns
 returns c = rw (clear-store _ (c .if1 .taken)) (refl, refl)

@@ -1,8 +1,8 @@
 -- `interleaved_filter::taken_of` meets its contract, case by case. Assumes nothing.
 use borrow.Author.Needs.{needs}
 use mathlib.Core.Path.{sym, ap}
-use Rattle.refusals.specs.declared.Answer.{Answer}
-use Rattle.refusals.specs.Answer.{said}
+use Rattle.base_refusals.specs.declared.Answer.{Answer}
+use Rattle.base_refusals.specs.Answer.{said}
 use Rattle.interleaved_filter.specs.Said.{asTaken}
 use Rattle.interleaved_filter.proofs.taken_of.Statement.{statement}
 use Rattle.interleaved_filter.proofs.taken_of.Tie as tie

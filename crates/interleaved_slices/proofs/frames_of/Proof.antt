@@ -1,10 +1,10 @@
--- `interleaved_frames::frames_of` meets its contract: the number of the refusal decides. Assumes nothing.
+-- `interleaved_slices::frames_of` meets its contract: the number of the refusal decides. Assumes nothing.
 use borrow.Author.Needs.{needs}
 use mathlib.Core.Path.{ap, _∙_}
-use Rattle.refusals.specs.Outcome.{says}
-use Rattle.interleaved_frames.proofs.Checking.{goes, stops}
-use Rattle.interleaved_frames.proofs.frames_of.Statement.{statement}
-use Rattle.interleaved_frames.proofs.frames_of.Tie as tie
+use Rattle.base_refusals.specs.Outcome.{says}
+use Rattle.interleaved_slices.proofs.Checking.{goes, stops}
+use Rattle.interleaved_slices.proofs.frames_of.Statement.{statement}
+use Rattle.interleaved_slices.proofs.frames_of.Tie as tie
 
 returns : tie.Need-returns
 returns c = stops _ _ _ _ (c .before .refused-frames .ensures) (c .if1 .taken)

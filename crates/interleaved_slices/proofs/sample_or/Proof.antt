@@ -1,12 +1,12 @@
--- `interleaved_frames::sample_or` meets its contract: the number of the refusal decides, and then the two tests of the place. Assumes nothing.
+-- `interleaved_slices::sample_or` meets its contract: the number of the refusal decides, and then the two tests of the place. Assumes nothing.
 use borrow.Author.Needs.{needs}
 use Prim.Native.Nat.{ℕ, _≤_, _<_}
 use mathlib.Core.Path.{sym, ap, subst, _∙_}
-use Rattle.refusals.specs.Outcome.{says}
+use Rattle.base_refusals.specs.Outcome.{says}
 use Rattle.samples.specs.Frames.{framesOf}
-use Rattle.interleaved_frames.proofs.Checking.{goes, stops, no-channel, no-frame, there}
-use Rattle.interleaved_frames.proofs.sample_or.Statement.{statement}
-use Rattle.interleaved_frames.proofs.sample_or.Tie as tie
+use Rattle.interleaved_slices.proofs.Checking.{goes, stops, no-channel, no-frame, there}
+use Rattle.interleaved_slices.proofs.sample_or.Statement.{statement}
+use Rattle.interleaved_slices.proofs.sample_or.Tie as tie
 
 returns : tie.Need-returns
 returns c = stops _ _ _ _ (c .before .refused-frames .ensures) (c .if1 .taken)

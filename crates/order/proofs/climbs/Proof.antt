@@ -1,12 +1,12 @@
--- `ordering::climbs` meets its contract. The invariant: where `fine` holds, each energy before i is at most the next. Assumes nothing.
+-- `order::climbs` meets its contract. The invariant: where `fine` holds, each energy before i is at most the next. Assumes nothing.
 use mathlib.Core.Path.{_≡_}
 use mathlib.Core.Bool.{true}
 use Prim.Native.Nat.{_-_}
 use native.Mathlib.Omega.{arith}
-use Rattle.ordering.specs.Inner.{Climbs}
-use Rattle.ordering.proofs.Runs.{climb-on}
-use Rattle.ordering.proofs.climbs.Statement.{statement}
-use Rattle.ordering.proofs.climbs.Tie as tie
+use Rattle.order.specs.Inner.{Climbs}
+use Rattle.order.proofs.Runs.{climb-on}
+use Rattle.order.proofs.climbs.Statement.{statement}
+use Rattle.order.proofs.climbs.Tie as tie
 
 abbrev Inv-loop : tie.InvT-loop
 Inv-loop energies from until fine₀ i₀ fine i = (fine ≡ true → Climbs from i energies)

@@ -1,9 +1,9 @@
--- `ordering::exchange` meets its contract. Assumes nothing.
+-- `order::exchange` meets its contract. Assumes nothing.
 use native.Mathlib.Omega.{arith}
 use lib.ListN.{length-set}
 use borrow.Author.Needs.{needs}
-use Rattle.ordering.proofs.exchange.Statement.{statement}
-use Rattle.ordering.proofs.exchange.Tie as tie
+use Rattle.order.proofs.exchange.Statement.{statement}
+use Rattle.order.proofs.exchange.Tie as tie
 
 slice-write-part-2 : tie.Need-slice-write-part-2
 slice-write-part-2 c = simp length-set (omega arith)

@@ -1,12 +1,12 @@
--- `ordering::exchange_two` meets its contract: what its four stores leave are two exchanges. Assumes nothing.
+-- `order::exchange_two` meets its contract: what its four stores leave are two exchanges. Assumes nothing.
 use mathlib.Core.Path.{refl}
 use native.Mathlib.Omega.{arith}
 use denote.Ref.{now}
 use lib.ListN.{length-set}
-use Rattle.ordering.proofs.Runs.{stored-two}
+use Rattle.order.proofs.Runs.{stored-two}
 use borrow.Author.Needs.{needs}
-use Rattle.ordering.proofs.exchange_two.Statement.{statement}
-use Rattle.ordering.proofs.exchange_two.Tie as tie
+use Rattle.order.proofs.exchange_two.Statement.{statement}
+use Rattle.order.proofs.exchange_two.Tie as tie
 
 slice-write-part-2 : tie.Need-slice-write-part-2
 slice-write-part-2 c = simp length-set (omega arith)

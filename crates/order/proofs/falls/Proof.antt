@@ -1,15 +1,15 @@
--- `ordering::falls` meets its contract. The invariant: up to the place i the energies fall, step by step. Assumes nothing.
+-- `order::falls` meets its contract. The invariant: up to the place i the energies fall, step by step. Assumes nothing.
 use mathlib.Core.Path.{sym}
 use mathlib.Core.Bool.{true≢false}
 use Prim.Native.Nat.{ℕ, suc, _-_, _≤_}
 use native.Mathlib.Omega.{arith}
 use lib.Dec.{T}
 use lib.Ieee.{le}
-use Rattle.floats.specs.Entry.{at}
-use Rattle.ordering.specs.Inner.{Sinks}
-use Rattle.ordering.proofs.Runs.{stretched, sunk, no-energies}
-use Rattle.ordering.proofs.falls.Statement.{statement}
-use Rattle.ordering.proofs.falls.Tie as tie
+use Rattle.base_floats.specs.Entry.{at}
+use Rattle.order.specs.Inner.{Sinks}
+use Rattle.order.proofs.Runs.{stretched, sunk, no-energies}
+use Rattle.order.proofs.falls.Statement.{statement}
+use Rattle.order.proofs.falls.Tie as tie
 
 abbrev Inv-loop : tie.InvT-loop
 Inv-loop energies n last i₀ i = (i ≤ last) × Sinks 0 i energies

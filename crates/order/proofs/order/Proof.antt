@@ -1,10 +1,10 @@
--- `ordering::order` meets its contract: what rises is left as it is, what falls is turned round, the rest is split and ordered; each is the one order there is.
+-- `order::order` meets its contract: what rises is left as it is, what falls is turned round, the rest is split and ordered; each is the one order there is.
 -- Assumes nothing.
 use borrow.Author.Needs.{needs}
-use Rattle.rising_order.proofs.Answers.{in-order-already, brought-in-order}
-use Rattle.ordering.proofs.Runs.{falling-turned}
-use Rattle.ordering.proofs.order.Statement.{statement}
-use Rattle.ordering.proofs.order.Tie as tie
+use Rattle.order_rules.proofs.Answers.{in-order-already, brought-in-order}
+use Rattle.order.proofs.Runs.{falling-turned}
+use Rattle.order.proofs.order.Statement.{statement}
+use Rattle.order.proofs.order.Tie as tie
 
 returns : tie.Need-returns
 returns c =

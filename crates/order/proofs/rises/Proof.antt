@@ -1,15 +1,15 @@
--- `ordering::rises` meets its contract. The invariant: up to the place i the energies rise, step by step. Assumes nothing.
+-- `order::rises` meets its contract. The invariant: up to the place i the energies rise, step by step. Assumes nothing.
 use mathlib.Core.Path.{sym}
 use mathlib.Core.Bool.{true≢false}
 use Prim.Native.Nat.{ℕ, suc, _-_, _≤_}
 use native.Mathlib.Omega.{arith}
 use lib.Dec.{T}
 use lib.Ieee.{le}
-use Rattle.floats.specs.Entry.{at}
-use Rattle.ordering.specs.Inner.{Climbs}
-use Rattle.ordering.proofs.Runs.{stretched, climbed, no-energies}
-use Rattle.ordering.proofs.rises.Statement.{statement}
-use Rattle.ordering.proofs.rises.Tie as tie
+use Rattle.base_floats.specs.Entry.{at}
+use Rattle.order.specs.Inner.{Climbs}
+use Rattle.order.proofs.Runs.{stretched, climbed, no-energies}
+use Rattle.order.proofs.rises.Statement.{statement}
+use Rattle.order.proofs.rises.Tie as tie
 
 abbrev Inv-loop : tie.InvT-loop
 Inv-loop energies n last i₀ i = (i ≤ last) × Climbs 0 i energies

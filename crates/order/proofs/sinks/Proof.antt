@@ -1,12 +1,12 @@
--- `ordering::sinks` meets its contract. The invariant: where `fine` holds, each energy before i is at least the next. Assumes nothing.
+-- `order::sinks` meets its contract. The invariant: where `fine` holds, each energy before i is at least the next. Assumes nothing.
 use mathlib.Core.Path.{_≡_}
 use mathlib.Core.Bool.{true}
 use Prim.Native.Nat.{_-_}
 use native.Mathlib.Omega.{arith}
-use Rattle.ordering.specs.Inner.{Sinks}
-use Rattle.ordering.proofs.Runs.{sink-on}
-use Rattle.ordering.proofs.sinks.Statement.{statement}
-use Rattle.ordering.proofs.sinks.Tie as tie
+use Rattle.order.specs.Inner.{Sinks}
+use Rattle.order.proofs.Runs.{sink-on}
+use Rattle.order.proofs.sinks.Statement.{statement}
+use Rattle.order.proofs.sinks.Tie as tie
 
 abbrev Inv-loop : tie.InvT-loop
 Inv-loop energies from until fine₀ i₀ fine i = (fine ≡ true → Sinks from i energies)

@@ -1,14 +1,14 @@
--- `ordering::turn_round` meets its contract. The invariant is `Turning`: the places up to i from either end are exchanged. Assumes nothing.
+-- `order::turn_round` meets its contract. The invariant is `Turning`: the places up to i from either end are exchanged. Assumes nothing.
 use mathlib.Core.Path.{_≡_, refl, sym, ap, _∙_}
 use Prim.Native.Nat.{ℕ, _+_, _-_, _/_, _≤_}
 use native.Mathlib.Omega.{arith}
 use lib.ListN.{length}
-use Rattle.rising_order.proofs.Perms.{perm-length}
-use Rattle.ordering.proofs.Runs.{Turning, turn-start, turn-on, turn-two, turn-done}
+use Rattle.order_rules.proofs.Perms.{perm-length}
+use Rattle.order.proofs.Runs.{Turning, turn-start, turn-on, turn-two, turn-done}
 use borrow.Author.Needs.{needs}
-use Rattle.ordering.proofs.turn_round.Statement.{statement}
-use Rattle.ordering.proofs.turn_round.Tie as tie
-use Rattle.ordering.proofs.exchange_two.Reads as exchange-two-reads
+use Rattle.order.proofs.turn_round.Statement.{statement}
+use Rattle.order.proofs.turn_round.Tie as tie
+use Rattle.order.proofs.exchange_two.Reads as exchange-two-reads
 
 abbrev Inv-loop : tie.InvT-loop
 Inv-loop part₀ half i₀ part i = (half ≡ length part / 2) × (i ≤ half) × Turning i part₀ part

@@ -1,16 +1,16 @@
--- `heap_order::build_heap` meets its contract: from the middle on no place has a child, and each turn lets one more energy sink. Assumes nothing.
+-- `order_heap::build_heap` meets its contract: from the middle on no place has a child, and each turn lets one more energy sink. Assumes nothing.
 use Prim.Native.Nat.{_/_}
 use native.Mathlib.Omega.{arith}
 use mathlib.Core.Path.{refl, sym}
 use lib.Dec.{T}
 use lib.ListN.{length}
 use lib.Ieee.Positive.{above}
-use Rattle.rising_order.specs.Arrangement.{unmoved, after, Above}
-use Rattle.heap_order.specs.Inner.{Heaped}
-use Rattle.rising_order.proofs.Perms.{perm-length, all-perm}
-use Rattle.heap_order.proofs.Heap.{heap-start}
-use Rattle.heap_order.proofs.build_heap.Statement.{statement}
-use Rattle.heap_order.proofs.build_heap.Tie as tie
+use Rattle.order_rules.specs.Arrangement.{unmoved, after, Above}
+use Rattle.order_heap.specs.Inner.{Heaped}
+use Rattle.order_rules.proofs.Perms.{perm-length, all-perm}
+use Rattle.order_heap.proofs.Heap.{heap-start}
+use Rattle.order_heap.proofs.build_heap.Statement.{statement}
+use Rattle.order_heap.proofs.build_heap.Tie as tie
 
 abbrev Inv-loop : tie.InvT-loop
 Inv-loop part₀ from₀ part from = Above part × Heaped from part₀ part

@@ -1,4 +1,4 @@
--- `heap_order::heap_sort` meets its contract. The invariant is `Draining`: before the place `left` stands a heap, and each energy from there on is
+-- `order_heap::heap_sort` meets its contract. The invariant is `Draining`: before the place `left` stands a heap, and each energy from there on is
 -- at least all before it. Assumes nothing.
 use Prim.Native.Nat.{_-_}
 use native.Mathlib.Omega.{arith}
@@ -8,11 +8,11 @@ use lib.Dec.{T}
 use lib.ListN.{length, length-set}
 use lib.Seq.{length-take-le}
 use lib.Ieee.Positive.{above}
-use Rattle.rising_order.specs.Arrangement.{after, exchanged}
-use Rattle.rising_order.proofs.Perms.{perm-length, all-perm}
-use Rattle.heap_order.proofs.Heap.{Draining, drain-start, drain-done, part-inside, part-above, part-is-heap, drain-on}
-use Rattle.heap_order.proofs.heap_sort.Statement.{statement}
-use Rattle.heap_order.proofs.heap_sort.Tie as tie
+use Rattle.order_rules.specs.Arrangement.{after, exchanged}
+use Rattle.order_rules.proofs.Perms.{perm-length, all-perm}
+use Rattle.order_heap.proofs.Heap.{Draining, drain-start, drain-done, part-inside, part-above, part-is-heap, drain-on}
+use Rattle.order_heap.proofs.heap_sort.Statement.{statement}
+use Rattle.order_heap.proofs.heap_sort.Tie as tie
 
 abbrev Inv-loop : tie.InvT-loop
 Inv-loop part₀ left₀ part left = Draining left part₀ part

@@ -1,8 +1,8 @@
--- `heap_order::larger_child` meets its contract: the right child is compared where there is one. Assumes nothing.
+-- `order_heap::larger_child` meets its contract: the right child is compared where there is one. Assumes nothing.
 use borrow.Author.Needs.{needs}
-use Rattle.heap_order.proofs.Heap.{left-only, right-larger, left-larger}
-use Rattle.heap_order.proofs.larger_child.Statement.{statement}
-use Rattle.heap_order.proofs.larger_child.Tie as tie
+use Rattle.order_heap.proofs.Heap.{left-only, right-larger, left-larger}
+use Rattle.order_heap.proofs.larger_child.Statement.{statement}
+use Rattle.order_heap.proofs.larger_child.Tie as tie
 
 returns : tie.Need-returns
 returns c = left-only (c .before .args .heap .now) (c .before .pre .1) (c .before .args .parent) (c .before .pre .0) (c .if1 .taken)

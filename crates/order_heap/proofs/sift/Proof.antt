@@ -1,13 +1,13 @@
--- `heap_order::sift` meets its contract. The invariant is `Sinking`: only the children of the present place may be above it. The measure is the places after it.
+-- `order_heap::sift` meets its contract. The invariant is `Sinking`: only the children of the present place may be above it. The measure is the places after it.
 -- Assumes nothing.
 use mathlib.Core.Path.{_≡_, refl, sym}
 use Prim.Native.Nat.{_/_, _-_}
 use native.Mathlib.Omega.{arith}
 use lib.ListN.{length, length-set}
-use Rattle.rising_order.proofs.Perms.{perm-length}
-use Rattle.heap_order.proofs.Heap.{Sinking, sink-start, sink-leaf, sink-rests, sink-on}
-use Rattle.heap_order.proofs.sift.Statement.{statement}
-use Rattle.heap_order.proofs.sift.Tie as tie
+use Rattle.order_rules.proofs.Perms.{perm-length}
+use Rattle.order_heap.proofs.Heap.{Sinking, sink-start, sink-leaf, sink-rests, sink-on}
+use Rattle.order_heap.proofs.sift.Statement.{statement}
+use Rattle.order_heap.proofs.sift.Tie as tie
 
 abbrev Inv-loop : tie.InvT-loop
 Inv-loop heap₀ from end at₀ heap at = (end ≡ length heap / 2) × (length heap ≡ length heap₀) × Sinking from at heap₀ heap

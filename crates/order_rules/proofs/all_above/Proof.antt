@@ -1,12 +1,12 @@
--- `rising_order::all_above` meets its contract. The invariant: what is left of the energies gives what the whole gives. Assumes nothing.
+-- `order_rules::all_above` meets its contract. The invariant: what is left of the energies gives what the whole gives. Assumes nothing.
 use mathlib.Core.Path.{_≡_, refl, sym, _∙_}
 use Prim.Native.Nat.{_-_}
 use native.Mathlib.Omega.{arith}
 use lib.ListN.{length, drop}
-use Rattle.rising_order.specs.Order.{allAbove}
-use Rattle.rising_order.proofs.AllAbove.{left-on, left-not, none-left}
-use Rattle.rising_order.proofs.all_above.Statement.{statement}
-use Rattle.rising_order.proofs.all_above.Tie as tie
+use Rattle.order_rules.specs.Order.{allAbove}
+use Rattle.order_rules.proofs.AllAbove.{left-on, left-not, none-left}
+use Rattle.order_rules.proofs.all_above.Statement.{statement}
+use Rattle.order_rules.proofs.all_above.Tie as tie
 
 abbrev Inv-loop : tie.InvT-loop
 Inv-loop energies n i₀ i = allAbove energies ≡ allAbove (drop i energies)

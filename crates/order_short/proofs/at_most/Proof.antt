@@ -1,13 +1,13 @@
--- `short_order::at_most` meets its contract. The invariant: what is found and what is left is the whole count. Assumes nothing.
+-- `order_short::at_most` meets its contract. The invariant: what is found and what is left is the whole count. Assumes nothing.
 use mathlib.Core.Path.{_≡_}
 use Prim.Native.Nat.{_+_, _-_}
 use native.Mathlib.Omega.{arith}
 use lib.ListN.{length, drop}
 use lib.Ieee.{le}
-use Rattle.short_order.specs.Inner.{count}
-use Rattle.short_order.proofs.Counting.{count-within, count-one, count-none, count-end}
-use Rattle.short_order.proofs.at_most.Statement.{statement}
-use Rattle.short_order.proofs.at_most.Tie as tie
+use Rattle.order_short.specs.Inner.{count}
+use Rattle.order_short.proofs.Counting.{count-within, count-one, count-none, count-end}
+use Rattle.order_short.proofs.at_most.Statement.{statement}
+use Rattle.order_short.proofs.at_most.Tie as tie
 
 abbrev Inv-loop : tie.InvT-loop
 Inv-loop energies x n found₀ i₀ found i = found + count (λ y. le y x) (drop i energies) ≡ count (λ y. le y x) energies

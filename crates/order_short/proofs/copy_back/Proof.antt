@@ -1,11 +1,11 @@
--- `short_order::copy_back` meets its contract. The invariant: the first i places are copied. Assumes nothing.
+-- `order_short::copy_back` meets its contract. The invariant: the first i places are copied. Assumes nothing.
 use mathlib.Core.Path.{_≡_, refl}
 use Prim.Native.Nat.{_-_}
 use native.Mathlib.Omega.{arith}
 use lib.ListN.{length, length-set}
-use Rattle.rising_order.proofs.Places.{Copied, copied-on, copied-all}
-use Rattle.short_order.proofs.copy_back.Statement.{statement}
-use Rattle.short_order.proofs.copy_back.Tie as tie
+use Rattle.order_rules.proofs.Places.{Copied, copied-on, copied-all}
+use Rattle.order_short.proofs.copy_back.Statement.{statement}
+use Rattle.order_short.proofs.copy_back.Tie as tie
 
 abbrev Inv-loop : tie.InvT-loop
 Inv-loop part₀ places n i₀ part i = (length part ≡ n) × Copied i places part

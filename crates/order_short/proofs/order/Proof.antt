@@ -1,11 +1,11 @@
--- `short_order::order` meets its contract: what is copied back is the order. Assumes nothing.
+-- `order_short::order` meets its contract: what is copied back is the order. Assumes nothing.
 use mathlib.Core.Path.{_≡_, sym, _∙_}
 use mathlib.Core.Bool.{true}
 use borrow.Author.Needs.{needs}
-use Rattle.rising_order.specs.Order.{allAbove}
-use Rattle.short_order.proofs.Answers.{too-many, in-order, left-alone}
-use Rattle.short_order.proofs.order.Statement.{statement}
-use Rattle.short_order.proofs.order.Tie as tie
+use Rattle.order_rules.specs.Order.{allAbove}
+use Rattle.order_short.proofs.Answers.{too-many, in-order, left-alone}
+use Rattle.order_short.proofs.order.Statement.{statement}
+use Rattle.order_short.proofs.order.Tie as tie
 
 returns : tie.Need-returns
 returns c = too-many (c .before .before .args .energies .now) (c .if1 .taken)

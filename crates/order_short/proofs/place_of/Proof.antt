@@ -1,4 +1,4 @@
--- `short_order::place_of` meets its contract: the energies before i and those from i on are counted apart. Assumes nothing.
+-- `order_short::place_of` meets its contract: the energies before i and those from i on are counted apart. Assumes nothing.
 use mathlib.Core.Path.{_≡_, sym, ap, _∙_}
 use Prim.Native.Nat.{_+_}
 use native.Mathlib.Omega.{arith}
@@ -6,12 +6,12 @@ use borrow.Author.Needs.{needs}
 use lib.ListN.{take, drop, length-drop}
 use lib.Seq.{length-take-le}
 use lib.Ieee.{le, lt}
-use Rattle.floats.specs.Entry.{at}
-use Rattle.short_order.specs.Inner.{count, placeOf}
-use Rattle.short_order.proofs.Counting.{count-within}
-use Rattle.rising_order.proofs.Places.{last-part}
-use Rattle.short_order.proofs.place_of.Statement.{statement}
-use Rattle.short_order.proofs.place_of.Tie as tie
+use Rattle.base_floats.specs.Entry.{at}
+use Rattle.order_short.specs.Inner.{count, placeOf}
+use Rattle.order_short.proofs.Counting.{count-within}
+use Rattle.order_rules.proofs.Places.{last-part}
+use Rattle.order_short.proofs.place_of.Statement.{statement}
+use Rattle.order_short.proofs.place_of.Tie as tie
 
 slice-aggregate-at-most : tie.Need-slice-aggregate-at-most
 slice-aggregate-at-most c =

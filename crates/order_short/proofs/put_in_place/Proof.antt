@@ -1,4 +1,4 @@
--- `short_order::put_in_place` meets its contract. The invariant: `fine` and what is left tell of the whole, and at the places of the first i energies
+-- `order_short::put_in_place` meets its contract. The invariant: `fine` and what is left tell of the whole, and at the places of the first i energies
 -- stands what the order has there (`Placed`), where all are above zero. Assumes nothing.
 use mathlib.Core.Path.{_≡_, refl, sym, subst, _∙_}
 use mathlib.Core.Bool.{_&&_}
@@ -6,14 +6,14 @@ use Prim.Native.Nat.{ℕ, _+_, _-_, _<_}
 use native.Mathlib.Omega.{arith}
 use borrow.Author.Needs.{needs}
 use lib.ListN.{length, drop, set, length-set}
-use Rattle.rising_order.specs.Order.{allAbove}
-use Rattle.floats.specs.Entry.{at}
-use Rattle.rising_order.specs.Arrangement.{All}
-use Rattle.rising_order.proofs.AllAbove.{above-all, fine-on, fine-end}
-use Rattle.rising_order.proofs.InOrder.{Energy, energies}
-use Rattle.short_order.proofs.Ranking.{Placed, placed-on, all-placed, place-inside}
-use Rattle.short_order.proofs.put_in_place.Statement.{statement}
-use Rattle.short_order.proofs.put_in_place.Tie as tie
+use Rattle.order_rules.specs.Order.{allAbove}
+use Rattle.base_floats.specs.Entry.{at}
+use Rattle.order_rules.specs.Arrangement.{All}
+use Rattle.order_rules.proofs.AllAbove.{above-all, fine-on, fine-end}
+use Rattle.order_rules.proofs.InOrder.{Energy, energies}
+use Rattle.order_short.proofs.Ranking.{Placed, placed-on, all-placed, place-inside}
+use Rattle.order_short.proofs.put_in_place.Statement.{statement}
+use Rattle.order_short.proofs.put_in_place.Tie as tie
 
 abbrev Inv-loop : tie.InvT-loop
 Inv-loop part places₀ n fine₀ i₀ places fine i =

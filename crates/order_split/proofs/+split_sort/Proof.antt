@@ -7,25 +7,25 @@ use lib.Dec.{T}
 use lib.ListN.{length, drop}
 use lib.Seq.{length-take-le}
 use lib.Ieee.Positive.{above}
-use Rattle.rising_order.specs.Arrangement.{Above}
-use Rattle.split_order.specs.Inner.{Parted}
-use Rattle.rising_order.proofs.Perms.{perm-length, all-perm, all-take, all-drop}
-use Rattle.rising_order.proofs.InOrder.{in-order}
-use Rattle.rising_order.proofs.AllAbove.{all-above}
-use Rattle.rising_order.proofs.Answers.{ordered-by}
-use Rattle.short_order.proofs.Answers.{short-order}
-use Rattle.split_order.proofs.Joining.{first-side, both-sides}
+use Rattle.order_rules.specs.Arrangement.{Above}
+use Rattle.order_split.specs.Inner.{Parted}
+use Rattle.order_rules.proofs.Perms.{perm-length, all-perm, all-take, all-drop}
+use Rattle.order_rules.proofs.InOrder.{in-order}
+use Rattle.order_rules.proofs.AllAbove.{all-above}
+use Rattle.order_rules.proofs.Answers.{ordered-by}
+use Rattle.order_short.proofs.Answers.{short-order}
+use Rattle.order_split.proofs.Joining.{first-side, both-sides}
 use borrow.Author.Needs.{needs}
 use borrow.Fn.Kinds.{In}
 use borrow.Fn.PlainCycle.{Measures, is, falls, and}
-use Rattle.split_order.proofs.split_sort.Reads as split-sort
-use Rattle.split_order.proofs.split_sort.Kinds as split-sort-kinds
-use Rattle.split_order.proofs.+split_sort.Lts-split_sort as split-sort-lts
-use Rattle.heap_order.proofs.order.Reads as heap-order-reads
-use Rattle.short_order.proofs.order.Reads as short-order-reads
-use Rattle.split_order.proofs.split.Reads as split-reads
-use Rattle.split_order.proofs.+split_sort.{statement}
-use Rattle.split_order.proofs.+split_sort.Tie.{close}
+use Rattle.order_split.proofs.split_sort.Reads as split-sort
+use Rattle.order_split.proofs.split_sort.Kinds as split-sort-kinds
+use Rattle.order_split.proofs.+split_sort.Lts-split_sort as split-sort-lts
+use Rattle.order_heap.proofs.order.Reads as heap-order-reads
+use Rattle.order_short.proofs.order.Reads as short-order-reads
+use Rattle.order_split.proofs.split.Reads as split-reads
+use Rattle.order_split.proofs.+split_sort.{statement}
+use Rattle.order_split.proofs.+split_sort.Tie.{close}
 
 abbrev μ-split-sort : Measures 1 split-sort-kinds.ps ℕ
 μ-split-sort κs a = a .1 .0

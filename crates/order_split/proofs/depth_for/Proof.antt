@@ -1,11 +1,11 @@
--- `split_order::depth_for` meets its contract. The invariant: what is counted and the digits that are left make up all digits. Assumes nothing.
+-- `order_split::depth_for` meets its contract. The invariant: what is counted and the digits that are left make up all digits. Assumes nothing.
 use mathlib.Core.Path.{_≡_, ap}
 use Prim.Native.Nat.{_+_, _*_}
 use native.Mathlib.Omega.{arith}
 use lib.Ieee.{size}
-use Rattle.split_order.proofs.Depth.{half-digits, no-digits, few-digits}
-use Rattle.split_order.proofs.depth_for.Statement.{statement}
-use Rattle.split_order.proofs.depth_for.Tie as tie
+use Rattle.order_split.proofs.Depth.{half-digits, no-digits, few-digits}
+use Rattle.order_split.proofs.depth_for.Statement.{statement}
+use Rattle.order_split.proofs.depth_for.Tie as tie
 
 abbrev Inv-loop : tie.InvT-loop
 Inv-loop n left₀ depth₀ left depth = depth + 2 * size left ≡ 2 * size n

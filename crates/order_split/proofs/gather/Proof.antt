@@ -1,4 +1,4 @@
--- `split_order::gather` meets its contract. The invariant is `Parting`, and each turn keeps it, whichever way the test goes. Assumes nothing.
+-- `order_split::gather` meets its contract. The invariant is `Parting`, and each turn keeps it, whichever way the test goes. Assumes nothing.
 use mathlib.Core.Path.{_≡_, refl, sym, ap, _∙_}
 use mathlib.Core.List.{List}
 use Prim.Native.Nat.{_-_, _*_, _^_, _<_}
@@ -7,13 +7,13 @@ use lib.Dec.{T}
 use lib.ListN.{length, getD, length-set}
 use lib.Ieee.{Float, nan}
 use lib.Ieee.Positive.{above}
-use Rattle.rising_order.specs.Arrangement.{Reordered, after}
-use Rattle.rising_order.proofs.Perms.{perm-length, exchanged-perm, all-perm}
-use Rattle.rising_order.proofs.Places.{exchanged-first}
-use Rattle.split_order.specs.Inner.{Parting}
-use Rattle.split_order.proofs.Parting.{part-start, is-gathered, is-left, parting-from}
-use Rattle.split_order.proofs.gather.Statement.{statement}
-use Rattle.split_order.proofs.gather.Tie as tie
+use Rattle.order_rules.specs.Arrangement.{Reordered, after}
+use Rattle.order_rules.proofs.Perms.{perm-length, exchanged-perm, all-perm}
+use Rattle.order_rules.proofs.Places.{exchanged-first}
+use Rattle.order_split.specs.Inner.{Parting}
+use Rattle.order_split.proofs.Parting.{part-start, is-gathered, is-left, parting-from}
+use Rattle.order_split.proofs.gather.Statement.{statement}
+use Rattle.order_split.proofs.gather.Tie as tie
 
 abbrev Inv-loop : tie.InvT-loop
 Inv-loop part₀ place equal n pivot low₀ i₀ part low i = (n ≡ length part) × Parting pivot low i part₀ part

@@ -1,4 +1,4 @@
--- `split_order::split` meets its contract: what goes before the pivot is below it; where nothing does, the pivot is the lowest, and its equals are gathered.
+-- `order_split::split` meets its contract: what goes before the pivot is below it; where nothing does, the pivot is the lowest, and its equals are gathered.
 -- Assumes nothing.
 use Prim.Native.Nat.{ℕ, _+_, _-_}
 use native.Mathlib.Omega.{arith}
@@ -6,13 +6,13 @@ use mathlib.Core.Path.{_≡_, refl, subst}
 use borrow.Author.Needs.{needs}
 use lib.Dec.{T}
 use lib.Ieee.Positive.{above}
-use Rattle.rising_order.specs.Arrangement.{Above}
-use Rattle.rising_order.proofs.Perms.{all-perm}
-use Rattle.split_order.specs.Inner.{Parted}
-use Rattle.split_order.proofs.Parting.{parted, parted-equal}
-use Rattle.split_order.proofs.Joining.{parted-from, lowest-of}
-use Rattle.split_order.proofs.split.Statement.{statement}
-use Rattle.split_order.proofs.split.Tie as tie
+use Rattle.order_rules.specs.Arrangement.{Above}
+use Rattle.order_rules.proofs.Perms.{all-perm}
+use Rattle.order_split.specs.Inner.{Parted}
+use Rattle.order_split.proofs.Parting.{parted, parted-equal}
+use Rattle.order_split.proofs.Joining.{parted-from, lowest-of}
+use Rattle.order_split.proofs.split.Statement.{statement}
+use Rattle.order_split.proofs.split.Tie as tie
 
 -- the pivot goes to the front, and then to its own place
 apart : (c : tie.After-exchange)

@@ -1,4 +1,4 @@
--- `readings::magnitude` is safe: a number from 0 on is cast as it is, and a negative one by its distance from -1. Assumes nothing.
+-- `program_readings::magnitude` is safe: a number from 0 on is cast as it is, and a negative one by its distance from -1. Assumes nothing.
 use mathlib.Core.Path.{_≡_, sym, ap, _∙_}
 use native.Mathlib.Omega.{arith}
 use lib.IntN.{pos, negsuc, _-ℤ_}
@@ -6,9 +6,9 @@ use lib.Signed.{leZ}
 use mir.Syntax.{w64}
 use mir.Val.{toZ, ofZ}
 use mir.ValLaws.{toZ-ofZ}
-use Rattle.readings.proofs.Signed.{Distance, at-least-zero, from-minus-one}
-use Rattle.readings.proofs.magnitude.Statement.{statement}
-use Rattle.readings.proofs.magnitude.Tie as tie
+use Rattle.program_readings.proofs.Signed.{Distance, at-least-zero, from-minus-one}
+use Rattle.program_readings.proofs.magnitude.Statement.{statement}
+use Rattle.program_readings.proofs.magnitude.Tie as tie
 
 cast-result : tie.Need-cast-result
 cast-result c =

@@ -1,7 +1,7 @@
--- `readings::main` is safe and ends: the turns are counted down. Assumes nothing.
+-- `program_readings::main` is safe and ends: the turns are counted down. Assumes nothing.
 use borrow.Author.Needs.{needs}
-use Rattle.readings.proofs.main.Statement.{statement}
-use Rattle.readings.proofs.main.Tie as tie
+use Rattle.program_readings.proofs.main.Statement.{statement}
+use Rattle.program_readings.proofs.main.Tie as tie
 
 abbrev Inv-loop : tie.InvT-loop
 Inv-loop turns₀ turns = Unit

@@ -1,11 +1,11 @@
--- `readings::print_reading` is safe: tenths that fit 32 bits fit 64. Assumes nothing.
+-- `program_readings::print_reading` is safe: tenths that fit 32 bits fit 64. Assumes nothing.
 use mathlib.Core.Path.{_≡_}
 use native.Mathlib.Omega.{arith}
 use mir.Syntax.{w32}
 use mir.Val.{SFits, toZ, ofZ}
 use borrow.Author.Needs.{needs}
-use Rattle.readings.proofs.print_reading.Statement.{statement}
-use Rattle.readings.proofs.print_reading.Tie as tie
+use Rattle.program_readings.proofs.print_reading.Statement.{statement}
+use Rattle.program_readings.proofs.print_reading.Tie as tie
 
 cast-print-tenths : tie.Need-cast-print-tenths
 cast-print-tenths c =

@@ -1,10 +1,10 @@
--- `replay::from_lowest` is safe: the tenths of the scale fit. Assumes nothing.
+-- `program_replay::from_lowest` is safe: the tenths of the scale fit. Assumes nothing.
 use native.Mathlib.Omega.{arith}
 use mir.Syntax.{w32}
 use mir.ValLaws.{toZ-pos}
-use Rattle.bin_search.proofs.Readings.{tenths-fit}
-use Rattle.replay.proofs.from_lowest.Statement.{statement}
-use Rattle.replay.proofs.from_lowest.Tie as tie
+use Rattle.bins.proofs.Readings.{tenths-fit}
+use Rattle.program_replay.proofs.from_lowest.Statement.{statement}
+use Rattle.program_replay.proofs.from_lowest.Tie as tie
 
 returns : tie.Need-returns
 returns c = tt

@@ -1,7 +1,7 @@
--- `reports::main` is safe and ends: the records are counted down. Assumes nothing.
+-- `program_reports::main` is safe and ends: the records are counted down. Assumes nothing.
 use borrow.Author.Needs.{needs}
-use Rattle.reports.proofs.main.Statement.{statement}
-use Rattle.reports.proofs.main.Tie as tie
+use Rattle.program_reports.proofs.main.Statement.{statement}
+use Rattle.program_reports.proofs.main.Tie as tie
 
 abbrev Inv-loop : tie.InvT-loop
 Inv-loop left₀ left = Unit

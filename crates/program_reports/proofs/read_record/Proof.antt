@@ -1,10 +1,10 @@
--- `reports::read_record` is safe: the part that is lent is as long as the record. Assumes nothing.
+-- `program_reports::read_record` is safe: the part that is lent is as long as the record. Assumes nothing.
 use mathlib.Core.Path.{sym}
 use lib.Seq.{length-take-le}
 use denote.Ref.{now}
 use borrow.Author.Needs.{needs}
-use Rattle.reports.proofs.read_record.Statement.{statement}
-use Rattle.reports.proofs.read_record.Tie as tie
+use Rattle.program_reports.proofs.read_record.Statement.{statement}
+use Rattle.program_reports.proofs.read_record.Tie as tie
 
 slice-aggregate-read-full : tie.Need-slice-aggregate-read-full
 slice-aggregate-read-full c =

@@ -1,10 +1,10 @@
--- `reports::report_first` is safe: the part that is lent is as long as the record. Assumes nothing.
+-- `program_reports::report_first` is safe: the part that is lent is as long as the record. Assumes nothing.
 use mathlib.Core.Path.{sym}
 use lib.Seq.{length-take-le}
 use denote.Ref.{now}
 use borrow.Author.Needs.{needs}
-use Rattle.reports.proofs.report_first.Statement.{statement}
-use Rattle.reports.proofs.report_first.Tie as tie
+use Rattle.program_reports.proofs.report_first.Statement.{statement}
+use Rattle.program_reports.proofs.report_first.Tie as tie
 
 slice-aggregate-of-record : tie.Need-slice-aggregate-of-record
 slice-aggregate-of-record c =

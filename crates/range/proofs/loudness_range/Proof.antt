@@ -5,10 +5,10 @@ use native.Mathlib.Omega.{arith}
 use denote.Ref.{now}
 use lib.Ieee.{Float}
 use lib.ListN.{length}
-use Rattle.refusals.specs.Refusal.{SET, number}
-use Rattle.refusals.proofs.Numbers.{no-number}
-use Rattle.history.specs.Set.{Histories, histories, historiesOf}
-use Rattle.history.proofs.Rows.{too-many, set-refused}
+use Rattle.base_refusals.specs.Refusal.{SET, number}
+use Rattle.base_refusals.proofs.Numbers.{no-number}
+use Rattle.history_set.specs.Set.{Histories, histories, historiesOf}
+use Rattle.history_set.proofs.Rows.{too-many, set-refused}
 use Rattle.range.specs.Range.{queuesIn}
 use Rattle.range.proofs.Answers.{histories-count, range-refused, range-histograms, range-queues, range-mixed}
 use borrow.Author.Needs.{needs}

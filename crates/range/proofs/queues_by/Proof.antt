@@ -3,8 +3,8 @@ use mathlib.Core.Path.{sym, ap}
 use mathlib.Core.List.{List}
 use Prim.Native.Nat.{ℕ}
 use lib.Ieee.{Float}
-use Rattle.history.specs.declared.set.Shape.{Shape}
-use Rattle.history.specs.Set.{shapeShows}
+use Rattle.history_set.specs.declared.set.Shape.{Shape}
+use Rattle.history_set.specs.Set.{shapeShows}
 use Rattle.range.specs.Range.{queuesBy}
 use borrow.Author.Needs.{needs}
 use Rattle.range.proofs.queues_by.Statement.{statement}

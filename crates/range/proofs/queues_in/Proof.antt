@@ -5,8 +5,8 @@ use Prim.Native.Nat.{ℕ, _+_, _-_, _≤_}
 use native.Mathlib.Omega.{arith}
 use lib.ListN.{getD, take, drop}
 use lib.Ieee.{Float}
-use Rattle.history.specs.Set.{shows, allShow}
-use Rattle.history.proofs.Entries.{past-the-last}
+use Rattle.history_set.specs.Set.{shows, allShow}
+use Rattle.history_set.proofs.Entries.{past-the-last}
 use Rattle.range.specs.Range.{queuesIn}
 use Rattle.range.proofs.Answers.{queues-next, queues-end, queues-one}
 use borrow.Author.Needs.{needs}

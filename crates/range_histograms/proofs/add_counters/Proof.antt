@@ -1,14 +1,14 @@
--- `histogram_range::add_counters` meets its contract. The invariant: the counters before `bin` are sums, and the others are as they were. Assumes nothing.
+-- `range_histograms::add_counters` meets its contract. The invariant: the counters before `bin` are sums, and the others are as they were. Assumes nothing.
 use mathlib.Core.Path.{_≡_, ap, _∙_}
 use Prim.Native.Nat.{ℕ, _+_, _-_, _≤_}
 use native.Mathlib.Omega.{arith}
 use denote.Ref.{now}
 use lib.ListN.{length, length-set, getD, set}
-use Rattle.histogram_bins.specs.Bin.{bins}
-use Rattle.histogram.proofs.Sums.{sumsFirst, sums-all, sums-read, sums-turn}
+use Rattle.bins.specs.Bin.{bins}
+use Rattle.history_histogram.proofs.Sums.{sumsFirst, sums-all, sums-read, sums-turn}
 use borrow.Author.Needs.{needs}
-use Rattle.histogram_range.proofs.add_counters.Statement.{statement}
-use Rattle.histogram_range.proofs.add_counters.Tie as tie
+use Rattle.range_histograms.proofs.add_counters.Statement.{statement}
+use Rattle.range_histograms.proofs.add_counters.Tie as tie
 
 abbrev Inv-loop : tie.InvT-loop
 Inv-loop added₀ counters bin₀ added bin = (bin ≤ bins) × (length added ≡ bins) × (added ≡ sumsFirst bin added₀ counters)

@@ -1,19 +1,19 @@
--- `histogram_range::add_histories` meets its contract. The invariant: the histories from `i` on, on top of what was added, give what all give. Assumes nothing.
+-- `range_histograms::add_histories` meets its contract. The invariant: the histories from `i` on, on top of what was added, give what all give. Assumes nothing.
 use mathlib.Core.Path.{_≡_, refl, sym, _∙_}
 use mathlib.Core.List.{[]}
 use Prim.Native.Nat.{ℕ, _-_, _*_, _≤_}
 use native.Mathlib.Omega.{arith}
 use denote.Ref.{now}
 use lib.ListN.{length, take, drop}
-use Rattle.histogram_bins.specs.Bin.{bins}
-use Rattle.histogram.specs.Histogram.{largestCount}
-use Rattle.history.specs.Set.{allShow}
-use Rattle.histogram_range.specs.Counted.{addedTo}
-use Rattle.histogram_range.specs.Counted.{AtMost}
-use Rattle.histogram_range.proofs.Adding.{counters-at, added-turn, added-end}
+use Rattle.bins.specs.Bin.{bins}
+use Rattle.history_histogram.specs.Histogram.{largestCount}
+use Rattle.history_set.specs.Set.{allShow}
+use Rattle.range_histograms.specs.Counted.{addedTo}
+use Rattle.range_histograms.specs.Counted.{AtMost}
+use Rattle.range_histograms.proofs.Adding.{counters-at, added-turn, added-end}
 use borrow.Author.Needs.{needs}
-use Rattle.histogram_range.proofs.add_histories.Statement.{statement}
-use Rattle.histogram_range.proofs.add_histories.Tie as tie
+use Rattle.range_histograms.proofs.add_histories.Statement.{statement}
+use Rattle.range_histograms.proofs.add_histories.Tie as tie
 
 abbrev Inv-loop : tie.InvT-loop
 Inv-loop added₀ count counters entries i₀ added i =

@@ -1,21 +1,21 @@
--- `histogram_range::add_history` meets its contract, shape by shape: the slice that is handed on is the histogram's block. Assumes nothing.
+-- `range_histograms::add_history` meets its contract, shape by shape: the slice that is handed on is the histogram's block. Assumes nothing.
 use mathlib.Core.Path.{sym, ap, subst, _∙_}
 use mathlib.Core.List.{List, []}
 use Prim.Native.Nat.{ℕ, _+_, _-_, _≤_}
 use native.Mathlib.Omega.{arith}
 use denote.Ref.{now}
 use lib.ListN.{length}
-use Rattle.histogram_bins.specs.Bin.{bins}
-use Rattle.histogram.specs.Histogram.{largestCount, sums}
-use Rattle.history.specs.declared.set.Shape.{Shape}
-use Rattle.history.specs.Set.{countersEnd, shapeShows}
-use Rattle.history.proofs.Slices.{slice, slice-length, counters-slice}
-use Rattle.histogram_range.specs.Counted.{withHistory}
-use Rattle.histogram_range.specs.Counted.{AtMost}
-use Rattle.histogram_range.proofs.Adding.{sums-most, part-most}
+use Rattle.bins.specs.Bin.{bins}
+use Rattle.history_histogram.specs.Histogram.{largestCount, sums}
+use Rattle.history_set.specs.declared.set.Shape.{Shape}
+use Rattle.history_set.specs.Set.{countersEnd, shapeShows}
+use Rattle.history_set.proofs.Slices.{slice, slice-length, counters-slice}
+use Rattle.range_histograms.specs.Counted.{withHistory}
+use Rattle.range_histograms.specs.Counted.{AtMost}
+use Rattle.range_histograms.proofs.Adding.{sums-most, part-most}
 use borrow.Author.Needs.{needs}
-use Rattle.histogram_range.proofs.add_history.Statement.{statement}
-use Rattle.histogram_range.proofs.add_history.Tie as tie
+use Rattle.range_histograms.proofs.add_history.Statement.{statement}
+use Rattle.range_histograms.proofs.add_history.Tie as tie
 
 -- the block ends inside the counters
 inside : (c : tie.After-shape) → c .shape .given .0 .0 + bins ≤ length (now (c .before .before .before .before .args .counters))

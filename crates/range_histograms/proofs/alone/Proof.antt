@@ -1,20 +1,20 @@
--- `histogram_range::alone` meets its contract, shape by shape. Assumes nothing.
+-- `range_histograms::alone` meets its contract, shape by shape. Assumes nothing.
 use mathlib.Core.Path.{sym, ap, subst, _∙_}
 use mathlib.Core.List.{[]}
 use Prim.Native.Nat.{_≤_}
 use borrow.Author.Needs.{needs}
 use denote.Ref.{now}
 use lib.ListN.{length}
-use Rattle.refusals.specs.Outcome.{Said, says}
-use Rattle.histogram.specs.Histogram.{empty}
-use Rattle.history.specs.declared.set.Shape.{Shape}
-use Rattle.history.specs.Set.{countersEnd, shapeShows}
-use Rattle.spans.specs.Span.{Span}
-use Rattle.block_range.proofs.Answers.{span-there}
-use Rattle.histogram_range.specs.Counted.{withHistory, countedSpan}
-use Rattle.histogram_range.proofs.Single.{counters-alone, empty-nothing}
-use Rattle.histogram_range.proofs.alone.Statement.{statement}
-use Rattle.histogram_range.proofs.alone.Tie as tie
+use Rattle.base_refusals.specs.Outcome.{Said, says}
+use Rattle.history_histogram.specs.Histogram.{empty}
+use Rattle.history_set.specs.declared.set.Shape.{Shape}
+use Rattle.history_set.specs.Set.{countersEnd, shapeShows}
+use Rattle.range_ranks.specs.Span.{Span}
+use Rattle.range_one.proofs.Answers.{span-there}
+use Rattle.range_histograms.specs.Counted.{withHistory, countedSpan}
+use Rattle.range_histograms.proofs.Single.{counters-alone, empty-nothing}
+use Rattle.range_histograms.proofs.alone.Statement.{statement}
+use Rattle.range_histograms.proofs.alone.Tie as tie
 
 returns : tie.Need-returns
 returns c =

@@ -1,14 +1,14 @@
--- `histogram_range::below` meets its contract. The invariant: the sum is that of the bins passed. Assumes nothing.
+-- `range_histograms::below` meets its contract. The invariant: the sum is that of the bins passed. Assumes nothing.
 use mathlib.Core.Path.{_≡_, ap, _∙_}
 use Prim.Native.Nat.{ℕ, _-_, _≤_}
 use native.Mathlib.Omega.{arith}
 use borrow.Author.Needs.{needs}
 use denote.Ref.{now}
 use lib.ListN.{take}
-use Rattle.histogram_range.specs.Counted.{blocksIn}
-use Rattle.histogram_range.proofs.Counting.{blocks-more, blocks-none, blocks-most}
-use Rattle.histogram_range.proofs.below.Statement.{statement}
-use Rattle.histogram_range.proofs.below.Tie as tie
+use Rattle.range_histograms.specs.Counted.{blocksIn}
+use Rattle.range_histograms.proofs.Counting.{blocks-more, blocks-none, blocks-most}
+use Rattle.range_histograms.proofs.below.Statement.{statement}
+use Rattle.range_histograms.proofs.below.Tie as tie
 
 abbrev Inv-loop : tie.InvT-loop
 Inv-loop counters bin blocks₀ i₀ blocks i = (i ≤ bin) × (blocks ≡ blocksIn (take i counters))

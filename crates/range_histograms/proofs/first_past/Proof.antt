@@ -1,16 +1,16 @@
--- `histogram_range::first_past` meets its contract. The invariant: what stands below `bin` is known, and does not reach the rank. Assumes nothing.
+-- `range_histograms::first_past` meets its contract. The invariant: what stands below `bin` is known, and does not reach the rank. Assumes nothing.
 use mathlib.Core.Path.{_≡_}
 use Prim.Native.Nat.{_-_, _≤_}
 use native.Mathlib.Omega.{arith}
 use borrow.Author.Needs.{needs}
 use denote.Ref.{now}
 use lib.ListN.{take}
-use Rattle.histogram_bins.specs.Bin.{bins}
-use Rattle.block_range.proofs.Searching.{found-at}
-use Rattle.histogram_range.specs.Counted.{blocksIn}
-use Rattle.histogram_range.proofs.Counting.{blocks-more, blocks-most}
-use Rattle.histogram_range.proofs.first_past.Statement.{statement}
-use Rattle.histogram_range.proofs.first_past.Tie as tie
+use Rattle.bins.specs.Bin.{bins}
+use Rattle.range_one.proofs.Searching.{found-at}
+use Rattle.range_histograms.specs.Counted.{blocksIn}
+use Rattle.range_histograms.proofs.Counting.{blocks-more, blocks-most}
+use Rattle.range_histograms.proofs.first_past.Statement.{statement}
+use Rattle.range_histograms.proofs.first_past.Tie as tie
 
 abbrev Inv-loop : tie.InvT-loop
 Inv-loop counters rank bin₀ before₀ bin before = (bin ≤ bins) × (before ≡ blocksIn (take bin counters)) × (before ≤ rank)

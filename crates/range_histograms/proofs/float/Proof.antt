@@ -1,4 +1,4 @@
--- `histogram_range::float` meets its contract: so few blocks are the same number with a sign, and a float exactly. Assumes nothing.
+-- `range_histograms::float` meets its contract: so few blocks are the same number with a sign, and a float exactly. Assumes nothing.
 use mathlib.Core.Path.{_≡_, sym, ap, subst}
 use Prim.Native.Nat.{ℕ, _≤_}
 use native.Mathlib.Omega.{arith}
@@ -8,10 +8,10 @@ use lib.Ieee.{binary64, inFloat, ofInt}
 use mir.Syntax.{w64}
 use mir.Val.{SFits, toZ}
 use mir.ValLaws.{toZ-ofZ}
-use Rattle.histogram_range.specs.Counted.{mostInBin}
-use Rattle.histogram_range.proofs.Counting.{in-float}
-use Rattle.histogram_range.proofs.float.Statement.{statement}
-use Rattle.histogram_range.proofs.float.Tie as tie
+use Rattle.range_histograms.specs.Counted.{mostInBin}
+use Rattle.range_histograms.proofs.Counting.{in-float}
+use Rattle.range_histograms.proofs.float.Statement.{statement}
+use Rattle.range_histograms.proofs.float.Tie as tie
 
 fits : (blocks : ℕ) → blocks ≤ mostInBin → SFits w64 (pos blocks)
 fits blocks h = record { sfits = omega (arith, h) }

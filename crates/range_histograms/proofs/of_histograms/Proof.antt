@@ -1,4 +1,4 @@
--- `histogram_range::of_histograms` meets its contract: the set's refusals first, then counters that start from 0 and have every histogram added.
+-- `range_histograms::of_histograms` meets its contract: the set's refusals first, then counters that start from 0 and have every histogram added.
 -- Assumes nothing.
 use mathlib.Core.Path.{_≡_, sym, ap, _∙_}
 use mathlib.Core.List.{List, []}
@@ -6,20 +6,20 @@ use Prim.Native.Nat.{ℕ}
 use native.Mathlib.Omega.{arith}
 use denote.Ref.{now}
 use lib.ListN.{length}
-use Rattle.refusals.specs.Outcome.{says, saidBy}
-use Rattle.refusals.specs.Rows.{numberOf}
-use Rattle.histogram_bins.specs.Bin.{bins}
-use Rattle.histogram.specs.Histogram.{empty}
-use Rattle.history.specs.Set.{Histories, histories, chosen, allShow, countersInside, setRows}
-use Rattle.history.proofs.Entries.{all-counters-inside}
-use Rattle.history.proofs.Rows.{Kept, kept}
-use Rattle.histogram_range.specs.Counted.{addedTo, countedSpan}
-use Rattle.histogram_range.proofs.Adding.{empty-is, zeros-length, zeros-most, counters-at, added-any}
-use Rattle.histogram_range.proofs.Single.{one-added}
-use Rattle.histogram_range.proofs.Answers.{histogram-refused, histogram-asked}
+use Rattle.base_refusals.specs.Outcome.{says, saidBy}
+use Rattle.base_refusals.specs.Rows.{numberOf}
+use Rattle.bins.specs.Bin.{bins}
+use Rattle.history_histogram.specs.Histogram.{empty}
+use Rattle.history_set.specs.Set.{Histories, histories, chosen, allShow, countersInside, setRows}
+use Rattle.history_set.proofs.Entries.{all-counters-inside}
+use Rattle.history_set.proofs.Rows.{Kept, kept}
+use Rattle.range_histograms.specs.Counted.{addedTo, countedSpan}
+use Rattle.range_histograms.proofs.Adding.{empty-is, zeros-length, zeros-most, counters-at, added-any}
+use Rattle.range_histograms.proofs.Single.{one-added}
+use Rattle.range_histograms.proofs.Answers.{histogram-refused, histogram-asked}
 use borrow.Author.Needs.{needs}
-use Rattle.histogram_range.proofs.of_histograms.Statement.{statement}
-use Rattle.histogram_range.proofs.of_histograms.Tie as tie
+use Rattle.range_histograms.proofs.of_histograms.Statement.{statement}
+use Rattle.range_histograms.proofs.of_histograms.Tie as tie
 
 -- the set, as it was given
 abbrev given : tie.After-checked → Histories

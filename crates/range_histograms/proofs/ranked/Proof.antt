@@ -1,16 +1,16 @@
--- `histogram_range::ranked` meets its contract: the blocks below the gate, those left, and the bins of the two ranks. Assumes nothing.
+-- `range_histograms::ranked` meets its contract: the blocks below the gate, those left, and the bins of the two ranks. Assumes nothing.
 use mathlib.Core.Path.{sym, ap, _∙_}
 use Prim.Native.Nat.{ℕ, _-_}
 use native.Mathlib.Omega.{arith}
 use borrow.Author.Needs.{needs}
 use denote.Ref.{now}
-use Rattle.refusals.specs.Outcome.{Said, says}
-use Rattle.spans.specs.Span.{Span}
-use Rattle.histogram_range.specs.Counted.{leftIn}
-use Rattle.histogram_range.proofs.Counting.{blocks-part}
-use Rattle.histogram_range.proofs.Answers.{left-none, left-read}
-use Rattle.histogram_range.proofs.ranked.Statement.{statement}
-use Rattle.histogram_range.proofs.ranked.Tie as tie
+use Rattle.base_refusals.specs.Outcome.{Said, says}
+use Rattle.range_ranks.specs.Span.{Span}
+use Rattle.range_histograms.specs.Counted.{leftIn}
+use Rattle.range_histograms.proofs.Counting.{blocks-part}
+use Rattle.range_histograms.proofs.Answers.{left-none, left-read}
+use Rattle.range_histograms.proofs.ranked.Statement.{statement}
+use Rattle.range_histograms.proofs.ranked.Tie as tie
 
 sub-left : tie.Need-sub-left
 sub-left c =

@@ -1,4 +1,4 @@
--- `histogram_range::span_of` meets its contract: the totals, the gate's bin, and the two ranks from there on. Assumes nothing.
+-- `range_histograms::span_of` meets its contract: the totals, the gate's bin, and the two ranks from there on. Assumes nothing.
 use mathlib.Core.Path.{_≡_, sym, ap, _∙_}
 use mathlib.Core.List.{List}
 use Prim.Native.Nat.{ℕ}
@@ -6,17 +6,17 @@ use native.Mathlib.Omega.{arith}
 use borrow.Author.Needs.{needs}
 use denote.Ref.{now}
 use lib.ListN.{take}
-use Rattle.refusals.specs.Outcome.{says}
+use Rattle.base_refusals.specs.Outcome.{says}
 use Rattle.gate.specs.declared.blocks.Totals.{Totals}
 use Rattle.gate.specs.Totals.{none}
 use Rattle.gate.specs.Start.{startBin}
 use Rattle.gate.proofs.Start.{start-most}
-use Rattle.spans.specs.Span.{gateEnergy}
-use Rattle.histogram_range.specs.Counted.{blocksIn}
-use Rattle.histogram_range.proofs.Counting.{count-is}
-use Rattle.histogram_range.proofs.Answers.{counted-none, counted-some}
-use Rattle.histogram_range.proofs.span_of.Statement.{statement}
-use Rattle.histogram_range.proofs.span_of.Tie as tie
+use Rattle.range_ranks.specs.Span.{gateEnergy}
+use Rattle.range_histograms.specs.Counted.{blocksIn}
+use Rattle.range_histograms.proofs.Counting.{count-is}
+use Rattle.range_histograms.proofs.Answers.{counted-none, counted-some}
+use Rattle.range_histograms.proofs.span_of.Statement.{statement}
+use Rattle.range_histograms.proofs.span_of.Tie as tie
 
 abbrev counters : tie.After-sum-up → List ℕ
 counters t = now (t .before .before .args .counters)

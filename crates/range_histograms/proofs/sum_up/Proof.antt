@@ -1,4 +1,4 @@
--- `histogram_range::sum_up` meets its contract. The invariant: the bins from `bin` on, on top of what was counted, give what all give. Assumes nothing.
+-- `range_histograms::sum_up` meets its contract. The invariant: the bins from `bin` on, on top of what was counted, give what all give. Assumes nothing.
 use Prim.Native.Nat.{_+_, _-_, _*_, _≤_}
 use native.Mathlib.Omega.{arith}
 use mathlib.Core.Path.{_≡_, refl, sym, ap, _∙_}
@@ -7,14 +7,14 @@ use denote.Ref.{now}
 use lib.IntN.{pos}
 use lib.Ieee.{Float, nan, binary64, add, mul, ofInt}
 use lib.ListN.{getD, drop}
-use Rattle.histogram_bins.specs.Bin.{bins}
-use Rattle.tables.proofs.Taken.{energy-entry}
+use Rattle.bins.specs.Bin.{bins}
+use Rattle.bins_tables.proofs.Taken.{energy-entry}
 use Rattle.gate.specs.declared.blocks.Totals.{Totals}
 use Rattle.gate.specs.Totals.{none, binsFrom}
 use Rattle.gate.proofs.Running.{bins-turn, bins-end}
-use Rattle.histogram_range.specs.Counted.{mostInBin}
-use Rattle.histogram_range.proofs.sum_up.Statement.{statement}
-use Rattle.histogram_range.proofs.sum_up.Tie as tie
+use Rattle.range_histograms.specs.Counted.{mostInBin}
+use Rattle.range_histograms.proofs.sum_up.Statement.{statement}
+use Rattle.range_histograms.proofs.sum_up.Tie as tie
 
 abbrev Inv-loop : tie.InvT-loop
 Inv-loop counters energies count₀ sum₀ bin₀ count sum bin =

@@ -1,15 +1,15 @@
--- `block_range::blocks_of` meets its contract. The invariant: the sum is that of the bins passed. Assumes nothing.
+-- `range_one::blocks_of` meets its contract. The invariant: the sum is that of the bins passed. Assumes nothing.
 use mathlib.Core.Path.{_≡_, ap, _∙_}
 use Prim.Native.Nat.{ℕ, _+_, _-_, _≤_}
 use native.Mathlib.Omega.{arith}
 use borrow.Author.Needs.{needs}
 use denote.Ref.{now}
 use lib.ListN.{take}
-use Rattle.histogram.specs.Histogram.{largestCount}
-use Rattle.block_range.specs.Counted.{blocksIn}
-use Rattle.block_range.proofs.Counting.{blocks-more, blocks-up-to}
-use Rattle.block_range.proofs.blocks_of.Statement.{statement}
-use Rattle.block_range.proofs.blocks_of.Tie as tie
+use Rattle.history_histogram.specs.Histogram.{largestCount}
+use Rattle.range_one.specs.Counted.{blocksIn}
+use Rattle.range_one.proofs.Counting.{blocks-more, blocks-up-to}
+use Rattle.range_one.proofs.blocks_of.Statement.{statement}
+use Rattle.range_one.proofs.blocks_of.Tie as tie
 
 abbrev Inv-loop : tie.InvT-loop
 Inv-loop counters from until blocks₀ bin₀ blocks bin = (bin ≤ until) × (blocksIn (take from counters) + blocks ≡ blocksIn (take bin counters))

@@ -1,4 +1,4 @@
--- `block_range::of_counters` meets its contract: the totals of the histogram, the gate's bin, and the two ranks from there on. Assumes nothing.
+-- `range_one::of_counters` meets its contract: the totals of the histogram, the gate's bin, and the two ranks from there on. Assumes nothing.
 use mathlib.Core.Path.{_≡_, sym, ap, _∙_}
 use mathlib.Core.List.{List}
 use Prim.Native.Nat.{ℕ, _+_, _-_, _≤_}
@@ -6,22 +6,22 @@ use native.Mathlib.Omega.{arith}
 use borrow.Author.Needs.{needs}
 use denote.Ref.{now}
 use lib.ListN.{length, take}
-use Rattle.refusals.specs.Outcome.{says}
-use Rattle.histogram_bins.specs.Bin.{bins}
-use Rattle.history.specs.Set.{countersAt}
-use Rattle.history.proofs.Slices.{counters-slice, slice-length}
+use Rattle.base_refusals.specs.Outcome.{says}
+use Rattle.bins.specs.Bin.{bins}
+use Rattle.history_set.specs.Set.{countersAt}
+use Rattle.history_set.proofs.Slices.{counters-slice, slice-length}
 use Rattle.gate.specs.declared.blocks.Totals.{Totals}
 use lib.Ieee.{Float, binary64, mul}
 use Rattle.gate.specs.Totals.{none, meanOf, binsFrom}
 use Rattle.gate.specs.Start.{startBin}
 use Rattle.gate.proofs.Running.{there}
 use Rattle.gate.proofs.Start.{start-most}
-use Rattle.spans.specs.Span.{gateEnergy}
-use Rattle.block_range.specs.Counted.{blocksIn, leftIn}
-use Rattle.block_range.proofs.Counting.{count-is}
-use Rattle.block_range.proofs.Answers.{counted-some, span-there, span-none, blocks-there}
-use Rattle.block_range.proofs.of_counters.Statement.{statement}
-use Rattle.block_range.proofs.of_counters.Tie as tie
+use Rattle.range_ranks.specs.Span.{gateEnergy}
+use Rattle.range_one.specs.Counted.{blocksIn, leftIn}
+use Rattle.range_one.proofs.Counting.{count-is}
+use Rattle.range_one.proofs.Answers.{counted-some, span-there, span-none, blocks-there}
+use Rattle.range_one.proofs.of_counters.Statement.{statement}
+use Rattle.range_one.proofs.of_counters.Tie as tie
 
 -- the counters, and those of the histogram
 abbrev counters : tie.After-started → List ℕ

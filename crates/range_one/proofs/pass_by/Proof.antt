@@ -1,16 +1,16 @@
--- `block_range::pass_by` meets its contract. The invariant: what stands below `bin` is known, and does not reach the rank. Assumes nothing.
+-- `range_one::pass_by` meets its contract. The invariant: what stands below `bin` is known, and does not reach the rank. Assumes nothing.
 use mathlib.Core.Path.{_≡_}
 use Prim.Native.Nat.{_+_, _-_, _≤_}
 use native.Mathlib.Omega.{arith}
 use borrow.Author.Needs.{needs}
 use denote.Ref.{now}
 use lib.ListN.{take}
-use Rattle.histogram_bins.specs.Bin.{bins}
-use Rattle.histogram.specs.Histogram.{largestCount}
-use Rattle.block_range.specs.Counted.{blocksIn}
-use Rattle.block_range.proofs.Counting.{blocks-up-to}
-use Rattle.block_range.proofs.pass_by.Statement.{statement}
-use Rattle.block_range.proofs.pass_by.Tie as tie
+use Rattle.bins.specs.Bin.{bins}
+use Rattle.history_histogram.specs.Histogram.{largestCount}
+use Rattle.range_one.specs.Counted.{blocksIn}
+use Rattle.range_one.proofs.Counting.{blocks-up-to}
+use Rattle.range_one.proofs.pass_by.Statement.{statement}
+use Rattle.range_one.proofs.pass_by.Tie as tie
 
 abbrev Inv-loop : tie.InvT-loop
 Inv-loop counters rank bin₀ before₀ bin before = (bin ≤ bins) × (before ≡ blocksIn (take bin counters)) × (before ≤ rank)

@@ -1,17 +1,17 @@
--- `block_range::ranked` meets its contract: the blocks below the gate, those left, and the bins of the two ranks. Assumes nothing.
+-- `range_one::ranked` meets its contract: the blocks below the gate, those left, and the bins of the two ranks. Assumes nothing.
 use mathlib.Core.Path.{_≡_, sym, ap, _∙_}
 use Prim.Native.Nat.{ℕ, _-_}
 use native.Mathlib.Omega.{arith}
 use borrow.Author.Needs.{needs}
 use denote.Ref.{now}
 use lib.ListN.{take}
-use Rattle.refusals.specs.Outcome.{Said, says}
-use Rattle.spans.specs.Span.{Span}
-use Rattle.block_range.specs.Counted.{blocksIn, leftIn}
-use Rattle.block_range.proofs.Counting.{blocks-none, blocks-part}
-use Rattle.block_range.proofs.Answers.{left-none, left-read}
-use Rattle.block_range.proofs.ranked.Statement.{statement}
-use Rattle.block_range.proofs.ranked.Tie as tie
+use Rattle.base_refusals.specs.Outcome.{Said, says}
+use Rattle.range_ranks.specs.Span.{Span}
+use Rattle.range_one.specs.Counted.{blocksIn, leftIn}
+use Rattle.range_one.proofs.Counting.{blocks-none, blocks-part}
+use Rattle.range_one.proofs.Answers.{left-none, left-read}
+use Rattle.range_one.proofs.ranked.Statement.{statement}
+use Rattle.range_one.proofs.ranked.Tie as tie
 
 -- what stands below the gate
 before-is : (b : tie.After-blocks-of) →

@@ -1,4 +1,4 @@
--- `queue_range::copy` meets its contract. The invariant: the energies from `i` on, stored from `place` on, give what all of them give. Assumes nothing.
+-- `range_queues::copy` meets its contract. The invariant: the energies from `i` on, stored from `place` on, give what all of them give. Assumes nothing.
 use mathlib.Core.Path.{_≡_, refl, sym, _∙_}
 use Prim.Native.Nat.{_+_, _-_, _≤_}
 use native.Mathlib.Omega.{arith}
@@ -6,11 +6,11 @@ use denote.Ref.{now}
 use lib.Ieee.{nan}
 use lib.ListN.{length, length-set}
 use lib.Seq.{sets}
-use Rattle.queue.specs.Queue.{slice}
-use Rattle.queue_range.proofs.Looking.{copy-turn, copy-end}
+use Rattle.history_queue.specs.Queue.{slice}
+use Rattle.range_queues.proofs.Looking.{copy-turn, copy-end}
 use borrow.Author.Needs.{needs}
-use Rattle.queue_range.proofs.copy.Statement.{statement}
-use Rattle.queue_range.proofs.copy.Tie as tie
+use Rattle.range_queues.proofs.copy.Statement.{statement}
+use Rattle.range_queues.proofs.copy.Tie as tie
 
 abbrev Inv-loop : tie.InvT-loop
 Inv-loop work₀ at energies from until place₀ i₀ work place i =

@@ -1,4 +1,4 @@
--- `queue_range::copy_all` meets its contract. The invariant: what the entries from `i` on hold, stored from `at` on, gives what all of it gives.
+-- `range_queues::copy_all` meets its contract. The invariant: what the entries from `i` on hold, stored from `at` on, gives what all of it gives.
 -- Assumes nothing.
 use mathlib.Core.Path.{_≡_, refl, sym, ap, _∙_}
 use Prim.Native.Nat.{_+_, _-_, _≤_}
@@ -6,12 +6,12 @@ use native.Mathlib.Omega.{arith}
 use denote.Ref.{now}
 use lib.ListN.{length, getD, take, drop}
 use lib.Seq.{sets, length-sets}
-use Rattle.history.proofs.Entries.{past-the-last, sound-at}
-use Rattle.queue_range.specs.Inner.{heldIn, heldAt}
-use Rattle.queue_range.proofs.Looking.{store-at, suits-sound, held-end, held-count, held-set}
+use Rattle.history_set.proofs.Entries.{past-the-last, sound-at}
+use Rattle.range_queues.specs.Inner.{heldIn, heldAt}
+use Rattle.range_queues.proofs.Looking.{store-at, suits-sound, held-end, held-count, held-set}
 use borrow.Author.Needs.{needs}
-use Rattle.queue_range.proofs.copy_all.Statement.{statement}
-use Rattle.queue_range.proofs.copy_all.Tie as tie
+use Rattle.range_queues.proofs.copy_all.Statement.{statement}
+use Rattle.range_queues.proofs.copy_all.Tie as tie
 
 abbrev Inv-loop : tie.InvT-loop
 Inv-loop count energies work₀ entries at₀ i₀ work at i =

@@ -1,4 +1,4 @@
--- `queue_range::copy_held` meets its contract: what an entry holds stands in two parts, which are copied one after the other. Assumes nothing.
+-- `range_queues::copy_held` meets its contract: what an entry holds stands in two parts, which are copied one after the other. Assumes nothing.
 use mathlib.Core.Path.{refl, ap, _∙_}
 use mathlib.Core.List.{List}
 use Prim.Native.Nat.{_+_, _-_, _≤_}
@@ -7,12 +7,12 @@ use denote.Ref.{now}
 use lib.Ieee.{Float}
 use lib.ListN.{length}
 use lib.Seq.{sets}
-use Rattle.queue.specs.Queue.{slice}
-use Rattle.queue_range.proofs.Standing.{StandIn, stand-in}
-use Rattle.queue_range.proofs.Looking.{parts-count, parts-set}
+use Rattle.history_queue.specs.Queue.{slice}
+use Rattle.range_queues.proofs.Standing.{StandIn, stand-in}
+use Rattle.range_queues.proofs.Looking.{parts-count, parts-set}
 use borrow.Author.Needs.{needs}
-use Rattle.queue_range.proofs.copy_held.Statement.{statement}
-use Rattle.queue_range.proofs.copy_held.Tie as tie
+use Rattle.range_queues.proofs.copy_held.Statement.{statement}
+use Rattle.range_queues.proofs.copy_held.Tie as tie
 
 stand : (p : tie.After-parts-of) →
     let a = p .before .before .before .args in

@@ -1,4 +1,4 @@
--- `queue_range::in_order` meets its contract: all held energies are copied and put in order, since each is above zero. Assumes nothing.
+-- `range_queues::in_order` meets its contract: all held energies are copied and put in order, since each is above zero. Assumes nothing.
 use mathlib.Core.Path.{_≡_, refl, sym, ap, _∙_}
 use mathlib.Core.Bool.{true, false}
 use mathlib.Core.List.{List, _++_}
@@ -8,19 +8,19 @@ use denote.Ref.{now}
 use lib.Ieee.{Float}
 use lib.ListN.{length, take, drop, length-append, length-drop}
 use lib.Seq.{length-take-le, length-sets, take-at, drop-at}
-use Rattle.refusals.specs.Outcome.{says}
-use Rattle.rising_order.specs.Order.{inOrder, allAbove, ordered}
-use Rattle.rising_order.proofs.InOrder.{in-order-length}
-use Rattle.rising_range.specs.Rising.{listedSpan}
-use Rattle.queue_range.specs.declared.Seen.{Seen}
-use Rattle.queue_range.specs.Listed.{anyNan}
-use Rattle.queue_range.specs.Inner.{heldIn}
-use Rattle.queue_range.proofs.Looking.{above-held, none-below-held}
-use Rattle.queue_range.proofs.Copying.{sets-front}
-use Rattle.queue_range.proofs.Answers.{listed-room, listed-nan, listed-went}
+use Rattle.base_refusals.specs.Outcome.{says}
+use Rattle.order_rules.specs.Order.{inOrder, allAbove, ordered}
+use Rattle.order_rules.proofs.InOrder.{in-order-length}
+use Rattle.range_queues.specs.Rising.{listedSpan}
+use Rattle.range_queues.specs.declared.Seen.{Seen}
+use Rattle.range_queues.specs.Listed.{anyNan}
+use Rattle.range_queues.specs.Inner.{heldIn}
+use Rattle.range_queues.proofs.Looking.{above-held, none-below-held}
+use Rattle.range_queues.proofs.Copying.{sets-front}
+use Rattle.range_queues.proofs.Answers.{listed-room, listed-nan, listed-went}
 use borrow.Author.Needs.{needs}
-use Rattle.queue_range.proofs.in_order.Statement.{statement}
-use Rattle.queue_range.proofs.in_order.Tie as tie
+use Rattle.range_queues.proofs.in_order.Statement.{statement}
+use Rattle.range_queues.proofs.in_order.Tie as tie
 
 abbrev work : tie.After-slice-known → List Float
 work k = now (k .before .before .args .work)

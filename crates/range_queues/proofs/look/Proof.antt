@@ -1,4 +1,4 @@
--- `queue_range::look` meets its contract. The invariant: what was seen before `i`, and then of what the entries from there on hold, is what is seen of all.
+-- `range_queues::look` meets its contract. The invariant: what was seen before `i`, and then of what the entries from there on hold, is what is seen of all.
 -- Assumes nothing.
 use mathlib.Core.Path.{_≡_, refl, sym, ap, _∙_}
 use mathlib.Core.Bool.{Bool, true, _&&_}
@@ -6,14 +6,14 @@ use Prim.Native.Nat.{_+_, _-_, _*_, _≤_, _<_}
 use native.Mathlib.Omega.{arith}
 use denote.Ref.{now}
 use lib.ListN.{length, take, drop}
-use Rattle.queue.specs.Queue.{longest}
-use Rattle.history.specs.Set.{allSound}
-use Rattle.history.proofs.Entries.{sound-at}
-use Rattle.queue_range.specs.Inner.{heldIn, withSeen, seenOf}
-use Rattle.queue_range.proofs.Looking.{store-at, held-end, sound-next, sound-end, seen-next, seen-none}
+use Rattle.history_queue.specs.Queue.{longest}
+use Rattle.history_set.specs.Set.{allSound}
+use Rattle.history_set.proofs.Entries.{sound-at}
+use Rattle.range_queues.specs.Inner.{heldIn, withSeen, seenOf}
+use Rattle.range_queues.proofs.Looking.{store-at, held-end, sound-next, sound-end, seen-next, seen-none}
 use borrow.Author.Needs.{needs}
-use Rattle.queue_range.proofs.look.Statement.{statement}
-use Rattle.queue_range.proofs.look.Tie as tie
+use Rattle.range_queues.proofs.look.Statement.{statement}
+use Rattle.range_queues.proofs.look.Tie as tie
 
 abbrev Inv-loop : tie.InvT-loop
 Inv-loop count energies entries seen₀ i₀ seen i =

@@ -1,4 +1,4 @@
--- `queue_range::look_at` meets its contract. The invariant: what was seen up to `i`, and then of the energies from there on, is what is seen of all.
+-- `range_queues::look_at` meets its contract. The invariant: what was seen up to `i`, and then of the energies from there on, is what is seen of all.
 -- Assumes nothing.
 use mathlib.Core.Path.{_≡_, refl, sym, ap, _∙_}
 use mathlib.Core.Bool.{not, _&&_, _||_}
@@ -7,14 +7,14 @@ use native.Mathlib.Omega.{arith}
 use denote.Ref.{now}
 use lib.Ieee.{Float, nan, lt}
 use lib.ListN.{getD}
-use Rattle.history.specs.Set.{noneBelow}
-use Rattle.history.proofs.Slices.{slice-length, fine-turn, fine-end}
-use Rattle.queue_range.specs.Listed.{anyNan}
-use Rattle.queue.specs.Queue.{slice}
-use Rattle.queue_range.proofs.Looking.{nan-turn, nan-end, seen-is}
+use Rattle.history_set.specs.Set.{noneBelow}
+use Rattle.history_set.proofs.Slices.{slice-length, fine-turn, fine-end}
+use Rattle.range_queues.specs.Listed.{anyNan}
+use Rattle.history_queue.specs.Queue.{slice}
+use Rattle.range_queues.proofs.Looking.{nan-turn, nan-end, seen-is}
 use borrow.Author.Needs.{needs}
-use Rattle.queue_range.proofs.look_at.Statement.{statement}
-use Rattle.queue_range.proofs.look_at.Tie as tie
+use Rattle.range_queues.proofs.look_at.Statement.{statement}
+use Rattle.range_queues.proofs.look_at.Tie as tie
 
 abbrev Inv-loop : tie.InvT-loop
 Inv-loop before energies from until least fine₀ found₀ i₀ fine found i =

@@ -1,16 +1,16 @@
--- `queue_range::look_in` meets its contract: what an entry holds stands in two parts. Assumes nothing.
+-- `range_queues::look_in` meets its contract: what an entry holds stands in two parts. Assumes nothing.
 use mathlib.Core.Path.{_≡_, sym, ap, _∙_}
 use mathlib.Core.Bool.{Bool, true, _&&_, true≢false}
 use native.Mathlib.Omega.{arith}
 use denote.Ref.{now}
-use Rattle.history.proofs.Slices.{slice-length}
-use Rattle.queue_range.specs.declared.Seen.{Seen}
-use Rattle.queue_range.specs.Inner.{suitsAt, heldAt, withSeen}
-use Rattle.queue_range.proofs.Standing.{StandIn, stand-in}
-use Rattle.queue_range.proofs.Looking.{parts-count, parts-seen, suits-sound, sound-suits, unsound}
+use Rattle.history_set.proofs.Slices.{slice-length}
+use Rattle.range_queues.specs.declared.Seen.{Seen}
+use Rattle.range_queues.specs.Inner.{suitsAt, heldAt, withSeen}
+use Rattle.range_queues.proofs.Standing.{StandIn, stand-in}
+use Rattle.range_queues.proofs.Looking.{parts-count, parts-seen, suits-sound, sound-suits, unsound}
 use borrow.Author.Needs.{needs}
-use Rattle.queue_range.proofs.look_in.Statement.{statement}
-use Rattle.queue_range.proofs.look_in.Tie as tie
+use Rattle.range_queues.proofs.look_in.Statement.{statement}
+use Rattle.range_queues.proofs.look_in.Tie as tie
 
 suits-here : (c : tie.Then1) → suitsAt (c .before .before .before .args .entry .shape) ≡ true
 suits-here c = sym (c .before .suits .ensures) ∙ c .if1 .taken

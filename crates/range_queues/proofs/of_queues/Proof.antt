@@ -1,22 +1,22 @@
--- `queue_range::of_queues` meets its contract: the set's refusals first, then what its queues hold. Assumes nothing.
+-- `range_queues::of_queues` meets its contract: the set's refusals first, then what its queues hold. Assumes nothing.
 use mathlib.Core.Path.{_≡_, sym, ap, _∙_}
 use mathlib.Core.Bool.{true, false}
 use mathlib.Core.List.{List}
 use denote.Ref.{now}
 use lib.Ieee.{Float}
 use lib.ListN.{length}
-use Rattle.refusals.specs.Refusal.{SET, STORE, number}
-use Rattle.refusals.proofs.Numbers.{no-number}
-use Rattle.history.specs.Set.{Histories, histories, chosen, outsideSet, allSound}
-use Rattle.history.proofs.Entries.{stores-inside}
-use Rattle.history.proofs.Rows.{none-outside, set-refused, one-unsound, all-well}
-use Rattle.queue_range.specs.Listed.{queueRange}
-use Rattle.queue_range.specs.Inner.{heldIn, listedRange}
-use Rattle.queue_range.proofs.Looking.{held-any}
-use Rattle.queue_range.proofs.Answers.{queues-refused, queues-asked}
+use Rattle.base_refusals.specs.Refusal.{SET, STORE, number}
+use Rattle.base_refusals.proofs.Numbers.{no-number}
+use Rattle.history_set.specs.Set.{Histories, histories, chosen, outsideSet, allSound}
+use Rattle.history_set.proofs.Entries.{stores-inside}
+use Rattle.history_set.proofs.Rows.{none-outside, set-refused, one-unsound, all-well}
+use Rattle.range_queues.specs.Listed.{queueRange}
+use Rattle.range_queues.specs.Inner.{heldIn, listedRange}
+use Rattle.range_queues.proofs.Looking.{held-any}
+use Rattle.range_queues.proofs.Answers.{queues-refused, queues-asked}
 use borrow.Author.Needs.{needs}
-use Rattle.queue_range.proofs.of_queues.Statement.{statement}
-use Rattle.queue_range.proofs.of_queues.Tie as tie
+use Rattle.range_queues.proofs.of_queues.Statement.{statement}
+use Rattle.range_queues.proofs.of_queues.Tie as tie
 
 -- the set, as it was given, and the work slice
 abbrev given : tie.After-outside-set → Histories

@@ -1,10 +1,10 @@
--- `queue_range::parts_of` meets its contract, shape by shape. Assumes nothing.
+-- `range_queues::parts_of` meets its contract, shape by shape. Assumes nothing.
 use mathlib.Core.Path.{sym, ap, _∙_}
-use Rattle.history.specs.declared.set.Shape.{Shape}
-use Rattle.queue_range.specs.Inner.{partsAt}
+use Rattle.history_set.specs.declared.set.Shape.{Shape}
+use Rattle.range_queues.specs.Inner.{partsAt}
 use borrow.Author.Needs.{needs}
-use Rattle.queue_range.proofs.parts_of.Statement.{statement}
-use Rattle.queue_range.proofs.parts_of.Tie as tie
+use Rattle.range_queues.proofs.parts_of.Statement.{statement}
+use Rattle.range_queues.proofs.parts_of.Tie as tie
 
 returns : tie.Need-returns
 returns c = sym (ap (λ (s : Shape). partsAt s (c .before .before .args .places)) (c .enum-told .given .1))

@@ -1,9 +1,9 @@
--- `queue_range::suits` meets its contract, shape by shape. Assumes nothing.
+-- `range_queues::suits` meets its contract, shape by shape. Assumes nothing.
 use mathlib.Core.Path.{sym, ap, _∙_}
-use Rattle.queue_range.specs.Inner.{suitsAt}
+use Rattle.range_queues.specs.Inner.{suitsAt}
 use borrow.Author.Needs.{needs}
-use Rattle.queue_range.proofs.suits.Statement.{statement}
-use Rattle.queue_range.proofs.suits.Tie as tie
+use Rattle.range_queues.proofs.suits.Statement.{statement}
+use Rattle.range_queues.proofs.suits.Tie as tie
 
 returns-2 : tie.Need-returns-2
 returns-2 c = c .suits .ensures ∙ sym (ap suitsAt (c .before .before .shape .given .1))

@@ -1,10 +1,10 @@
--- `layout::can_be` meets its contract, kind by kind. Assumes nothing.
+-- `record_layout::can_be` meets its contract, kind by kind. Assumes nothing.
 use mathlib.Core.Path.{sym, ap}
 use borrow.Author.Needs.{needs}
-use Rattle.layout.specs.declared.Kind.{Kind}
-use Rattle.layout.specs.Layout.{canBe}
-use Rattle.layout.proofs.can_be.Statement.{statement}
-use Rattle.layout.proofs.can_be.Tie as tie
+use Rattle.record_layout.specs.declared.Kind.{Kind}
+use Rattle.record_layout.specs.Layout.{canBe}
+use Rattle.record_layout.proofs.can_be.Statement.{statement}
+use Rattle.record_layout.proofs.can_be.Tie as tie
 
 returns : tie.Need-returns
 returns c = sym (ap (λ (k : Kind). canBe k (c .before .before .args .length)) (c .enum-told .given .1))

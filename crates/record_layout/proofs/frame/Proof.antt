@@ -1,4 +1,4 @@
--- `layout::frame` meets its contract: each test is a row, in the order of the rows. Assumes nothing.
+-- `record_layout::frame` meets its contract: each test is a row, in the order of the rows. Assumes nothing.
 use mathlib.Core.Path.{_≡_, sym, ap, _∙_}
 use mathlib.Core.Bool.{true, false}
 use Prim.Native.Nat.{_-_}
@@ -7,9 +7,9 @@ use borrow.Author.Tests.{lt-ltb, le-ltb, eq-eqb, ne-eqb}
 use denote.Ref.{now}
 use lib.Dec.{eqb, ltb}
 use lib.ListN.{length}
-use Rattle.layout.specs.Layout.{kindNumber, canBe, headWidth, lengthWidth, kindIn, lengthIn, frameOf}
-use Rattle.layout.proofs.frame.Statement.{statement}
-use Rattle.layout.proofs.frame.Tie as tie
+use Rattle.record_layout.specs.Layout.{kindNumber, canBe, headWidth, lengthWidth, kindIn, lengthIn, frameOf}
+use Rattle.record_layout.proofs.frame.Statement.{statement}
+use Rattle.record_layout.proofs.frame.Tie as tie
 
 -- ---- past each test
 long : (c : tie.Else1) → let bytes = now (c .before .before .args .bytes) in ltb (length bytes) headWidth ≡ false

@@ -1,4 +1,4 @@
--- `layout::put_head` meets its contract: each field goes into a part of the output that is as long as the field is wide. Assumes nothing.
+-- `record_layout::put_head` meets its contract: each field goes into a part of the output that is as long as the field is wide. Assumes nothing.
 use mathlib.Core.Path.{sym, ap, _∙_}
 use mathlib.Core.List.{_++_}
 use native.Mathlib.Omega.{arith}
@@ -6,10 +6,10 @@ use borrow.Author.Needs.{needs}
 use denote.Ref.{now}
 use lib.ListN.{length, take, drop}
 use lib.Seq.{length-take-le}
-use Rattle.fields.specs.Field.{lowBytes}
-use Rattle.layout.proofs.Heads.{head-put, no-head}
-use Rattle.layout.proofs.put_head.Statement.{statement}
-use Rattle.layout.proofs.put_head.Tie as tie
+use Rattle.base_fields.specs.Field.{lowBytes}
+use Rattle.record_layout.proofs.Heads.{head-put, no-head}
+use Rattle.record_layout.proofs.put_head.Statement.{statement}
+use Rattle.record_layout.proofs.put_head.Tie as tie
 
 slice-aggregate-put-number : tie.Need-slice-aggregate-put-number
 slice-aggregate-put-number c = sym (length-take-le 4 (now (c .before .before .before .args .out)) (omega arith))

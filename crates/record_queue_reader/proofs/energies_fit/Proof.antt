@@ -1,12 +1,12 @@
--- `queue_reader::energies_fit` meets its contract: energies that are all finite fit. Assumes nothing.
+-- `record_queue_reader::energies_fit` meets its contract: energies that are all finite fit. Assumes nothing.
 use mathlib.Core.Path.{sym, _∙_}
 use borrow.Author.Needs.{needs}
 use denote.Ref.{now}
 use lib.ListN.{drop}
-use Rattle.layout.specs.Layout.{numbersIn}
-use Rattle.queue_reader.proofs.Patterns.{finite-fit}
-use Rattle.queue_reader.proofs.energies_fit.Statement.{statement}
-use Rattle.queue_reader.proofs.energies_fit.Tie as tie
+use Rattle.record_layout.specs.Layout.{numbersIn}
+use Rattle.record_queue_reader.proofs.Patterns.{finite-fit}
+use Rattle.record_queue_reader.proofs.energies_fit.Statement.{statement}
+use Rattle.record_queue_reader.proofs.energies_fit.Tie as tie
 
 returns : tie.Need-returns
 returns c =

@@ -1,9 +1,9 @@
--- `queue_reader::energy_of` meets its contract: of the patterns that fit, one is a NaN's. Assumes nothing.
+-- `record_queue_reader::energy_of` meets its contract: of the patterns that fit, one is a NaN's. Assumes nothing.
 use borrow.Author.Needs.{needs}
 use lib.Ieee.{div, ofBits}
-use Rattle.queue_reader.proofs.Patterns.{own-nan, other-number}
-use Rattle.queue_reader.proofs.energy_of.Statement.{statement}
-use Rattle.queue_reader.proofs.energy_of.Tie as tie
+use Rattle.record_queue_reader.proofs.Patterns.{own-nan, other-number}
+use Rattle.record_queue_reader.proofs.energy_of.Statement.{statement}
+use Rattle.record_queue_reader.proofs.energy_of.Tie as tie
 
 returns : tie.Need-returns
 unfolding div ofBits

@@ -1,9 +1,9 @@
--- `queue_reader::finite_fits` meets its contract: below infinity's pattern the comparison is the whole test. Assumes nothing.
+-- `record_queue_reader::finite_fits` meets its contract: below infinity's pattern the comparison is the whole test. Assumes nothing.
 use mathlib.Core.Path.{sym}
 use borrow.Author.Needs.{needs}
-use Rattle.queue_reader.proofs.Patterns.{finite-is, not-finite, below-infinity}
-use Rattle.queue_reader.proofs.finite_fits.Statement.{statement}
-use Rattle.queue_reader.proofs.finite_fits.Tie as tie
+use Rattle.record_queue_reader.proofs.Patterns.{finite-is, not-finite, below-infinity}
+use Rattle.record_queue_reader.proofs.finite_fits.Statement.{statement}
+use Rattle.record_queue_reader.proofs.finite_fits.Tie as tie
 
 float-from-bits-result : tie.Need-float-from-bits-result
 float-from-bits-result c = below-infinity (c .before .args .pattern) (c .if1 .taken)

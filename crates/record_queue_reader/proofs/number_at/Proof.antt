@@ -1,13 +1,13 @@
--- `queue_reader::number_at` meets its contract: the field lies in the part that is lent. Assumes nothing.
+-- `record_queue_reader::number_at` meets its contract: the field lies in the part that is lent. Assumes nothing.
 use mathlib.Core.Path.{_∙_}
 use Prim.Native.Nat.{_+_, _-_}
 use native.Mathlib.Omega.{arith}
 use borrow.Author.Needs.{needs}
 use denote.Ref.{now}
 use lib.ListN.{drop}
-use Rattle.fields.proofs.Orders.{number-within}
-use Rattle.queue_reader.proofs.number_at.Statement.{statement}
-use Rattle.queue_reader.proofs.number_at.Tie as tie
+use Rattle.base_fields.proofs.Orders.{number-within}
+use Rattle.record_queue_reader.proofs.number_at.Statement.{statement}
+use Rattle.record_queue_reader.proofs.number_at.Tie as tie
 
 returns : tie.Need-returns
 returns c =

@@ -1,9 +1,9 @@
--- `queue_reader::numbers_fit` meets its contract. Assumes nothing.
+-- `record_queue_reader::numbers_fit` meets its contract. Assumes nothing.
 use borrow.Author.Tests.{le-leb, lt-leb}
-use Rattle.queue.specs.Queue.{longest}
-use Rattle.queue_reader.specs.QueueRecord.{numbersFit}
-use Rattle.queue_reader.proofs.numbers_fit.Statement.{statement}
-use Rattle.queue_reader.proofs.numbers_fit.Tie as tie
+use Rattle.history_queue.specs.Queue.{longest}
+use Rattle.record_queue_reader.specs.QueueRecord.{numbersFit}
+use Rattle.record_queue_reader.proofs.numbers_fit.Statement.{statement}
+use Rattle.record_queue_reader.proofs.numbers_fit.Tie as tie
 
 returns : tie.Need-returns
 unfolding numbersFit

@@ -1,8 +1,8 @@
--- `queue_reader::pattern_fits` meets its contract. Assumes nothing.
+-- `record_queue_reader::pattern_fits` meets its contract. Assumes nothing.
 use borrow.Author.Needs.{needs}
-use Rattle.queue_reader.proofs.Patterns.{told-apart}
-use Rattle.queue_reader.proofs.pattern_fits.Statement.{statement}
-use Rattle.queue_reader.proofs.pattern_fits.Tie as tie
+use Rattle.record_queue_reader.proofs.Patterns.{told-apart}
+use Rattle.record_queue_reader.proofs.pattern_fits.Statement.{statement}
+use Rattle.record_queue_reader.proofs.pattern_fits.Tie as tie
 
 returns : tie.Need-returns
 returns c = rw (c .finite-fits .ensures) (told-apart (c .before .args .pattern))

@@ -1,4 +1,4 @@
--- `queue_reader::read_body` meets its contract: each test is a row, in the order of the rows, and past the last the energies are stored.
+-- `record_queue_reader::read_body` meets its contract: each test is a row, in the order of the rows, and past the last the energies are stored.
 -- Assumes nothing.
 use mathlib.Core.Path.{_≡_, refl, sym, ap, _∙_}
 use mathlib.Core.Bool.{true}
@@ -9,15 +9,15 @@ use borrow.Author.Tests.{not-true, not-false, eq-eqb, ne-eqb}
 use denote.Ref.{now}
 use lib.ListN.{length, drop}
 use lib.Seq.{sets}
-use Rattle.refusals.specs.Outcome.{says, saidBy, keptBy}
-use Rattle.queue.specs.declared.Queue.{Queue}
-use Rattle.queue.specs.Queue.{longest}
-use Rattle.layout.specs.Layout.{queueLeast, numbersIn, lengthIn}
-use Rattle.queue_reader.specs.QueueRecord.{energyWidth, leastLength, maximumIn, heldIn, patternsIn, numbersFit, allFit, energiesOf, queueIn}
-use Rattle.queue_reader.specs.Inner.{bodyRead}
-use Rattle.queue_reader.proofs.Cases.{Sound, body-went, numbers-within, stored-is}
-use Rattle.queue_reader.proofs.read_body.Statement.{statement}
-use Rattle.queue_reader.proofs.read_body.Tie as tie
+use Rattle.base_refusals.specs.Outcome.{says, saidBy, keptBy}
+use Rattle.history_queue.specs.declared.Queue.{Queue}
+use Rattle.history_queue.specs.Queue.{longest}
+use Rattle.record_layout.specs.Layout.{queueLeast, numbersIn, lengthIn}
+use Rattle.record_queue_reader.specs.QueueRecord.{energyWidth, leastLength, maximumIn, heldIn, patternsIn, numbersFit, allFit, energiesOf, queueIn}
+use Rattle.record_queue_reader.specs.Inner.{bodyRead}
+use Rattle.record_queue_reader.proofs.Cases.{Sound, body-went, numbers-within, stored-is}
+use Rattle.record_queue_reader.proofs.read_body.Statement.{statement}
+use Rattle.record_queue_reader.proofs.read_body.Tie as tie
 
 -- ---- past each test
 tested : (c : tie.After-numbers-fit) → let a = c .before .before .before .before .before .args in

@@ -1,4 +1,4 @@
--- `queue_reader::read_energies` meets its contract. The invariant: what is left to store gives what all of it gives, and fits. Assumes nothing.
+-- `record_queue_reader::read_energies` meets its contract. The invariant: what is left to store gives what all of it gives, and fits. Assumes nothing.
 use mathlib.Core.Path.{_≡_, refl, sym, ap, _∙_}
 use mathlib.Core.Bool.{true}
 use mathlib.Core.List.{List}
@@ -8,12 +8,12 @@ use borrow.Author.Needs.{needs}
 use denote.Ref.{now}
 use lib.ListN.{length, length-set, drop}
 use lib.Seq.{sets}
-use Rattle.layout.specs.Layout.{numbersIn}
-use Rattle.layout.proofs.Turns.{all-left}
-use Rattle.queue_reader.specs.QueueRecord.{energiesOf, patternFits, allFit}
-use Rattle.queue_reader.proofs.Patterns.{each, store-turn, store-end}
-use Rattle.queue_reader.proofs.read_energies.Statement.{statement}
-use Rattle.queue_reader.proofs.read_energies.Tie as tie
+use Rattle.record_layout.specs.Layout.{numbersIn}
+use Rattle.record_layout.proofs.Turns.{all-left}
+use Rattle.record_queue_reader.specs.QueueRecord.{energiesOf, patternFits, allFit}
+use Rattle.record_queue_reader.proofs.Patterns.{each, store-turn, store-end}
+use Rattle.record_queue_reader.proofs.read_energies.Statement.{statement}
+use Rattle.record_queue_reader.proofs.read_energies.Tie as tie
 
 abbrev Inv-loop : tie.InvT-loop
 Inv-loop order bytes at count store₀ i₀ store i = (i ≤ count) × (length store ≡ length store₀) × (sets store i (energiesOf (numbersIn order 8 (count - i) (drop (at + 8 * i) bytes))) ≡ sets store₀ 0 (energiesOf (numbersIn order 8 count (drop at bytes)))) × (allFit (numbersIn order 8 (count - i) (drop (at + 8 * i) bytes)) ≡ true)

@@ -1,19 +1,19 @@
--- `queue_reader::read_queue` meets its contract: the frame first, then the body. Assumes nothing.
+-- `record_queue_reader::read_queue` meets its contract: the frame first, then the body. Assumes nothing.
 use mathlib.Core.Path.{_≡_, sym, ap, _∙_}
 use borrow.Author.Needs.{needs}
 use denote.Ref.{now}
-use Rattle.refusals.specs.Outcome.{went, saidBy, keptBy}
-use Rattle.refusals.specs.Answer.{said}
-use Rattle.refusals.specs.Rows.{numberOf}
-use Rattle.fields.specs.declared.Order.{Order}
-use Rattle.layout.specs.declared.Kind.the-variants.{Queue as QueueKind}
-use Rattle.layout.specs.Layout.{orderOf, frameRows, frameOf}
-use Rattle.refusals.proofs.Behind.{passed, stopped-said}
-use Rattle.queue_reader.specs.QueueRecord.{stored, queueIn, bodyRows, readQueue}
-use Rattle.queue_reader.specs.Inner.{bodyRead}
-use Rattle.queue_reader.proofs.Cases.{read-behind, framed-long, framed-length}
-use Rattle.queue_reader.proofs.read_queue.Statement.{statement}
-use Rattle.queue_reader.proofs.read_queue.Tie as tie
+use Rattle.base_refusals.specs.Outcome.{went, saidBy, keptBy}
+use Rattle.base_refusals.specs.Answer.{said}
+use Rattle.base_refusals.specs.Rows.{numberOf}
+use Rattle.base_fields.specs.declared.Order.{Order}
+use Rattle.record_layout.specs.declared.Kind.the-variants.{Queue as QueueKind}
+use Rattle.record_layout.specs.Layout.{orderOf, frameRows, frameOf}
+use Rattle.base_refusals.proofs.Behind.{passed, stopped-said}
+use Rattle.record_queue_reader.specs.QueueRecord.{stored, queueIn, bodyRows, readQueue}
+use Rattle.record_queue_reader.specs.Inner.{bodyRead}
+use Rattle.record_queue_reader.proofs.Cases.{read-behind, framed-long, framed-length}
+use Rattle.record_queue_reader.proofs.read_queue.Statement.{statement}
+use Rattle.record_queue_reader.proofs.read_queue.Tie as tie
 
 past-frame : (c : tie.After-enum-told) → numberOf (frameRows QueueKind (now (c .before .before .before .before .before .args .bytes))) ≡ 0
 unfolding frameOf

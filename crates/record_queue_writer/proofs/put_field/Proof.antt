@@ -1,11 +1,11 @@
--- `queue_writer::put_field` meets its contract: the part that is lent is as long as the field is wide. Assumes nothing.
+-- `record_queue_writer::put_field` meets its contract: the part that is lent is as long as the field is wide. Assumes nothing.
 use mathlib.Core.Path.{refl}
 use Prim.Native.Nat.{_+_}
 use borrow.Author.Needs.{needs}
 use denote.Ref.{now}
-use Rattle.queue_writer.proofs.Places.{field-put}
-use Rattle.queue_writer.proofs.put_field.Statement.{statement}
-use Rattle.queue_writer.proofs.put_field.Tie as tie
+use Rattle.record_queue_writer.proofs.Places.{field-put}
+use Rattle.record_queue_writer.proofs.put_field.Statement.{statement}
+use Rattle.record_queue_writer.proofs.put_field.Tie as tie
 
 returns : tie.Need-returns
 returns c =

@@ -1,4 +1,4 @@
--- `queue_writer::write_energies` meets its contract. The invariant: what is left to write gives what all of it gives. Assumes nothing.
+-- `record_queue_writer::write_energies` meets its contract. The invariant: what is left to write gives what all of it gives. Assumes nothing.
 use mathlib.Core.Path.{_≡_, refl, sym, ap, _∙_}
 use mathlib.Core.List.{List}
 use Prim.Native.Nat.{ℕ, _+_, _-_, _*_, _≤_}
@@ -7,13 +7,13 @@ use borrow.Author.Needs.{needs}
 use denote.Ref.{now}
 use lib.ListN.{length, drop}
 use lib.Seq.{sets, length-sets}
-use Rattle.fields.specs.Field.{bytesOf}
-use Rattle.layout.specs.Layout.{allBytes}
-use Rattle.layout.proofs.Turns.{write-turn, write-end}
-use Rattle.queue_reader.specs.QueueRecord.{patternsOf}
-use Rattle.queue_writer.proofs.Places.{patterns-length, pattern-at}
-use Rattle.queue_writer.proofs.write_energies.Statement.{statement}
-use Rattle.queue_writer.proofs.write_energies.Tie as tie
+use Rattle.base_fields.specs.Field.{bytesOf}
+use Rattle.record_layout.specs.Layout.{allBytes}
+use Rattle.record_layout.proofs.Turns.{write-turn, write-end}
+use Rattle.record_queue_reader.specs.QueueRecord.{patternsOf}
+use Rattle.record_queue_writer.proofs.Places.{patterns-length, pattern-at}
+use Rattle.record_queue_writer.proofs.write_energies.Statement.{statement}
+use Rattle.record_queue_writer.proofs.write_energies.Tie as tie
 
 abbrev Inv-loop : tie.InvT-loop
 Inv-loop order energies out₀ at i₀ out i = (i ≤ length energies) × (length out ≡ length out₀) × (sets out (at + 8 * i) (allBytes order 8 (drop i (patternsOf energies))) ≡ sets out₀ at (allBytes order 8 (patternsOf energies)))

@@ -1,4 +1,4 @@
--- `queue_writer::write_held` meets its contract: the energies held are two slices of the store, one after the other. Assumes nothing.
+-- `record_queue_writer::write_held` meets its contract: the energies held are two slices of the store, one after the other. Assumes nothing.
 use mathlib.Core.Path.{_≡_, sym, ap, _∙_}
 use mathlib.Core.List.{List}
 use Prim.Native.Nat.{ℕ, _+_, _-_, _*_}
@@ -8,14 +8,14 @@ use denote.Ref.{now}
 use lib.ListN.{length, length-append}
 use lib.Seq.{sets}
 use lib.Ieee.{Float}
-use Rattle.queue.specs.declared.Parts.{Parts}
-use Rattle.queue.specs.Queue.{over, heldOf, slice, inParts}
-use Rattle.queue.proofs.Standing.{slice-length, Within, parts-within, held-in-store}
-use Rattle.layout.specs.Layout.{allBytes}
-use Rattle.queue_reader.specs.QueueRecord.{energyWidth, leastLength, patternsOf}
-use Rattle.queue_writer.proofs.Places.{parts-put, held-number}
-use Rattle.queue_writer.proofs.write_held.Statement.{statement}
-use Rattle.queue_writer.proofs.write_held.Tie as tie
+use Rattle.history_queue.specs.declared.Parts.{Parts}
+use Rattle.history_queue.specs.Queue.{over, heldOf, slice, inParts}
+use Rattle.history_queue.proofs.Standing.{slice-length, Within, parts-within, held-in-store}
+use Rattle.record_layout.specs.Layout.{allBytes}
+use Rattle.record_queue_reader.specs.QueueRecord.{energyWidth, leastLength, patternsOf}
+use Rattle.record_queue_writer.proofs.Places.{parts-put, held-number}
+use Rattle.record_queue_writer.proofs.write_held.Statement.{statement}
+use Rattle.record_queue_writer.proofs.write_held.Tie as tie
 
 abbrev store : tie.After-parts → List Float
 store c = now (c .before .before .before .args .store)

@@ -1,4 +1,4 @@
--- `queue_writer::write_queue` meets its contract: a sound queue's record has 14 bytes and 8 for each energy held, and goes where there is room for it.
+-- `record_queue_writer::write_queue` meets its contract: a sound queue's record has 14 bytes and 8 for each energy held, and goes where there is room for it.
 -- Assumes nothing.
 use mathlib.Core.Path.{_≡_, refl, sym, ap, _∙_}
 use mathlib.Core.Bool.{true, _&&_, and-eq-true-iff}
@@ -10,20 +10,20 @@ use borrow.Author.Tests.{lt-ltb, le-ltb}
 use denote.Ref.{now}
 use lib.ListN.{length}
 use lib.Seq.{sets}
-use Rattle.refusals.specs.Outcome.{says}
-use Rattle.fields.specs.declared.Order.{Order}
-use Rattle.fields.specs.Field.{bytesOf}
-use Rattle.queue.specs.Queue.{over, suits, heldOf}
-use Rattle.history.specs.Set.{noneBelow}
-use Rattle.queue.proofs.Ring.{Suited, suited}
-use Rattle.layout.specs.declared.Kind.the-variants.{Queue as QueueKind}
-use Rattle.layout.specs.Layout.{allBytes, withHead}
-use Rattle.queue_reader.specs.QueueRecord.{numberWidth, energyWidth, maximumAt, heldAt, leastLength, patternsOf}
-use Rattle.queue_writer.specs.Writing.{queueRecord, writeQueue}
-use Rattle.queue_writer.proofs.Places.{held-number}
-use Rattle.queue_writer.proofs.Cases.{whole-length, queue-put}
-use Rattle.queue_writer.proofs.write_queue.Statement.{statement}
-use Rattle.queue_writer.proofs.write_queue.Tie as tie
+use Rattle.base_refusals.specs.Outcome.{says}
+use Rattle.base_fields.specs.declared.Order.{Order}
+use Rattle.base_fields.specs.Field.{bytesOf}
+use Rattle.history_queue.specs.Queue.{over, suits, heldOf}
+use Rattle.history_set.specs.Set.{noneBelow}
+use Rattle.history_queue.proofs.Ring.{Suited, suited}
+use Rattle.record_layout.specs.declared.Kind.the-variants.{Queue as QueueKind}
+use Rattle.record_layout.specs.Layout.{allBytes, withHead}
+use Rattle.record_queue_reader.specs.QueueRecord.{numberWidth, energyWidth, maximumAt, heldAt, leastLength, patternsOf}
+use Rattle.record_queue_writer.specs.Writing.{queueRecord, writeQueue}
+use Rattle.record_queue_writer.proofs.Places.{held-number}
+use Rattle.record_queue_writer.proofs.Cases.{whole-length, queue-put}
+use Rattle.record_queue_writer.proofs.write_queue.Statement.{statement}
+use Rattle.record_queue_writer.proofs.write_queue.Tie as tie
 
 sound-here : (c : tie.Then1) → let a = c .before .before .before .before .args in
     suits (a .queue) (length (now (a .store))) && noneBelow (heldOf (over (a .queue) (now (a .store)))) ≡ true

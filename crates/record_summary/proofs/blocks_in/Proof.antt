@@ -1,4 +1,4 @@
--- `summary::blocks_in` meets its contract. The invariant: the sum is that of the bins passed. Assumes nothing.
+-- `record_summary::blocks_in` meets its contract. The invariant: the sum is that of the bins passed. Assumes nothing.
 use mathlib.Core.Path.{_≡_, ap, _∙_}
 use Prim.Native.Nat.{_-_, _≤_}
 use native.Mathlib.Omega.{arith}
@@ -6,10 +6,10 @@ use borrow.Author.Needs.{needs}
 use denote.Ref.{now}
 use lib.ListN.{length, take}
 use lib.Seq.{take-all}
-use Rattle.histogram_range.specs.Counted.{blocksIn}
-use Rattle.histogram_range.proofs.Counting.{blocks-more, blocks-none, blocks-most}
-use Rattle.summary.proofs.blocks_in.Statement.{statement}
-use Rattle.summary.proofs.blocks_in.Tie as tie
+use Rattle.range_histograms.specs.Counted.{blocksIn}
+use Rattle.range_histograms.proofs.Counting.{blocks-more, blocks-none, blocks-most}
+use Rattle.record_summary.proofs.blocks_in.Statement.{statement}
+use Rattle.record_summary.proofs.blocks_in.Tie as tie
 
 abbrev Inv-loop : tie.InvT-loop
 Inv-loop counters blocks₀ bin₀ blocks bin = (bin ≤ length counters) × (blocks ≡ blocksIn (take bin counters))

@@ -1,15 +1,15 @@
--- `summary::figures` meets its contract, by each answer of the range. Assumes nothing.
+-- `record_summary::figures` meets its contract, by each answer of the range. Assumes nothing.
 use mathlib.Core.Path.{_≡_, sym, ap, _∙_}
 use mathlib.Core.List.{[]}
 use borrow.Author.Needs.{needs}
 use denote.Ref.{now}
-use Rattle.refusals.specs.Outcome.{saidBy}
-use Rattle.histogram_range.specs.Counted.{blocksIn}
+use Rattle.base_refusals.specs.Outcome.{saidBy}
+use Rattle.range_histograms.specs.Counted.{blocksIn}
 use Rattle.range.specs.Range.{found, nothing, notANumber, rangeOf, said}
-use Rattle.summary.specs.Summary.{alone, figuresOf}
-use Rattle.summary.proofs.Ranges.{span-figures, refused-figures}
-use Rattle.summary.proofs.figures.Statement.{statement}
-use Rattle.summary.proofs.figures.Tie as tie
+use Rattle.record_summary.specs.Summary.{alone, figuresOf}
+use Rattle.record_summary.proofs.Ranges.{span-figures, refused-figures}
+use Rattle.record_summary.proofs.figures.Statement.{statement}
+use Rattle.record_summary.proofs.figures.Tie as tie
 
 -- the question is the definition's
 asked : (c : tie.After-work2) → said (c .before .loudness-range .result) ≡ saidBy (rangeOf (alone (now (c .before .before .before .before .before .before .args .counters))) [])

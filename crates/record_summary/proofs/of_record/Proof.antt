@@ -1,18 +1,18 @@
--- `summary::of_record` meets its contract: the counters are empty before the record is read. Assumes nothing.
+-- `record_summary::of_record` meets its contract: the counters are empty before the record is read. Assumes nothing.
 use mathlib.Core.Path.{_≡_, sym, ap, _∙_}
 use mathlib.Core.List.{List}
 use Prim.Native.Nat.{ℕ}
 use borrow.Author.Needs.{needs}
 use denote.Ref.{now}
-use Rattle.refusals.specs.Outcome.{saidBy, keptBy}
-use Rattle.refusals.specs.Answer.{said}
-use Rattle.histogram.specs.Histogram.{empty}
-use Rattle.histogram_reader.specs.Record.{readHistogram}
-use Rattle.summary.specs.Summary.{figuresOf, summaryOf}
-use Rattle.histogram_range.proofs.Adding.{empty-is}
-use Rattle.summary.proofs.Ranges.{read-figures, unread-figures}
-use Rattle.summary.proofs.of_record.Statement.{statement}
-use Rattle.summary.proofs.of_record.Tie as tie
+use Rattle.base_refusals.specs.Outcome.{saidBy, keptBy}
+use Rattle.base_refusals.specs.Answer.{said}
+use Rattle.history_histogram.specs.Histogram.{empty}
+use Rattle.record_histogram.specs.Record.{readHistogram}
+use Rattle.record_summary.specs.Summary.{figuresOf, summaryOf}
+use Rattle.range_histograms.proofs.Adding.{empty-is}
+use Rattle.record_summary.proofs.Ranges.{read-figures, unread-figures}
+use Rattle.record_summary.proofs.of_record.Statement.{statement}
+use Rattle.record_summary.proofs.of_record.Tie as tie
 
 -- what the reading says, and what stands in the counters then
 answered : (c : tie.After-read-histogram) → said (c .read-histogram .result) ≡ saidBy (readHistogram (now (c .before .before .before .args .bytes)) empty)

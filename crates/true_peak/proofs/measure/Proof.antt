@@ -1,9 +1,9 @@
 -- `true_peak::measure` meets its contract: the rate has an interpolator, or nothing is measured. Assumes nothing.
 use borrow.Author.Needs.{needs}
 use mathlib.Core.Path.{_≡_, sym, ap, _∙_}
-use Rattle.interp.specs.Interp.{Kind, upsampled, kindOf, said}
+use Rattle.true_peak_interp.specs.Interp.{Kind, upsampled, kindOf, said}
 use Rattle.true_peak_state.specs.TruePeak.{measured}
-use Rattle.interp.proofs.Rates.{rate-known}
+use Rattle.true_peak_interp.proofs.Rates.{rate-known}
 use Rattle.true_peak.proofs.measure.Statement.{statement}
 use Rattle.true_peak.proofs.measure.Tie as tie
 

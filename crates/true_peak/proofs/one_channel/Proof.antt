@@ -8,10 +8,9 @@ use lib.ListN.{length}
 use lib.Ieee.{Float}
 use lib.Seq.{sets}
 use Rattle.true_peak_state.specs.Channel.{Channel, channel, heard, past}
-use Rattle.largest_phase.specs.Line.{back}
+use Rattle.true_peak_scan.specs.Line.{back}
 use Rattle.true_peak.specs.Inner.{room}
-use Rattle.samples.specs.Frames.{column}
-use Rattle.calls.specs.Calls.{mostChannels}
+use Rattle.samples.specs.Frames.{column, mostChannels}
 use Rattle.true_peak_state.specs.TruePeak.{historyAt}
 use Rattle.true_peak.proofs.Stretches.{stretches-turn, places}
 use Rattle.true_peak.proofs.one_channel.Statement.{statement}

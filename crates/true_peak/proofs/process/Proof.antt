@@ -2,10 +2,10 @@
 use borrow.Author.Needs.{needs}
 use mathlib.Core.Path.{sym, ap, _∙_}
 use lib.ListN.{length}
-use Rattle.refusals.specs.Outcome.{saidBy, keptBy, went, done}
-use Rattle.refusals.proofs.Rows.{stopped, goes}
-use Rattle.calls.proofs.Checking.{frames-fine}
-use Rattle.interp.specs.Interp.{kindOf}
+use Rattle.base_refusals.specs.Outcome.{saidBy, keptBy, went, done}
+use Rattle.base_refusals.proofs.Rows.{stopped, goes}
+use Rattle.filter_checks.proofs.Checking.{frames-fine}
+use Rattle.true_peak_interp.specs.Interp.{kindOf}
 use Rattle.true_peak_state.specs.declared.TruePeak.{TruePeak}
 use Rattle.true_peak_state.specs.TruePeak.{Block, measured}
 use Rattle.true_peak.specs.TruePeak.{peakRows}

@@ -5,12 +5,12 @@ use mathlib.Core.List.{List}
 use Prim.Native.Nat.{ℕ, min, _≤_}
 use native.Mathlib.Nat.{min-eq-left}
 use lib.Ieee.{Float}
-use Rattle.interp.specs.declared.Interp.{Interp}
-use Rattle.interp.specs.Interp.{fourfold, twofold}
-use Rattle.interp.specs.Phase.{coefficients, phases, phasesBy}
-use Rattle.interp.proofs.Rates.{known-fourfold, known-twofold}
-use Rattle.floats.specs.Largest.{largest}
-use Rattle.largest_phase.specs.Line.{stretch, phasesOver}
+use Rattle.true_peak_interp.specs.declared.Interp.{Interp}
+use Rattle.true_peak_interp.specs.Interp.{fourfold, twofold}
+use Rattle.true_peak_interp.specs.Phase.{coefficients, phases, phasesBy}
+use Rattle.true_peak_interp.proofs.Rates.{known-fourfold, known-twofold}
+use Rattle.base_floats.specs.Largest.{largest}
+use Rattle.true_peak_scan.specs.Line.{stretch, phasesOver}
 use Rattle.true_peak.proofs.scan.Statement.{statement}
 use Rattle.true_peak.proofs.scan.Tie as tie
 

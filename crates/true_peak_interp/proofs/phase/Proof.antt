@@ -1,4 +1,4 @@
--- `interp::phase` meets its contract: the samples that are left, on top of the sum, give what all of them give. Assumes nothing.
+-- `true_peak_interp::phase` meets its contract: the samples that are left, on top of the sum, give what all of them give. Assumes nothing.
 use borrow.Author.Needs.{needs}
 use mathlib.Core.Path.{_≡_, refl, sym, ap, _∙_}
 use mathlib.Core.List.{List}
@@ -9,9 +9,9 @@ use native.Mathlib.Omega.{arith}
 use lib.ListN.{length, drop, getD, drop-of-length-le}
 use lib.Seq.{drop-cons}
 use lib.Ieee.{Float, nan, ofBits}
-use Rattle.interp.specs.Phase.{summed, plus, phase}
-use Rattle.interp.proofs.phase.Statement.{statement}
-use Rattle.interp.proofs.phase.Tie as tie
+use Rattle.true_peak_interp.specs.Phase.{summed, plus, phase}
+use Rattle.true_peak_interp.proofs.phase.Statement.{statement}
+use Rattle.true_peak_interp.proofs.phase.Tie as tie
 
 abbrev Inv-loop : tie.InvT-loop
 Inv-loop taps factor samples f sum₀ at₀ i₀ sum at i =

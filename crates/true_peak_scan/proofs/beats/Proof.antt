@@ -1,9 +1,9 @@
--- `largest_phase::beats` meets its contract: NaN is told apart first, and beats nothing. Assumes nothing.
+-- `true_peak_scan::beats` meets its contract: NaN is told apart first, and beats nothing. Assumes nothing.
 use mathlib.Core.Path.{ap}
 use lib.Ieee.{lt}
-use Rattle.largest_phase.proofs.Signs.{number, nan-beats-none}
-use Rattle.largest_phase.proofs.beats.Statement.{statement}
-use Rattle.largest_phase.proofs.beats.Tie as tie
+use Rattle.true_peak_scan.proofs.Signs.{number, nan-beats-none}
+use Rattle.true_peak_scan.proofs.beats.Statement.{statement}
+use Rattle.true_peak_scan.proofs.beats.Tie as tie
 
 magnitude-requires : tie.Need-magnitude-requires
 magnitude-requires c κs = number (c .before .args .x) (c .if1 .taken)

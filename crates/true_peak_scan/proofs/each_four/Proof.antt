@@ -1,13 +1,13 @@
--- `largest_phase::each_four` meets its contract: twelve taps in order are the four phases of each frame. Assumes nothing.
+-- `true_peak_scan::each_four` meets its contract: twelve taps in order are the four phases of each frame. Assumes nothing.
 use mathlib.Core.Path.{ap, _∙_}
 use Prim.Native.Nat.{ℕ}
 use native.Mathlib.Omega.{arith}
 use lib.Ieee.{ofBits, neg}
-use Rattle.largest_phase.specs.declared.Fours.{Fours}
-use Rattle.largest_phase.specs.Line.{back}
-use Rattle.largest_phase.specs.Inner.{four, sumsBy, samplesAt, fourAt, tapFour}
-use Rattle.largest_phase.proofs.each_four.Statement.{statement}
-use Rattle.largest_phase.proofs.each_four.Tie as tie
+use Rattle.true_peak_scan.specs.declared.Fours.{Fours}
+use Rattle.true_peak_scan.specs.Line.{back}
+use Rattle.true_peak_scan.specs.Inner.{four, sumsBy, samplesAt, fourAt, tapFour}
+use Rattle.true_peak_scan.proofs.each_four.Statement.{statement}
+use Rattle.true_peak_scan.proofs.each_four.Tie as tie
 
 tap-four-requires : tie.Need-tap-four-requires
 tap-four-requires c κs = ((omega arith, omega arith), c .pre)

@@ -1,13 +1,13 @@
--- `largest_phase::each_two` meets its contract: twenty-four taps in order are the two phases of each frame. Assumes nothing.
+-- `true_peak_scan::each_two` meets its contract: twenty-four taps in order are the two phases of each frame. Assumes nothing.
 use mathlib.Core.Path.{ap, _∙_}
 use Prim.Native.Nat.{ℕ}
 use native.Mathlib.Omega.{arith}
 use lib.Ieee.{ofBits, neg}
-use Rattle.largest_phase.specs.declared.Twos.{Twos}
-use Rattle.largest_phase.specs.Line.{back}
-use Rattle.largest_phase.specs.Inner.{two, sumsBy, samplesAt, fourAt, tapPair}
-use Rattle.largest_phase.proofs.each_two.Statement.{statement}
-use Rattle.largest_phase.proofs.each_two.Tie as tie
+use Rattle.true_peak_scan.specs.declared.Twos.{Twos}
+use Rattle.true_peak_scan.specs.Line.{back}
+use Rattle.true_peak_scan.specs.Inner.{two, sumsBy, samplesAt, fourAt, tapPair}
+use Rattle.true_peak_scan.proofs.each_two.Statement.{statement}
+use Rattle.true_peak_scan.proofs.each_two.Tie as tie
 
 tap-pair-requires : tie.Need-tap-pair-requires
 tap-pair-requires c κs = ((omega arith, (omega arith, omega arith)), c .pre)

@@ -1,4 +1,4 @@
--- `largest_phase::frames_twofold` meets its contract: a turn does one frame of each run. Assumes nothing.
+-- `true_peak_scan::frames_twofold` meets its contract: a turn does one frame of each run. Assumes nothing.
 use borrow.Author.Needs.{needs}
 use mathlib.Core.Path.{refl, sym, ap, subst, _∙_}
 use mathlib.Core.List.{List}
@@ -6,14 +6,14 @@ use Prim.Native.Nat.{_+_, _-_, _≤_}
 use native.Mathlib.Omega.{arith}
 use lib.ListN.{set}
 use lib.Ieee.{Float}
-use Rattle.interp.specs.Interp.{twofold}
-use Rattle.interp.specs.Phase.{phasesBy}
-use Rattle.largest_phase.specs.Inner.{two}
-use Rattle.floats.specs.Largest.{largest}
-use Rattle.largest_phase.proofs.Zeros.{raised-alike}
-use Rattle.largest_phase.proofs.Quarters.{Quarters, quarters-start, quarters-turn, quarters-end}
-use Rattle.largest_phase.proofs.frames_twofold.Statement.{statement}
-use Rattle.largest_phase.proofs.frames_twofold.Tie as tie
+use Rattle.true_peak_interp.specs.Interp.{twofold}
+use Rattle.true_peak_interp.specs.Phase.{phasesBy}
+use Rattle.true_peak_scan.specs.Inner.{two}
+use Rattle.base_floats.specs.Largest.{largest}
+use Rattle.true_peak_scan.proofs.Zeros.{raised-alike}
+use Rattle.true_peak_scan.proofs.Quarters.{Quarters, quarters-start, quarters-turn, quarters-end}
+use Rattle.true_peak_scan.proofs.frames_twofold.Statement.{statement}
+use Rattle.true_peak_scan.proofs.frames_twofold.Tie as tie
 
 abbrev Inv-loop : tie.InvT-loop
 Inv-loop taps line run peak loud₀ at₀ loud at = (at ≤ run) × Quarters (phasesBy taps twofold) line peak run loud at

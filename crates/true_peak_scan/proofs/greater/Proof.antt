@@ -1,6 +1,6 @@
--- `largest_phase::greater` meets its contract, by its one test. Assumes nothing.
-use Rattle.largest_phase.proofs.greater.Statement.{statement}
-use Rattle.largest_phase.proofs.greater.Tie as tie
+-- `true_peak_scan::greater` meets its contract, by its one test. Assumes nothing.
+use Rattle.true_peak_scan.proofs.greater.Statement.{statement}
+use Rattle.true_peak_scan.proofs.greater.Tie as tie
 
 returns : tie.Need-returns
 returns c = simp (c .if1 .taken)

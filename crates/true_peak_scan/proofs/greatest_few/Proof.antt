@@ -1,14 +1,14 @@
--- `largest_phase::greatest_few` meets its contract: what is left of each quarter gives what the quarter gives. Assumes nothing.
+-- `true_peak_scan::greatest_few` meets its contract: what is left of each quarter gives what the quarter gives. Assumes nothing.
 use borrow.Author.Needs.{needs}
 use mathlib.Core.Path.{_≡_, refl, ap, _∙_}
 use Prim.Native.Nat.{_+_, _-_, _≤_}
 use native.Mathlib.Omega.{arith}
 use lib.Ieee.{Float}
-use Rattle.floats.specs.Largest.{greater}
-use Rattle.largest_phase.specs.Inner.{greatestOf}
-use Rattle.largest_phase.proofs.Quarters.{run-turn, run-end, by-quarters}
-use Rattle.largest_phase.proofs.greatest_few.Statement.{statement}
-use Rattle.largest_phase.proofs.greatest_few.Tie as tie
+use Rattle.base_floats.specs.Largest.{greater}
+use Rattle.true_peak_scan.specs.Inner.{greatestOf}
+use Rattle.true_peak_scan.proofs.Quarters.{run-turn, run-end, by-quarters}
+use Rattle.true_peak_scan.proofs.greatest_few.Statement.{statement}
+use Rattle.true_peak_scan.proofs.greatest_few.Tie as tie
 
 abbrev Inv-loop : tie.InvT-loop
 Inv-loop loud peak a₀ b₀ c₀ d₀ k₀ a b c d k =

@@ -1,9 +1,9 @@
--- `largest_phase::greatest_of` meets its contract: neighbours compared twice leave the same largest. Assumes nothing.
+-- `true_peak_scan::greatest_of` meets its contract: neighbours compared twice leave the same largest. Assumes nothing.
 use borrow.Author.Needs.{needs}
 use mathlib.Core.Path.{_∙_}
-use Rattle.largest_phase.proofs.Pairs.{twice}
-use Rattle.largest_phase.proofs.greatest_of.Statement.{statement}
-use Rattle.largest_phase.proofs.greatest_of.Tie as tie
+use Rattle.true_peak_scan.proofs.Pairs.{twice}
+use Rattle.true_peak_scan.proofs.greatest_of.Statement.{statement}
+use Rattle.true_peak_scan.proofs.greatest_of.Tie as tie
 
 returns : tie.Need-returns
 returns c =

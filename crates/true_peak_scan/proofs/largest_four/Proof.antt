@@ -1,8 +1,8 @@
--- `largest_phase::largest_four` meets its contract: the four phases are compared in order. Assumes nothing.
+-- `true_peak_scan::largest_four` meets its contract: the four phases are compared in order. Assumes nothing.
 use borrow.Author.Needs.{needs}
-use Rattle.floats.specs.Largest.{greatest}
-use Rattle.largest_phase.proofs.largest_four.Statement.{statement}
-use Rattle.largest_phase.proofs.largest_four.Tie as tie
+use Rattle.base_floats.specs.Largest.{greatest}
+use Rattle.true_peak_scan.proofs.largest_four.Statement.{statement}
+use Rattle.true_peak_scan.proofs.largest_four.Tie as tie
 
 returns : tie.Need-returns
 unfolding greatest

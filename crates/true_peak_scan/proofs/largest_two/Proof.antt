@@ -1,8 +1,8 @@
--- `largest_phase::largest_two` meets its contract: the two phases are compared in order. Assumes nothing.
+-- `true_peak_scan::largest_two` meets its contract: the two phases are compared in order. Assumes nothing.
 use borrow.Author.Needs.{needs}
-use Rattle.floats.specs.Largest.{greatest}
-use Rattle.largest_phase.proofs.largest_two.Statement.{statement}
-use Rattle.largest_phase.proofs.largest_two.Tie as tie
+use Rattle.base_floats.specs.Largest.{greatest}
+use Rattle.true_peak_scan.proofs.largest_two.Statement.{statement}
+use Rattle.true_peak_scan.proofs.largest_two.Tie as tie
 
 returns : tie.Need-returns
 unfolding greatest

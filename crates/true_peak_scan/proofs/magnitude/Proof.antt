@@ -1,10 +1,10 @@
--- `largest_phase::magnitude` meets its contract: a float that is no NaN loses the sign's bit. Assumes nothing.
+-- `true_peak_scan::magnitude` meets its contract: a float that is no NaN loses the sign's bit. Assumes nothing.
 use mathlib.Core.Path.{sym, subst}
 use lib.Dec.{T}
 use lib.Ieee.{fits, binary32}
-use Rattle.largest_phase.proofs.Signs.{by-bits, no-nan-bits}
-use Rattle.largest_phase.proofs.magnitude.Statement.{statement}
-use Rattle.largest_phase.proofs.magnitude.Tie as tie
+use Rattle.true_peak_scan.proofs.Signs.{by-bits, no-nan-bits}
+use Rattle.true_peak_scan.proofs.magnitude.Statement.{statement}
+use Rattle.true_peak_scan.proofs.magnitude.Tie as tie
 
 fitting : (c : tie.Start) → T (fits binary32 (c .args .x))
 fitting c = subst T (sym (c .good .0 .1)) tt

@@ -1,13 +1,13 @@
--- `largest_phase::neighbours` meets its contract: a turn compares two neighbours more. Assumes nothing.
+-- `true_peak_scan::neighbours` meets its contract: a turn compares two neighbours more. Assumes nothing.
 use borrow.Author.Needs.{needs}
 use mathlib.Core.Path.{_≡_, refl, _∙_}
 use Prim.Native.Nat.{_-_, _≤_, _<_}
 use native.Mathlib.Omega.{arith}
 use lib.ListN.{length, length-set}
-use Rattle.largest_phase.specs.Inner.{Pairs}
-use Rattle.largest_phase.proofs.Pairs.{pairs-more}
-use Rattle.largest_phase.proofs.neighbours.Statement.{statement}
-use Rattle.largest_phase.proofs.neighbours.Tie as tie
+use Rattle.true_peak_scan.specs.Inner.{Pairs}
+use Rattle.true_peak_scan.proofs.Pairs.{pairs-more}
+use Rattle.true_peak_scan.proofs.neighbours.Statement.{statement}
+use Rattle.true_peak_scan.proofs.neighbours.Tie as tie
 
 abbrev Inv-loop : tie.InvT-loop
 Inv-loop loud larger₀ n k₀ larger k = (k ≤ length larger₀) × ((length larger ≡ length larger₀) × Pairs loud k larger)

@@ -1,10 +1,10 @@
--- `largest_phase::raised` meets its contract: what beats the peak is no NaN, and replaces it. Assumes nothing.
+-- `true_peak_scan::raised` meets its contract: what beats the peak is no NaN, and replaces it. Assumes nothing.
 use borrow.Author.Needs.{needs}
 use mathlib.Core.Path.{refl, sym, _∙_}
 use mathlib.Core.Bool.{true, false}
-use Rattle.largest_phase.proofs.Signs.{winner, raised-by}
-use Rattle.largest_phase.proofs.raised.Statement.{statement}
-use Rattle.largest_phase.proofs.raised.Tie as tie
+use Rattle.true_peak_scan.proofs.Signs.{winner, raised-by}
+use Rattle.true_peak_scan.proofs.raised.Statement.{statement}
+use Rattle.true_peak_scan.proofs.raised.Tie as tie
 
 magnitude-requires : tie.Need-magnitude-requires
 magnitude-requires c κs = let a = c .before .before .args in winner (a .peak) (a .x) (sym (c .before .beats .ensures) ∙ c .if1 .taken)

@@ -1,11 +1,11 @@
--- `largest_phase::rest` meets its contract: the places passed hold the peak. Assumes nothing.
+-- `true_peak_scan::rest` meets its contract: the places passed hold the peak. Assumes nothing.
 use borrow.Author.Needs.{needs}
 use Prim.Native.Nat.{_-_, _≤_}
 use native.Mathlib.Omega.{arith}
-use Rattle.largest_phase.specs.Line.{stretch}
-use Rattle.largest_phase.proofs.Quarters.{Filled, filled-start, filled-turn}
-use Rattle.largest_phase.proofs.rest.Statement.{statement}
-use Rattle.largest_phase.proofs.rest.Tie as tie
+use Rattle.true_peak_scan.specs.Line.{stretch}
+use Rattle.true_peak_scan.proofs.Quarters.{Filled, filled-start, filled-turn}
+use Rattle.true_peak_scan.proofs.rest.Statement.{statement}
+use Rattle.true_peak_scan.proofs.rest.Tie as tie
 
 abbrev Inv-loop : tie.InvT-loop
 Inv-loop loud₀ n peak k₀ loud k = (n ≤ k) × Filled loud₀ loud n k peak

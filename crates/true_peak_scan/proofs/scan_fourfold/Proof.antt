@@ -1,16 +1,16 @@
--- `largest_phase::scan_fourfold` meets its contract: the frames each raise the peak by themselves, and the largest of them is what scanning in order gives. Assumes nothing.
+-- `true_peak_scan::scan_fourfold` meets its contract: the frames each raise the peak by themselves, and the largest of them is what scanning in order gives. Assumes nothing.
 use mathlib.Core.Path.{_≡_, refl, _∙_}
 use Prim.Native.Nat.{ℕ, _<_}
 use borrow.Author.Needs.{needs}
 use lib.ListN.{getD}
 use lib.Ieee.{nan}
-use Rattle.interp.specs.Interp.{fourfold}
-use Rattle.interp.specs.Phase.{phasesBy}
-use Rattle.floats.specs.Largest.{largest}
-use Rattle.largest_phase.specs.Line.{stretch, back}
-use Rattle.largest_phase.proofs.Quarters.{scanned-some, all-raised}
-use Rattle.largest_phase.proofs.scan_fourfold.Statement.{statement}
-use Rattle.largest_phase.proofs.scan_fourfold.Tie as tie
+use Rattle.true_peak_interp.specs.Interp.{fourfold}
+use Rattle.true_peak_interp.specs.Phase.{phasesBy}
+use Rattle.base_floats.specs.Largest.{largest}
+use Rattle.true_peak_scan.specs.Line.{stretch, back}
+use Rattle.true_peak_scan.proofs.Quarters.{scanned-some, all-raised}
+use Rattle.true_peak_scan.proofs.scan_fourfold.Statement.{statement}
+use Rattle.true_peak_scan.proofs.scan_fourfold.Tie as tie
 
 frames-fourfold-requires : tie.Need-frames-fourfold-requires
 frames-fourfold-requires c κs = (c .before .quarter .ensures .0, refl)

@@ -1,9 +1,9 @@
--- `largest_phase::store_four` meets its contract: what the frame's phases make of the peak is stored. Assumes nothing.
+-- `true_peak_scan::store_four` meets its contract: what the frame's phases make of the peak is stored. Assumes nothing.
 use borrow.Author.Needs.{needs}
 use mathlib.Core.Path.{ap}
 use lib.ListN.{set}
-use Rattle.largest_phase.proofs.store_four.Statement.{statement}
-use Rattle.largest_phase.proofs.store_four.Tie as tie
+use Rattle.true_peak_scan.proofs.store_four.Statement.{statement}
+use Rattle.true_peak_scan.proofs.store_four.Tie as tie
 
 returns : tie.Need-returns
 returns c = let a = c .before .args in ap (set (a .loud .now) (a .at)) (c .largest-four .ensures)

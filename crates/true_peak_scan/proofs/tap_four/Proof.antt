@@ -1,12 +1,12 @@
--- `largest_phase::tap_four` meets its contract: the four frames take the same taps, each its own sample. Assumes nothing.
+-- `true_peak_scan::tap_four` meets its contract: the four frames take the same taps, each its own sample. Assumes nothing.
 use borrow.Author.Needs.{needs}
 use mathlib.Core.Path.{ap, _∙_}
 use Prim.Native.Nat.{_+_}
 use lib.ListN.{getD}
 use lib.Ieee.{nan}
-use Rattle.largest_phase.specs.Inner.{onFour}
-use Rattle.largest_phase.proofs.tap_four.Statement.{statement}
-use Rattle.largest_phase.proofs.tap_four.Tie as tie
+use Rattle.true_peak_scan.specs.Inner.{onFour}
+use Rattle.true_peak_scan.proofs.tap_four.Statement.{statement}
+use Rattle.true_peak_scan.proofs.tap_four.Tie as tie
 
 returns : tie.Need-returns
 returns c =

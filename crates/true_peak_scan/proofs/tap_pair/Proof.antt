@@ -1,12 +1,12 @@
--- `largest_phase::tap_pair` meets its contract: the four frames take the same taps, each its own samples. Assumes nothing.
+-- `true_peak_scan::tap_pair` meets its contract: the four frames take the same taps, each its own samples. Assumes nothing.
 use borrow.Author.Needs.{needs}
 use mathlib.Core.Path.{ap, _∙_}
 use Prim.Native.Nat.{_+_}
 use lib.ListN.{getD}
 use lib.Ieee.{nan}
-use Rattle.largest_phase.specs.Inner.{onPair}
-use Rattle.largest_phase.proofs.tap_pair.Statement.{statement}
-use Rattle.largest_phase.proofs.tap_pair.Tie as tie
+use Rattle.true_peak_scan.specs.Inner.{onPair}
+use Rattle.true_peak_scan.proofs.tap_pair.Statement.{statement}
+use Rattle.true_peak_scan.proofs.tap_pair.Tie as tie
 
 returns : tie.Need-returns
 returns c =

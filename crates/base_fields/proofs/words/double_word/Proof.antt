@@ -2,11 +2,11 @@
 use mathlib.Core.Path.{sym, ap, _∙_}
 use borrow.Author.Needs.{needs}
 use denote.Ref.{now}
-use Rattle.fields.specs.declared.Order.{Order}
-use Rattle.fields.specs.Field.{widest, numberIn}
-use Rattle.fields.proofs.Orders.{low-first}
-use Rattle.words.proofs.double_word.Statement.{statement}
-use Rattle.words.proofs.double_word.Tie as tie
+use Rattle.base_fields.specs.declared.Order.{Order}
+use Rattle.base_fields.specs.Field.{widest, numberIn}
+use Rattle.base_fields.proofs.Orders.{low-first}
+use Rattle.base_fields.proofs.words.double_word.Statement.{statement}
+use Rattle.base_fields.proofs.words.double_word.Tie as tie
 
 returns : tie.Need-returns
 returns c =

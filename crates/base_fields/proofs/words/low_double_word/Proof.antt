@@ -2,9 +2,9 @@
 use native.Mathlib.Omega.{arith}
 use borrow.Author.Needs.{needs}
 use denote.Ref.{now}
-use Rattle.fields.proofs.Fields.{two-fields}
-use Rattle.words.proofs.low_double_word.Statement.{statement}
-use Rattle.words.proofs.low_double_word.Tie as tie
+use Rattle.base_fields.proofs.Fields.{two-fields}
+use Rattle.base_fields.proofs.words.low_double_word.Statement.{statement}
+use Rattle.base_fields.proofs.words.low_double_word.Tie as tie
 
 returns-2 : tie.Need-returns-2
 returns-2 c =

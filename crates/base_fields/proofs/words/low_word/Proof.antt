@@ -2,9 +2,9 @@
 use native.Mathlib.Omega.{arith}
 use borrow.Author.Needs.{needs}
 use denote.Ref.{now}
-use Rattle.fields.proofs.Fields.{small}
-use Rattle.words.proofs.low_word.Statement.{statement}
-use Rattle.words.proofs.low_word.Tie as tie
+use Rattle.base_fields.proofs.Fields.{small}
+use Rattle.base_fields.proofs.words.low_word.Statement.{statement}
+use Rattle.base_fields.proofs.words.low_word.Tie as tie
 
 cast-result : tie.Need-cast-result
 cast-result c =

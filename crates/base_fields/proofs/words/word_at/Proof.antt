@@ -3,9 +3,9 @@ use Prim.Native.Nat.{_+_}
 use native.Mathlib.Omega.{arith}
 use borrow.Author.Needs.{needs}
 use denote.Ref.{now}
-use Rattle.fields.proofs.Fields.{four-bytes}
-use Rattle.words.proofs.word_at.Statement.{statement}
-use Rattle.words.proofs.word_at.Tie as tie
+use Rattle.base_fields.proofs.Fields.{four-bytes}
+use Rattle.base_fields.proofs.words.word_at.Statement.{statement}
+use Rattle.base_fields.proofs.words.word_at.Tie as tie
 
 cast-low : tie.Need-cast-low
 cast-low c = omega (arith, c .shared-slice-known .given (c .before .args .at))

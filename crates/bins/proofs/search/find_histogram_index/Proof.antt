@@ -1,4 +1,4 @@
--- `bin_search::find_histogram_index` meets its contract. The loop's invariant is the bracket of two bins or more, and its measure the bracket's width.
+-- `search::find_histogram_index` meets its contract. The loop's invariant is the bracket of two bins or more, and its measure the bracket's width.
 -- Assumes nothing.
 use mathlib.Core.Logic.{⊎-elim}
 use Prim.Native.Nat.{_+_, _-_, _/_, _≤_, _<_}
@@ -7,10 +7,10 @@ use native.Mathlib.Omega.{arith}
 use borrow.Author.Needs.{needs}
 use lib.ListN.{getD}
 use lib.Ieee.{nan}
-use Rattle.tables.proofs.Taken.{boundary-entry}
-use Rattle.bin_search.proofs.Halving.{Bracket, start, turn-up, turn-down, done}
-use Rattle.bin_search.proofs.find_histogram_index.Statement.{statement}
-use Rattle.bin_search.proofs.find_histogram_index.Tie as tie
+use Rattle.bins_tables.proofs.Taken.{boundary-entry}
+use Rattle.bins.proofs.Halving.{Bracket, start, turn-up, turn-down, done}
+use Rattle.bins.proofs.search.find_histogram_index.Statement.{statement}
+use Rattle.bins.proofs.search.find_histogram_index.Tie as tie
 
 abbrev Inv-loop : tie.InvT-loop
 Inv-loop energy boundaries min₀ max₀ min max = (min + 2 ≤ max) × Bracket energy min max

@@ -1,4 +1,4 @@
--- `bin_search::reading` meets its contract: each refusing test puts the energy off the scale, and past all three it is on it.
+-- `search::reading` meets its contract: each refusing test puts the energy off the scale, and past all three it is on it.
 -- Assumes nothing.
 use mathlib.Core.Path.{_≡_, sym, ap, _∙_}
 use Prim.Native.Nat.{_<_}
@@ -10,11 +10,11 @@ use lib.IntN.{negsuc, pos, _+ℤ_}
 use mir.Syntax.{w32}
 use mir.Val.{toZ}
 use mir.ValLaws.{toZ-ofZ, toZ-pos}
-use Rattle.floats.proofs.Nan.{differs}
-use Rattle.histogram_bins.proofs.Bins.{bin-below}
-use Rattle.bin_search.proofs.Readings.{off-scale, on-scale, nan-off, low-off, high-off, none-off, tenths-fit}
-use Rattle.bin_search.proofs.reading.Statement.{statement}
-use Rattle.bin_search.proofs.reading.Tie as tie
+use Rattle.base_floats.proofs.Nan.{differs}
+use Rattle.bins.proofs.Bins.{bin-below}
+use Rattle.bins.proofs.Readings.{off-scale, on-scale, nan-off, low-off, high-off, none-off, tenths-fit}
+use Rattle.bins.proofs.search.reading.Statement.{statement}
+use Rattle.bins.proofs.search.reading.Tie as tie
 
 returns : tie.Need-returns
 returns c = let e = c .before .args .energy in rw (off-scale e (nan-off e (sym (differs e) ∙ c .if1 .taken)))

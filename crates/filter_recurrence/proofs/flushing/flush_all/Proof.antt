@@ -1,8 +1,8 @@
 -- `flushing::flush_all` meets its contract: each of the five values is flushed. Assumes nothing.
 use borrow.Author.Needs.{needs}
-use Rattle.recurrence.specs.Recurrence.{flushed}
-use Rattle.flushing.proofs.flush_all.Statement.{statement}
-use Rattle.flushing.proofs.flush_all.Tie as tie
+use Rattle.filter_recurrence.specs.Recurrence.{flushed}
+use Rattle.filter_recurrence.proofs.flushing.flush_all.Statement.{statement}
+use Rattle.filter_recurrence.proofs.flushing.flush_all.Tie as tie
 
 returns : tie.Need-returns
 unfolding flushed

@@ -2,10 +2,10 @@
 use borrow.Author.Needs.{needs}
 use borrow.Author.Tests.{eq-eqb, ne-eqb}
 use mathlib.Core.Path.{refl, ap, _∙_}
-use Rattle.recurrence.specs.Recurrence.{flushed}
-use Rattle.states.specs.Channels.{withMemory}
-use Rattle.flushing.proofs.flush_channel.Statement.{statement}
-use Rattle.flushing.proofs.flush_channel.Tie as tie
+use Rattle.filter_recurrence.specs.Recurrence.{flushed}
+use Rattle.filter_recurrence.specs.Channels.{withMemory}
+use Rattle.filter_recurrence.proofs.flushing.flush_channel.Statement.{statement}
+use Rattle.filter_recurrence.proofs.flushing.flush_channel.Tie as tie
 
 returns : tie.Need-returns
 returns c = simp (eq-eqb _ _ (c .if1 .taken)) refl

@@ -2,10 +2,10 @@
 use native.Mathlib.Omega.{arith}
 use lib.IntN.{negsuc}
 use lib.Ieee.{neg, ofBits}
-use Rattle.floats.specs.Entry.{plusZero}
-use Rattle.floats.proofs.Magnitude.{between}
-use Rattle.flushing.proofs.flush_one.Statement.{statement}
-use Rattle.flushing.proofs.flush_one.Tie as tie
+use Rattle.base_floats.specs.Entry.{plusZero}
+use Rattle.base_floats.proofs.Magnitude.{between}
+use Rattle.filter_recurrence.proofs.flushing.flush_one.Statement.{statement}
+use Rattle.filter_recurrence.proofs.flushing.flush_one.Tie as tie
 
 returns : tie.Need-returns
 unfolding neg ofBits

@@ -6,11 +6,11 @@ use mathlib.Core.Path.{_≡_, sym, _∙_}
 use mathlib.Core.List.{List}
 use lib.ListN.{length, drop}
 use lib.Ieee.{Float}
-use Rattle.recurrence.specs.Recurrence.{flushed}
-use Rattle.states.specs.Channels.{memoryOf, withMemory, eachUsed}
-use Rattle.states.proofs.Each.{each-again, each-end}
-use Rattle.flushing.proofs.flush_used.Statement.{statement}
-use Rattle.flushing.proofs.flush_used.Tie as tie
+use Rattle.filter_recurrence.specs.Recurrence.{flushed}
+use Rattle.filter_recurrence.specs.Channels.{memoryOf, withMemory, eachUsed}
+use Rattle.filter_recurrence.proofs.Each.{each-again, each-end}
+use Rattle.filter_recurrence.proofs.flushing.flush_used.Statement.{statement}
+use Rattle.filter_recurrence.proofs.flushing.flush_used.Tie as tie
 
 -- channel k's memory flushed in the state
 abbrev flushes : ℕ → List Float → List Float

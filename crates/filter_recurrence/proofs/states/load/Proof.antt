@@ -2,9 +2,9 @@
 use borrow.Author.Needs.{needs}
 use native.Mathlib.Omega.{arith}
 use mathlib.Core.Path.{refl, sym, _∙_}
-use Rattle.states.proofs.Memories.{memory-nowhere}
-use Rattle.states.proofs.load.Statement.{statement}
-use Rattle.states.proofs.load.Tie as tie
+use Rattle.filter_recurrence.proofs.Memories.{memory-nowhere}
+use Rattle.filter_recurrence.proofs.states.load.Statement.{statement}
+use Rattle.filter_recurrence.proofs.states.load.Tie as tie
 
 returns : tie.Need-returns
 returns c =

@@ -1,8 +1,8 @@
--- `recurrence::nowhere` meets its contract: 0 / 0 is NaN. Assumes nothing.
+-- `filter_recurrence::nowhere` meets its contract: 0 / 0 is NaN. Assumes nothing.
 use mathlib.Core.Path.{refl}
 use lib.Ieee.{ofBits, div}
-use Rattle.states.proofs.nowhere.Statement.{statement}
-use Rattle.states.proofs.nowhere.Tie as tie
+use Rattle.filter_recurrence.proofs.states.nowhere.Statement.{statement}
+use Rattle.filter_recurrence.proofs.states.nowhere.Tie as tie
 
 returns : tie.Need-returns
 unfolding ofBits div

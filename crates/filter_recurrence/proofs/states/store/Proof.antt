@@ -3,11 +3,11 @@ use borrow.Author.Needs.{needs}
 use Prim.Native.Nat.{_*_}
 use native.Mathlib.Omega.{arith}
 use mathlib.Core.Path.{sym}
-use Rattle.sources.proofs.Stores.{five-stores}
-use Rattle.states.specs.Channels.{withMemory}
-use Rattle.states.proofs.Memories.{with-nowhere}
-use Rattle.states.proofs.store.Statement.{statement}
-use Rattle.states.proofs.store.Tie as tie
+use Rattle.samples.proofs.Stores.{five-stores}
+use Rattle.filter_recurrence.specs.Channels.{withMemory}
+use Rattle.filter_recurrence.proofs.Memories.{with-nowhere}
+use Rattle.filter_recurrence.proofs.states.store.Statement.{statement}
+use Rattle.filter_recurrence.proofs.states.store.Tie as tie
 
 returns : tie.Need-returns
 returns c =

@@ -6,10 +6,10 @@ use lib.Dec.{lit≤}
 use lib.ListN.{length, getD}
 use lib.Ieee.{nan}
 use Rattle.samples.specs.Frames.{column}
-use Rattle.floats.specs.Entry.{plusZero}
-use Rattle.floats.specs.Largest.{largest}
-use Rattle.sample_peak.proofs.stretch.lanes_of.Statement.{statement}
-use Rattle.sample_peak.proofs.stretch.lanes_of.Tie as tie
+use Rattle.base_floats.specs.Entry.{plusZero}
+use Rattle.base_floats.specs.Largest.{largest}
+use Rattle.filter_sample_peak.proofs.stretch.lanes_of.Statement.{statement}
+use Rattle.filter_sample_peak.proofs.stretch.lanes_of.Tie as tie
 
 raise-turns-requires : tie.Need-raise-turns-requires
 raise-turns-requires c κs =

@@ -5,13 +5,13 @@ use mathlib.Core.Path.{_≡_, refl, sym, subst, _∙_}
 use lib.Ieee.{nan}
 use lib.ListN.{length, getD}
 use Rattle.samples.specs.Frames.{column}
-use Rattle.floats.specs.Largest.{largest}
-use Rattle.sources.specs.Blocks.{Reach}
-use Rattle.sources.proofs.Reaching.{reach-here, reach-next, reach-rest}
-use Rattle.floats.proofs.Magnitude.{High, raised-high}
-use Rattle.sample_peak.proofs.Loudest.{turn-largest, none-largest}
-use Rattle.sample_peak.proofs.stretch.largest_on.Statement.{statement}
-use Rattle.sample_peak.proofs.stretch.largest_on.Tie as tie
+use Rattle.base_floats.specs.Largest.{largest}
+use Rattle.samples.specs.Blocks.{Reach}
+use Rattle.samples.proofs.Reaching.{reach-here, reach-next, reach-rest}
+use Rattle.base_floats.proofs.Magnitude.{High, raised-high}
+use Rattle.filter_sample_peak.proofs.Loudest.{turn-largest, none-largest}
+use Rattle.filter_sample_peak.proofs.stretch.largest_on.Statement.{statement}
+use Rattle.filter_sample_peak.proofs.stretch.largest_on.Tie as tie
 
 abbrev Inv-loop : tie.InvT-loop
 Inv-loop top stretch first step count high₀ left₀ i₀ high left i =

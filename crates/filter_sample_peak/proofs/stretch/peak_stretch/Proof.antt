@@ -9,15 +9,15 @@ use lib.ListN.{length, getD, set}
 use lib.Seq.{getD-set-other}
 use lib.Ieee.{Float, nan, lt}
 use Rattle.samples.specs.Frames.{column}
-use Rattle.floats.specs.Entry.{plusZero}
-use Rattle.sample_peak.specs.Peak.{overChannels}
-use Rattle.sources.proofs.Reaching.{reach-start}
-use Rattle.floats.proofs.Magnitude.{High, largest-high}
-use Rattle.sample_peak.proofs.Loudest.{peaks, channels-again, channels-end}
-use Rattle.sample_peak.proofs.Rest.{reach-after, after-first}
-use Rattle.sample_peak.proofs.Lanes.{some-each, within-lanes, turns-fit, lanes-give}
-use Rattle.sample_peak.proofs.stretch.peak_stretch.Statement.{statement}
-use Rattle.sample_peak.proofs.stretch.peak_stretch.Tie as tie
+use Rattle.base_floats.specs.Entry.{plusZero}
+use Rattle.filter_sample_peak.specs.Peak.{overChannels}
+use Rattle.samples.proofs.Reaching.{reach-start}
+use Rattle.base_floats.proofs.Magnitude.{High, largest-high}
+use Rattle.filter_sample_peak.proofs.Loudest.{peaks, channels-again, channels-end}
+use Rattle.filter_sample_peak.proofs.Rest.{reach-after, after-first}
+use Rattle.filter_sample_peak.proofs.Lanes.{some-each, within-lanes, turns-fit, lanes-give}
+use Rattle.filter_sample_peak.proofs.stretch.peak_stretch.Statement.{statement}
+use Rattle.filter_sample_peak.proofs.stretch.peak_stretch.Tie as tie
 
 abbrev Inv-loop : tie.InvT-loop
 Inv-loop channels count stretch each turns done values w₀ k₀ w k =

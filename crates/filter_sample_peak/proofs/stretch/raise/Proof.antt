@@ -2,10 +2,10 @@
 use borrow.Author.Needs.{needs}
 use mathlib.Core.Path.{ap, _∙_}
 use lib.Ieee.{neg}
-use Rattle.floats.specs.Largest.{greater}
-use Rattle.floats.proofs.Magnitude.{both-ways}
-use Rattle.sample_peak.proofs.stretch.raise.Statement.{statement}
-use Rattle.sample_peak.proofs.stretch.raise.Tie as tie
+use Rattle.base_floats.specs.Largest.{greater}
+use Rattle.base_floats.proofs.Magnitude.{both-ways}
+use Rattle.filter_sample_peak.proofs.stretch.raise.Statement.{statement}
+use Rattle.filter_sample_peak.proofs.stretch.raise.Tie as tie
 
 returns : tie.Need-returns
 returns c =

@@ -6,12 +6,12 @@ use mathlib.Core.Path.{_≡_, refl, sym, ap, _∙_}
 use lib.ListN.{getD, set}
 use lib.Seq.{getD-set-other}
 use lib.Ieee.{Float, nan, lt}
-use Rattle.floats.specs.Entry.{plusZero}
-use Rattle.sample_peak.specs.Peak.{overChannels}
-use Rattle.sample_peak.proofs.Loudest.{channels-again, channels-end}
-use Rattle.sample_peak.proofs.Lanes.{turn}
-use Rattle.sample_peak.proofs.stretch.raise_turn.Statement.{statement}
-use Rattle.sample_peak.proofs.stretch.raise_turn.Tie as tie
+use Rattle.base_floats.specs.Entry.{plusZero}
+use Rattle.filter_sample_peak.specs.Peak.{overChannels}
+use Rattle.filter_sample_peak.proofs.Loudest.{channels-again, channels-end}
+use Rattle.filter_sample_peak.proofs.Lanes.{turn}
+use Rattle.filter_sample_peak.proofs.stretch.raise_turn.Statement.{statement}
+use Rattle.filter_sample_peak.proofs.stretch.raise_turn.Tie as tie
 
 abbrev Inv-loop : tie.InvT-loop
 Inv-loop lanes stretch at w₀ j₀ w j =

@@ -9,13 +9,13 @@ use mathlib.Core.List.{List}
 use lib.ListN.{length, getD}
 use lib.Ieee.{Float, nan, lt, ofBits}
 use Rattle.samples.specs.Frames.{column}
-use Rattle.floats.specs.Entry.{plusZero}
-use Rattle.floats.specs.Largest.{largest}
-use Rattle.floats.proofs.Magnitude.{largest-high, zero-high}
-use Rattle.sample_peak.proofs.Loudest.{channels-length, channels-first, start-tops}
-use Rattle.sample_peak.proofs.Lanes.{turn, next-turn}
-use Rattle.sample_peak.proofs.stretch.raise_turns.Statement.{statement}
-use Rattle.sample_peak.proofs.stretch.raise_turns.Tie as tie
+use Rattle.base_floats.specs.Entry.{plusZero}
+use Rattle.base_floats.specs.Largest.{largest}
+use Rattle.base_floats.proofs.Magnitude.{largest-high, zero-high}
+use Rattle.filter_sample_peak.proofs.Loudest.{channels-length, channels-first, start-tops}
+use Rattle.filter_sample_peak.proofs.Lanes.{turn, next-turn}
+use Rattle.filter_sample_peak.proofs.stretch.raise_turns.Statement.{statement}
+use Rattle.filter_sample_peak.proofs.stretch.raise_turns.Tie as tie
 
 abbrev Inv-loop : tie.InvT-loop
 Inv-loop lanes stretch turns w₀ done₀ at₀ w done at =

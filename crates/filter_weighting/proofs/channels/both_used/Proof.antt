@@ -1,12 +1,12 @@
--- `weighting::both_used` meets its contract. Assumes nothing.
+-- `filter_weighting::both_used` meets its contract. Assumes nothing.
 use borrow.Author.Needs.{needs}
 use borrow.Author.Tests.{ne-eqb}
 use native.Mathlib.Omega.{arith}
 use mathlib.Core.Path.{sym, ap}
 use mathlib.Core.Bool.{not, true≢false}
 use lib.ListN.{getD}
-use Rattle.weighting.proofs.channels.both_used.Statement.{statement}
-use Rattle.weighting.proofs.channels.both_used.Tie as tie
+use Rattle.filter_weighting.proofs.channels.both_used.Statement.{statement}
+use Rattle.filter_weighting.proofs.channels.both_used.Tie as tie
 
 returns : tie.Need-returns
 returns c = λ e. absurd (true≢false (sym e))

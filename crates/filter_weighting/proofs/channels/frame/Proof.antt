@@ -1,10 +1,10 @@
--- `weighting::frame` meets its contract: the definitions of one frame. Assumes nothing.
+-- `filter_weighting::frame` meets its contract: the definitions of one frame. Assumes nothing.
 use borrow.Author.Needs.{needs}
 use mathlib.Core.Path.{_≡_, ap, _∙_}
 use lib.ListN.{set}
-use Rattle.recurrence.specs.Recurrence.{head, output, shift, next, out}
-use Rattle.weighting.proofs.channels.frame.Statement.{statement}
-use Rattle.weighting.proofs.channels.frame.Tie as tie
+use Rattle.filter_recurrence.specs.Recurrence.{head, output, shift, next, out}
+use Rattle.filter_weighting.proofs.channels.frame.Statement.{statement}
+use Rattle.filter_weighting.proofs.channels.frame.Tie as tie
 
 returns : tie.Need-returns
 unfolding next out

@@ -1,15 +1,15 @@
--- `weighting::frame_two` meets its contract: each channel by the definitions of one frame. Assumes nothing.
+-- `filter_weighting::frame_two` meets its contract: each channel by the definitions of one frame. Assumes nothing.
 use borrow.Author.Needs.{needs}
 use Prim.Native.Nat.{_+_, _^_}
 use native.Mathlib.Omega.{arith}
 use mathlib.Core.Path.{_≡_, ap, _∙_}
 use lib.Ieee.{nan}
 use lib.ListN.{set, getD}
-use Rattle.sources.specs.Source.{sourceOf}
-use Rattle.sources.proofs.ByKind.{source-below}
-use Rattle.recurrence.specs.Recurrence.{head, output, shift, next, out}
-use Rattle.weighting.proofs.channels.frame_two.Statement.{statement}
-use Rattle.weighting.proofs.channels.frame_two.Tie as tie
+use Rattle.samples.specs.Source.{sourceOf}
+use Rattle.samples.proofs.Chosen.{source-below}
+use Rattle.filter_recurrence.specs.Recurrence.{head, output, shift, next, out}
+use Rattle.filter_weighting.proofs.channels.frame_two.Statement.{statement}
+use Rattle.filter_weighting.proofs.channels.frame_two.Tie as tie
 
 sample-at-requires : tie.Need-sample-at-requires
 sample-at-requires c κs = omega (arith, c .before .before .before .before .before .before .pre .0)

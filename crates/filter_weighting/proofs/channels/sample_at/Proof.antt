@@ -1,4 +1,4 @@
--- `weighting::sample_at` meets its contract: the entry of the samples' kind, as a float. Assumes nothing.
+-- `filter_weighting::sample_at` meets its contract: the entry of the samples' kind, as a float. Assumes nothing.
 use borrow.Author.Needs.{needs}
 use Prim.Native.Nat.{_<_}
 use native.Mathlib.Omega.{arith}
@@ -9,9 +9,9 @@ use lib.Ieee.{nan}
 use mir.Syntax.{w16}
 use mir.ValLaws.{toZ-ofZ}
 use Rattle.samples.specs.Sample.{sampleOf16, sampleOfF32}
-use Rattle.sources.proofs.ByKind.{source-floats, source-ints, among, entry-is}
-use Rattle.weighting.proofs.channels.sample_at.Statement.{statement}
-use Rattle.weighting.proofs.channels.sample_at.Tie as tie
+use Rattle.samples.proofs.Chosen.{source-floats, source-ints, among, entry-is}
+use Rattle.filter_weighting.proofs.channels.sample_at.Statement.{statement}
+use Rattle.filter_weighting.proofs.channels.sample_at.Tie as tie
 
 of-floats : (c : tie.Then1) → let a = c .before .before .args in a .i < length (a .floats .now)
 of-floats c =

@@ -1,4 +1,4 @@
--- `weighting::weigh` meets its contract: the frames left give what all of them give; two frames a turn, and one more where their number is odd. Assumes nothing.
+-- `filter_weighting::weigh` meets its contract: the frames left give what all of them give; two frames a turn, and one more where their number is odd. Assumes nothing.
 use borrow.Author.Needs.{needs}
 use Prim.Native.Nat.{_+_, _-_, _^_, _≤_, _<_}
 use native.Mathlib.Omega.{arith}
@@ -6,14 +6,13 @@ use mathlib.Core.Path.{_≡_, refl, ap, _∙_}
 use lib.ListN.{length, set}
 use lib.Ieee.{Float}
 use lib.Seq.{sets}
-use Rattle.samples.specs.Frames.{column}
-use Rattle.calls.specs.Calls.{mostChannels}
-use Rattle.sources.specs.Source.{sourceOf}
-use Rattle.sources.proofs.ByKind.{source-below}
-use Rattle.recurrence.specs.Recurrence.{next, out, after, outs}
-use Rattle.weighting.proofs.Single.{Single, turn, here, following, twice, end}
-use Rattle.weighting.proofs.channels.weigh.Statement.{statement}
-use Rattle.weighting.proofs.channels.weigh.Tie as tie
+use Rattle.samples.specs.Frames.{column, mostChannels}
+use Rattle.samples.specs.Source.{sourceOf}
+use Rattle.samples.proofs.Chosen.{source-below}
+use Rattle.filter_recurrence.specs.Recurrence.{next, out, after, outs}
+use Rattle.filter_weighting.proofs.Single.{Single, turn, here, following, twice, end}
+use Rattle.filter_weighting.proofs.channels.weigh.Statement.{statement}
+use Rattle.filter_weighting.proofs.channels.weigh.Tie as tie
 
 abbrev Inv-loop : tie.InvT-loop
 Inv-loop ints floats k dest₀ c step w₀ left₀ i₀ j₀ dest w left i j =

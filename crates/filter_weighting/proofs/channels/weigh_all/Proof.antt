@@ -1,20 +1,20 @@
--- `weighting::weigh_all` meets its contract: the channels left, from the state and the destination as they are, give what all of them give, and the flush comes last. Assumes nothing.
+-- `filter_weighting::weigh_all` meets its contract: the channels left, from the state and the destination as they are, give what all of them give, and the flush comes last. Assumes nothing.
 use borrow.Author.Needs.{needs}
 use Prim.Native.Nat.{ℕ, _-_, _≤_}
 use native.Mathlib.Omega.{arith}
 use mathlib.Core.Path.{_≡_, refl, sym, ap, _∙_}
 use lib.ListN.{length, drop}
-use Rattle.sources.specs.Source.{sourceOf}
-use Rattle.recurrence.specs.Recurrence.{flushed}
-use Rattle.states.specs.Channels.{statePlaces, eachUsed, overUsed}
-use Rattle.states.proofs.Each.{each-end}
-use Rattle.states.proofs.Memories.{over-twice}
-use Rattle.weighting.specs.declared.channels.Work.{Work}
-use Rattle.weighting.specs.Weighting.{Kept}
-use Rattle.weighting.specs.Inner.{Parts, memoryIn, keptOf, weighOne}
-use Rattle.weighting.proofs.Separate.{by-themselves}
-use Rattle.weighting.proofs.channels.weigh_all.Statement.{statement}
-use Rattle.weighting.proofs.channels.weigh_all.Tie as tie
+use Rattle.samples.specs.Source.{sourceOf}
+use Rattle.filter_recurrence.specs.Recurrence.{flushed}
+use Rattle.filter_recurrence.specs.Channels.{statePlaces, eachUsed, overUsed}
+use Rattle.filter_recurrence.proofs.Each.{each-end}
+use Rattle.filter_recurrence.proofs.Memories.{over-twice}
+use Rattle.filter_weighting.specs.declared.channels.Work.{Work}
+use Rattle.filter_weighting.specs.Weighting.{Kept}
+use Rattle.filter_weighting.specs.Inner.{Parts, memoryIn, keptOf, weighOne}
+use Rattle.filter_weighting.proofs.Separate.{by-themselves}
+use Rattle.filter_weighting.proofs.channels.weigh_all.Statement.{statement}
+use Rattle.filter_weighting.proofs.channels.weigh_all.Tie as tie
 
 abbrev Inv-loop : tie.InvT-loop
 Inv-loop work state₀ ints floats map dest₀ channels k₀ state dest k =

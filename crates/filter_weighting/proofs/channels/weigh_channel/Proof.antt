@@ -1,14 +1,14 @@
--- `weighting::weigh_channel` meets its contract: a byte of 0 leaves all as it is, and any other puts the channel's memory through `weigh`. Assumes nothing.
+-- `filter_weighting::weigh_channel` meets its contract: a byte of 0 leaves all as it is, and any other puts the channel's memory through `weigh`. Assumes nothing.
 use borrow.Author.Needs.{needs}
 use borrow.Author.Tests.{eq-eqb, ne-eqb}
 use mathlib.Core.Path.{refl, ap, _∙_}
 use lib.Seq.{sets}
-use Rattle.recurrence.specs.declared.Memory.{Memory}
-use Rattle.states.specs.Channels.{withMemory}
-use Rattle.sources.specs.Source.{sourceOf}
-use Rattle.weighting.specs.Inner.{memoryIn, outsIn, placeOf, keptOf}
-use Rattle.weighting.proofs.channels.weigh_channel.Statement.{statement}
-use Rattle.weighting.proofs.channels.weigh_channel.Tie as tie
+use Rattle.filter_recurrence.specs.declared.Memory.{Memory}
+use Rattle.filter_recurrence.specs.Channels.{withMemory}
+use Rattle.samples.specs.Source.{sourceOf}
+use Rattle.filter_weighting.specs.Inner.{memoryIn, outsIn, placeOf, keptOf}
+use Rattle.filter_weighting.proofs.channels.weigh_channel.Statement.{statement}
+use Rattle.filter_weighting.proofs.channels.weigh_channel.Tie as tie
 
 returns : tie.Need-returns
 returns c = simp (eq-eqb _ _ (c .if1 .taken)) refl

@@ -1,4 +1,4 @@
--- `weighting::weigh_next` meets its contract: two used channels more, or one channel more. Assumes nothing.
+-- `filter_weighting::weigh_next` meets its contract: two used channels more, or one channel more. Assumes nothing.
 use borrow.Author.Needs.{needs}
 use Prim.Native.Nat.{ℕ, _+_, _≤_, _<_}
 use native.Mathlib.Nat.{suc-mul}
@@ -6,14 +6,14 @@ use native.Mathlib.Omega.{arith}
 use mathlib.Core.Path.{_≡_}
 use mathlib.Core.Bool.{true}
 use lib.ListN.{length, getD}
-use Rattle.calls.specs.Calls.{used}
-use Rattle.states.proofs.Each.{each-again, each-two}
-use Rattle.sources.proofs.Reaching.{reach-start}
-use Rattle.sources.specs.Source.{sourceOf}
-use Rattle.weighting.specs.Inner.{placeOf, keptOf, weighOne}
-use Rattle.weighting.proofs.Destinations.{part-ends}
-use Rattle.weighting.proofs.channels.weigh_next.Statement.{statement}
-use Rattle.weighting.proofs.channels.weigh_next.Tie as tie
+use Rattle.filter_checks.specs.Calls.{used}
+use Rattle.filter_recurrence.proofs.Each.{each-again, each-two}
+use Rattle.samples.proofs.Reaching.{reach-start}
+use Rattle.samples.specs.Source.{sourceOf}
+use Rattle.filter_weighting.specs.Inner.{placeOf, keptOf, weighOne}
+use Rattle.filter_weighting.proofs.Destinations.{part-ends}
+use Rattle.filter_weighting.proofs.channels.weigh_next.Statement.{statement}
+use Rattle.filter_weighting.proofs.channels.weigh_next.Tie as tie
 
 -- the places of channel k, and of the one after it
 inside : (c : tie.Start) (j : ℕ) → j < c .args .work .channels → placeOf (c .args .work) j + c .args .work .frames ≤ length (c .args .dest .now)

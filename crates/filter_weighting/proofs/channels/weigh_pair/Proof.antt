@@ -1,15 +1,15 @@
--- `weighting::weigh_pair` meets its contract: both memories taken out, put through `weigh_two` and put back. Assumes nothing.
+-- `filter_weighting::weigh_pair` meets its contract: both memories taken out, put through `weigh_two` and put back. Assumes nothing.
 use borrow.Author.Needs.{needs}
 use Prim.Native.Nat.{_+_}
 use native.Mathlib.Omega.{arith}
 use mathlib.Core.Path.{_≡_, ap, _∙_}
 use lib.Seq.{sets}
-use Rattle.states.specs.Channels.{memoryOf, withMemory}
-use Rattle.sources.specs.Source.{sourceOf}
-use Rattle.weighting.specs.Inner.{memoryIn, outsIn, placeOf, keptOf}
-use Rattle.weighting.proofs.Pairs.{pair-is}
-use Rattle.weighting.proofs.channels.weigh_pair.Statement.{statement}
-use Rattle.weighting.proofs.channels.weigh_pair.Tie as tie
+use Rattle.filter_recurrence.specs.Channels.{memoryOf, withMemory}
+use Rattle.samples.specs.Source.{sourceOf}
+use Rattle.filter_weighting.specs.Inner.{memoryIn, outsIn, placeOf, keptOf}
+use Rattle.filter_weighting.proofs.Pairs.{pair-is}
+use Rattle.filter_weighting.proofs.channels.weigh_pair.Statement.{statement}
+use Rattle.filter_weighting.proofs.channels.weigh_pair.Tie as tie
 
 add-store : tie.Need-add-store
 add-store c =

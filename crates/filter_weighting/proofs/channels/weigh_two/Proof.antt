@@ -1,19 +1,18 @@
--- `weighting::weigh_two` meets its contract: the frames left of both channels give what all of them give; two frames a turn, and one more where their number is odd. Assumes nothing.
+-- `filter_weighting::weigh_two` meets its contract: the frames left of both channels give what all of them give; two frames a turn, and one more where their number is odd. Assumes nothing.
 use borrow.Author.Needs.{needs}
 use Prim.Native.Nat.{_+_, _-_, _^_, _≤_, _<_}
 use native.Mathlib.Omega.{arith}
 use mathlib.Core.Path.{_≡_, refl, _∙_}
 use lib.ListN.{length}
 use lib.Seq.{sets}
-use Rattle.samples.specs.Frames.{column}
-use Rattle.calls.specs.Calls.{mostChannels}
-use Rattle.sources.specs.Source.{sourceOf}
-use Rattle.sources.proofs.ByKind.{source-below}
-use Rattle.recurrence.specs.Recurrence.{after, outs}
-use Rattle.weighting.specs.Inner.{placeOf}
-use Rattle.weighting.proofs.Pairs.{Both, both-start, both-here, both-next, both-turn, both-twice, both-end}
-use Rattle.weighting.proofs.channels.weigh_two.Statement.{statement}
-use Rattle.weighting.proofs.channels.weigh_two.Tie as tie
+use Rattle.samples.specs.Frames.{column, mostChannels}
+use Rattle.samples.specs.Source.{sourceOf}
+use Rattle.samples.proofs.Chosen.{source-below}
+use Rattle.filter_recurrence.specs.Recurrence.{after, outs}
+use Rattle.filter_weighting.specs.Inner.{placeOf}
+use Rattle.filter_weighting.proofs.Pairs.{Both, both-start, both-here, both-next, both-turn, both-twice, both-end}
+use Rattle.filter_weighting.proofs.channels.weigh_two.Statement.{statement}
+use Rattle.filter_weighting.proofs.channels.weigh_two.Tie as tie
 
 abbrev Inv-loop : tie.InvT-loop
 Inv-loop ints floats k dest₀ c step part w₀ left₀ i₀ j₀ dest w left i j =

@@ -6,19 +6,19 @@ use mathlib.Core.Path.{_≡_, sym, ap, _∙_}
 use mathlib.Core.List.{List}
 use lib.ListN.{length}
 use lib.Ieee.{Float}
-use Rattle.refusals.specs.Outcome.{Outcome, saidBy, keptBy, went, NoValues, done}
-use Rattle.refusals.specs.Rows.{Row, numberOf}
-use Rattle.refusals.proofs.Rows.{stopped, goes}
-use Rattle.calls.specs.Calls.{seedRows}
-use Rattle.calls.proofs.Checking.{Seeds, seeds}
-use Rattle.sources.specs.Source.{sourceOf}
-use Rattle.sources.proofs.Cutting.{all-frames}
-use Rattle.states.specs.declared.State.{State}
-use Rattle.states.specs.Channels.{Call, callOf, stateAfter}
-use Rattle.states.proofs.Runs.{state-is}
-use Rattle.seeding.specs.Seeding.{moved}
-use Rattle.seeding.proofs.seed.Statement.{statement}
-use Rattle.seeding.proofs.seed.Tie as tie
+use Rattle.base_refusals.specs.Outcome.{Outcome, saidBy, keptBy, went, NoValues, done}
+use Rattle.base_refusals.specs.Rows.{Row, numberOf}
+use Rattle.base_refusals.proofs.Rows.{stopped, goes}
+use Rattle.filter_checks.specs.Calls.{seedRows}
+use Rattle.filter_checks.proofs.Checking.{Seeds, seeds}
+use Rattle.samples.specs.Source.{sourceOf}
+use Rattle.samples.proofs.Cutting.{all-frames}
+use Rattle.filter_recurrence.specs.declared.states.State.{State}
+use Rattle.filter_recurrence.specs.Channels.{Call, callOf, stateAfter}
+use Rattle.filter_recurrence.proofs.Runs.{state-is}
+use Rattle.filter_weighting.specs.Seeding.{moved}
+use Rattle.filter_weighting.proofs.seeding.seed.Statement.{statement}
+use Rattle.filter_weighting.proofs.seeding.seed.Tie as tie
 
 -- the call of the definitions
 abbrev call : tie.Start → Call

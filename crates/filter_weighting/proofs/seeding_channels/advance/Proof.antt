@@ -6,12 +6,12 @@ use mathlib.Core.Path.{_≡_, refl, sym, _∙_}
 use lib.Ieee.{nan}
 use lib.ListN.{length}
 use Rattle.samples.specs.Frames.{column}
-use Rattle.sources.specs.Blocks.{Reach}
-use Rattle.recurrence.specs.Recurrence.{after}
-use Rattle.sources.proofs.Reaching.{reach-here, reach-next, reach-rest}
-use Rattle.recurrence.proofs.Moving.{turn-after, none-after}
-use Rattle.seeding.proofs.channels.advance.Statement.{statement}
-use Rattle.seeding.proofs.channels.advance.Tie as tie
+use Rattle.samples.specs.Blocks.{Reach}
+use Rattle.filter_recurrence.specs.Recurrence.{after}
+use Rattle.samples.proofs.Reaching.{reach-here, reach-next, reach-rest}
+use Rattle.filter_recurrence.proofs.Moving.{turn-after, none-after}
+use Rattle.filter_weighting.proofs.seeding_channels.advance.Statement.{statement}
+use Rattle.filter_weighting.proofs.seeding_channels.advance.Tie as tie
 
 abbrev Inv-loop : tie.InvT-loop
 Inv-loop a samples first step count w₀ left₀ i₀ w left i =

@@ -5,15 +5,15 @@ use native.Mathlib.Omega.{arith}
 use mathlib.Core.Path.{_≡_, refl, sym, ap, _∙_}
 use lib.ListN.{length}
 use Rattle.samples.specs.Frames.{column}
-use Rattle.sources.specs.Blocks.{runPlaces}
-use Rattle.sources.specs.Source.{sourceOf}
-use Rattle.sources.proofs.Cutting.{Next, Step, step, filled}
-use Rattle.recurrence.specs.Recurrence.{after, flushed}
-use Rattle.states.specs.Channels.{statePlaces, overUsed}
-use Rattle.states.proofs.Memories.{over-twice}
-use Rattle.states.proofs.Runs.{run-none, run-more}
-use Rattle.seeding.proofs.channels.advance_all.Statement.{statement}
-use Rattle.seeding.proofs.channels.advance_all.Tie as tie
+use Rattle.samples.specs.Blocks.{runPlaces}
+use Rattle.samples.specs.Source.{sourceOf}
+use Rattle.samples.proofs.Cutting.{Next, Step, step, filled}
+use Rattle.filter_recurrence.specs.Recurrence.{after, flushed}
+use Rattle.filter_recurrence.specs.Channels.{statePlaces, overUsed}
+use Rattle.filter_recurrence.proofs.Memories.{over-twice}
+use Rattle.filter_recurrence.proofs.Runs.{run-none, run-more}
+use Rattle.filter_weighting.proofs.seeding_channels.advance_all.Statement.{statement}
+use Rattle.filter_weighting.proofs.seeding_channels.advance_all.Tie as tie
 
 abbrev Inv-loop : tie.InvT-loop
 Inv-loop a state₀ channels frames ints floats map run₀ most done₀ state run done =

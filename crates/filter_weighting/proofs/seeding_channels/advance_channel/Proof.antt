@@ -3,11 +3,11 @@ use borrow.Author.Needs.{needs}
 use borrow.Author.Tests.{eq-eqb, ne-eqb}
 use mathlib.Core.Path.{refl, ap, _∙_}
 use Rattle.samples.specs.Frames.{column}
-use Rattle.recurrence.specs.declared.Memory.{Memory}
-use Rattle.recurrence.specs.Recurrence.{after}
-use Rattle.states.specs.Channels.{withMemory}
-use Rattle.seeding.proofs.channels.advance_channel.Statement.{statement}
-use Rattle.seeding.proofs.channels.advance_channel.Tie as tie
+use Rattle.filter_recurrence.specs.declared.Memory.{Memory}
+use Rattle.filter_recurrence.specs.Recurrence.{after}
+use Rattle.filter_recurrence.specs.Channels.{withMemory}
+use Rattle.filter_weighting.proofs.seeding_channels.advance_channel.Statement.{statement}
+use Rattle.filter_weighting.proofs.seeding_channels.advance_channel.Tie as tie
 
 returns : tie.Need-returns
 returns c = simp (eq-eqb _ _ (c .if1 .taken)) refl

@@ -7,12 +7,12 @@ use mathlib.Core.List.{List}
 use lib.ListN.{drop}
 use lib.Ieee.{Float}
 use Rattle.samples.specs.Frames.{column}
-use Rattle.recurrence.specs.Recurrence.{after}
-use Rattle.states.specs.Channels.{memoryOf, withMemory, eachUsed}
-use Rattle.sources.proofs.Reaching.{reach-start}
-use Rattle.states.proofs.Each.{each-again, each-end}
-use Rattle.seeding.proofs.channels.advance_run.Statement.{statement}
-use Rattle.seeding.proofs.channels.advance_run.Tie as tie
+use Rattle.filter_recurrence.specs.Recurrence.{after}
+use Rattle.filter_recurrence.specs.Channels.{memoryOf, withMemory, eachUsed}
+use Rattle.samples.proofs.Reaching.{reach-start}
+use Rattle.filter_recurrence.proofs.Each.{each-again, each-end}
+use Rattle.filter_weighting.proofs.seeding_channels.advance_run.Statement.{statement}
+use Rattle.filter_weighting.proofs.seeding_channels.advance_run.Tie as tie
 
 -- channel k's memory after its frames, in the state
 abbrev moves : List Float → List Float → ℕ → ℕ → ℕ → List Float → List Float

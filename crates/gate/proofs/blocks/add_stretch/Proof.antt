@@ -6,7 +6,7 @@ use mathlib.Core.Path.{_≡_, refl, sym, ap, _∙_, subst}
 use denote.Ref.{now}
 use lib.Ieee.{Float, nan}
 use lib.ListN.{getD}
-use Rattle.tables.proofs.Taken.{energy-entry}
+use Rattle.bins_tables.proofs.Taken.{energy-entry}
 use Rattle.gate.specs.Inner.{stretch, sumAbove, Steady}
 use Rattle.gate.proofs.Running.{sum-turn, plus}
 use Rattle.gate.proofs.Stretches.{steady-plus}

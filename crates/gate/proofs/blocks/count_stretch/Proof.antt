@@ -3,7 +3,7 @@ use Prim.Native.Nat.{ℕ, _+_, _-_, _*_, _≤_}
 use native.Mathlib.Omega.{arith}
 use mathlib.Core.Path.{_≡_, ap}
 use denote.Ref.{now}
-use Rattle.histogram.specs.Histogram.{largestCount}
+use Rattle.history_histogram.specs.Histogram.{largestCount}
 use Rattle.gate.specs.Inner.{stretch, blocksAbove}
 use Rattle.gate.proofs.Running.{blocks-turn}
 use borrow.Author.Needs.{needs}

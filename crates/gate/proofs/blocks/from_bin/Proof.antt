@@ -6,7 +6,7 @@ use native.Mathlib.Omega.{arith}
 use borrow.Author.Needs.{needs}
 use denote.Ref.{now}
 use lib.ListN.{drop}
-use Rattle.history.proofs.Slices.{counters-slice}
+use Rattle.history_set.proofs.Slices.{counters-slice}
 use Rattle.gate.specs.Totals.{onTopOf, binsFrom}
 use Rattle.gate.proofs.Running.{not-there, there}
 use Rattle.gate.proofs.blocks.from_bin.Statement.{statement}

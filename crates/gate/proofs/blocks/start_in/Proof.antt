@@ -7,9 +7,9 @@ use mathlib.Core.Bool.{false}
 use denote.Ref.{now}
 use lib.Ieee.{Float, nan, lt}
 use lib.ListN.{getD}
-use Rattle.histogram_bins.specs.Bin.{bins}
-use Rattle.tables.specs.Tables.{energyAt}
-use Rattle.tables.proofs.Taken.{energy-entry}
+use Rattle.bins.specs.Bin.{bins}
+use Rattle.bins_tables.specs.Tables.{energyAt}
+use Rattle.bins_tables.proofs.Taken.{energy-entry}
 use Rattle.gate.specs.Inner.{Past}
 use Rattle.gate.proofs.Start.{past-on, reached}
 use borrow.Author.Needs.{needs}

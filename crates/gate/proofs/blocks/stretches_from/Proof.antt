@@ -4,8 +4,8 @@ use native.Mathlib.Omega.{arith}
 use mathlib.Core.Path.{_≡_, refl, sym, ap, _∙_}
 use borrow.Author.Needs.{needs}
 use denote.Ref.{now}
-use Rattle.histogram_bins.specs.Bin.{bins}
-use Rattle.histogram.specs.Histogram.{largestCount}
+use Rattle.bins.specs.Bin.{bins}
+use Rattle.history_histogram.specs.Histogram.{largestCount}
 use Rattle.gate.specs.Inner.{stretch, onwards, Steady}
 use Rattle.gate.proofs.Running.{bins-end}
 use Rattle.gate.proofs.blocks.stretches_from.Statement.{statement}

@@ -1,12 +1,12 @@
--- `gated_energy::gated_energy` meets its contract: the mean of what the gate answers, or the same refusal. Assumes nothing.
+-- `energy::gated_energy` meets its contract: the mean of what the gate answers, or the same refusal. Assumes nothing.
 use mathlib.Core.Path.{_∙_}
 use borrow.Author.Needs.{needs}
 use denote.Ref.{now}
-use Rattle.history.specs.Set.{histories}
+use Rattle.history_set.specs.Set.{histories}
 use Rattle.gate.specs.Gate.{said}
-use Rattle.gated_energy.proofs.Means.{mean-said}
-use Rattle.gated_energy.proofs.gated_energy.Statement.{statement}
-use Rattle.gated_energy.proofs.gated_energy.Tie as tie
+use Rattle.gate.proofs.Means.{mean-said}
+use Rattle.gate.proofs.energy.gated_energy.Statement.{statement}
+use Rattle.gate.proofs.energy.gated_energy.Tie as tie
 
 returns : tie.Need-returns
 returns c =

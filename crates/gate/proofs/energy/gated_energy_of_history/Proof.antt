@@ -1,12 +1,12 @@
--- `gated_energy::gated_energy_of_history` meets its contract: the mean of what the gate of the history answers, or the same refusal. Assumes nothing.
+-- `energy::gated_energy_of_history` meets its contract: the mean of what the gate of the history answers, or the same refusal. Assumes nothing.
 use mathlib.Core.Path.{_∙_}
 use borrow.Author.Needs.{needs}
 use denote.Ref.{now}
 use Rattle.gate.specs.Sums.{alone}
 use Rattle.gate.specs.Gate.{said}
-use Rattle.gated_energy.proofs.Means.{mean-said}
-use Rattle.gated_energy.proofs.gated_energy_of_history.Statement.{statement}
-use Rattle.gated_energy.proofs.gated_energy_of_history.Tie as tie
+use Rattle.gate.proofs.Means.{mean-said}
+use Rattle.gate.proofs.energy.gated_energy_of_history.Statement.{statement}
+use Rattle.gate.proofs.energy.gated_energy_of_history.Tie as tie
 
 returns : tie.Need-returns
 returns c =

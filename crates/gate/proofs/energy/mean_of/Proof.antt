@@ -1,13 +1,13 @@
--- `gated_energy::mean_of` meets its contract, case by case. Assumes nothing.
+-- `energy::mean_of` meets its contract, case by case. Assumes nothing.
 use mathlib.Core.Path.{sym, ap, _∙_}
 use borrow.Author.Needs.{needs}
 use lib.Ieee.{Float, binary64, div}
-use Rattle.refusals.specs.Outcome.{Said, says}
+use Rattle.base_refusals.specs.Outcome.{Said, says}
 use Rattle.gate.specs.declared.Gated.{Gated}
 use Rattle.gate.specs.Gate.{said}
-use Rattle.gated_energy.specs.Inner.{meanSaid}
-use Rattle.gated_energy.proofs.mean_of.Statement.{statement}
-use Rattle.gated_energy.proofs.mean_of.Tie as tie
+use Rattle.gate.specs.EnergyInner.{meanSaid}
+use Rattle.gate.proofs.energy.mean_of.Statement.{statement}
+use Rattle.gate.proofs.energy.mean_of.Tie as tie
 
 returns : tie.Need-returns
 returns c =

@@ -6,7 +6,7 @@ use borrow.Author.Needs.{needs}
 use denote.Ref.{now}
 use lib.Ieee.{Float, nan}
 use lib.ListN.{getD}
-use Rattle.queue.specs.Queue.{slice}
+use Rattle.history_queue.specs.Queue.{slice}
 use Rattle.gate.specs.Inner.{blocksKept, countedFrom}
 use Rattle.gate.proofs.Running.{carried-turn, carried-end}
 use Rattle.gate.proofs.Keeping.{one-more}

@@ -5,7 +5,7 @@ use mathlib.Core.Path.{_≡_, refl, sym, ap, _∙_}
 use borrow.Author.Needs.{needs}
 use denote.Ref.{now}
 use lib.Ieee.{Float, nan, binary64, add}
-use Rattle.queue.specs.Queue.{slice}
+use Rattle.history_queue.specs.Queue.{slice}
 use Rattle.gate.specs.Inner.{energyKept, summedFrom}
 use Rattle.gate.proofs.Running.{carried-turn, carried-end}
 use Rattle.gate.proofs.kept.energies_from.Statement.{statement}

@@ -2,7 +2,7 @@
 use mathlib.Core.Path.{sym, _∙_}
 use borrow.Author.Needs.{needs}
 use denote.Ref.{now}
-use Rattle.queue.specs.Queue.{slice}
+use Rattle.history_queue.specs.Queue.{slice}
 use Rattle.gate.proofs.Looking.{same}
 use Rattle.gate.proofs.Keeping.{together}
 use Rattle.gate.proofs.kept.kept_from.Statement.{statement}

@@ -3,7 +3,7 @@ use native.Mathlib.Omega.{arith}
 use borrow.Author.Needs.{needs}
 use denote.Ref.{now}
 use lib.ListN.{length}
-use Rattle.queue.proofs.Standing.{Within, parts-within}
+use Rattle.history_queue.proofs.Standing.{Within, parts-within}
 use Rattle.gate.proofs.Keeping.{queue-parts}
 use Rattle.gate.proofs.kept.of_queue.Statement.{statement}
 use Rattle.gate.proofs.kept.of_queue.Tie as tie

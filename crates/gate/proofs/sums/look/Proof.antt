@@ -7,10 +7,10 @@ use borrow.Author.Needs.{needs}
 use denote.Ref.{now}
 use lib.Ieee.{Float, nan, binary64, add, lt}
 use lib.ListN.{getD}
-use Rattle.history.specs.Set.{noneBelow}
-use Rattle.history.proofs.Slices.{fine-turn, fine-end}
+use Rattle.history_set.specs.Set.{noneBelow}
+use Rattle.history_set.proofs.Slices.{fine-turn, fine-end}
 use Rattle.gate.specs.Inner.{sumOnto}
-use Rattle.queue.specs.Queue.{slice}
+use Rattle.history_queue.specs.Queue.{slice}
 use Rattle.gate.proofs.Running.{carried-turn, carried-end}
 use Rattle.gate.proofs.sums.look.Statement.{statement}
 use Rattle.gate.proofs.sums.look.Tie as tie

@@ -4,9 +4,9 @@ use mathlib.Core.Path.{sym, ap, subst, _∙_}
 use borrow.Author.Needs.{needs}
 use denote.Ref.{now}
 use lib.ListN.{length}
-use Rattle.history.specs.declared.set.Shape.{Shape}
-use Rattle.history.specs.Set.{countersEnd, storeEnd, shapeShows, shapeSound}
-use Rattle.history.proofs.Entries.{counters-inside, store-inside}
+use Rattle.history_set.specs.declared.set.Shape.{Shape}
+use Rattle.history_set.specs.Set.{countersEnd, storeEnd, shapeShows, shapeSound}
+use Rattle.history_set.proofs.Entries.{counters-inside, store-inside}
 use Rattle.gate.specs.Totals.{none}
 use Rattle.gate.proofs.Running.{there}
 use Rattle.gate.proofs.Nothing.{nothing-steady}

@@ -5,8 +5,8 @@ use mathlib.Core.Bool.{true, false, true≢false}
 use borrow.Author.Needs.{needs}
 use denote.Ref.{now}
 use lib.ListN.{length}
-use Rattle.queue.specs.Queue.{suits}
-use Rattle.queue.proofs.Standing.{Within, parts-within}
+use Rattle.history_queue.specs.Queue.{suits}
+use Rattle.history_queue.proofs.Standing.{Within, parts-within}
 use Rattle.gate.proofs.Looking.{sound-seen, sum-seen}
 use Rattle.gate.proofs.sums.look_at_queue.Statement.{statement}
 use Rattle.gate.proofs.sums.look_at_queue.Tie as tie

@@ -3,9 +3,9 @@ use mathlib.Core.Path.{_≡_, sym, _∙_}
 use mathlib.Core.Bool.{false}
 use borrow.Author.Needs.{needs}
 use denote.Ref.{now}
-use Rattle.refusals.specs.Refusal.{STORE, SET}
-use Rattle.history.specs.Set.{Histories, chosen, outsideSet, allSound}
-use Rattle.history.proofs.Rows.{set-refused, one-unsound, all-well}
+use Rattle.base_refusals.specs.Refusal.{STORE, SET}
+use Rattle.history_set.specs.Set.{Histories, chosen, outsideSet, allSound}
+use Rattle.history_set.proofs.Rows.{set-refused, one-unsound, all-well}
 use Rattle.gate.specs.Sums.{alone}
 use Rattle.gate.proofs.Looking.{refused}
 use Rattle.gate.proofs.Alone.{history-inside, history-sound}

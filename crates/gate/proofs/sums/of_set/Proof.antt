@@ -7,10 +7,10 @@ use mathlib.Core.Bool.{false}
 use borrow.Author.Needs.{needs}
 use denote.Ref.{now}
 use lib.ListN.{length, getD, take, drop}
-use Rattle.refusals.specs.Refusal.{STORE, SET}
-use Rattle.history.specs.Set.{mostHistories, Histories, histories, chosen, anyOutside, outsideSet, isSound, allSound, allShow}
-use Rattle.history.proofs.Entries.{past-the-last, inside-at, all-found, all-passed, all-end, shows-next, shows-end}
-use Rattle.history.proofs.Rows.{none-outside, set-refused, one-unsound, all-well}
+use Rattle.base_refusals.specs.Refusal.{STORE, SET}
+use Rattle.history_set.specs.Set.{mostHistories, Histories, histories, chosen, anyOutside, outsideSet, isSound, allSound, allShow}
+use Rattle.history_set.proofs.Entries.{past-the-last, inside-at, all-found, all-passed, all-end, shows-next, shows-end}
+use Rattle.history_set.proofs.Rows.{none-outside, set-refused, one-unsound, all-well}
 use Rattle.gate.specs.declared.blocks.Totals.{Totals}
 use Rattle.gate.specs.Totals.{mostBlocks, none, withBlocks}
 use Rattle.gate.specs.Sums.{allTotals}

@@ -3,10 +3,10 @@ use mathlib.Core.Path.{sym, ap, _∙_}
 use mathlib.Core.List.{List}
 use borrow.Author.Needs.{needs}
 use denote.Ref.{now}
-use Rattle.refusals.specs.Outcome.{answers, saidBy}
-use Rattle.refusals.specs.Rows.{Row, byRows}
-use Rattle.refusals.proofs.Behind.{stopped-first, goes-on}
-use Rattle.history.specs.Set.{shows, setRows}
+use Rattle.base_refusals.specs.Outcome.{answers, saidBy}
+use Rattle.base_refusals.specs.Rows.{Row, byRows}
+use Rattle.base_refusals.proofs.Behind.{stopped-first, goes-on}
+use Rattle.history_set.specs.Set.{shows, setRows}
 use Rattle.gate.specs.declared.blocks.Totals.{Totals}
 use Rattle.gate.specs.Sums.{totalsOf, alone}
 use Rattle.gate.specs.Relative.{levelOf, levelRows, relativeOf}

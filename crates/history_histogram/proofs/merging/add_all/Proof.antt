@@ -1,4 +1,4 @@
--- `histogram_merge::add_all` meets its contract. The invariant: the counters before `bin` are sums, and the others are as they were.
+-- `merging::add_all` meets its contract. The invariant: the counters before `bin` are sums, and the others are as they were.
 -- Assumes nothing.
 use Prim.Native.Nat.{_-_, _≤_}
 use native.Mathlib.Omega.{arith}
@@ -6,10 +6,10 @@ use mathlib.Core.Path.{_≡_, _∙_}
 use borrow.Author.Needs.{needs}
 use lib.ListN.{length, length-set}
 use denote.Ref.{now}
-use Rattle.histogram.proofs.Sums.{sumsFirst, sums-all, sums-read, sums-turn}
-use Rattle.histogram_merge.proofs.Room.{room-at}
-use Rattle.histogram_merge.proofs.add_all.Statement.{statement}
-use Rattle.histogram_merge.proofs.add_all.Tie as tie
+use Rattle.history_histogram.proofs.Sums.{sumsFirst, sums-all, sums-read, sums-turn}
+use Rattle.history_histogram.proofs.Room.{room-at}
+use Rattle.history_histogram.proofs.merging.add_all.Statement.{statement}
+use Rattle.history_histogram.proofs.merging.add_all.Tie as tie
 
 abbrev Inv-loop : tie.InvT-loop
 Inv-loop into₀ from bin₀ into bin = (bin ≤ length into₀) × (length into ≡ length into₀) × (into ≡ sumsFirst bin into₀ from)

@@ -1,4 +1,4 @@
--- `histogram_merge::has_room` meets its contract. The invariant: what was found before `bin`, with what the bins from there on give, is what all give.
+-- `merging::has_room` meets its contract. The invariant: what was found before `bin`, with what the bins from there on give, is what all give.
 -- Assumes nothing.
 use Prim.Native.Nat.{_-_, _≤_}
 use native.Mathlib.Omega.{arith}
@@ -6,10 +6,10 @@ use mathlib.Core.Path.{_≡_, refl, sym, _∙_}
 use borrow.Author.Needs.{needs}
 use denote.Ref.{now}
 use lib.ListN.{length}
-use Rattle.histogram_merge.specs.Merge.{room}
-use Rattle.histogram_merge.proofs.Room.{lookedTo, look-turn, look-end}
-use Rattle.histogram_merge.proofs.has_room.Statement.{statement}
-use Rattle.histogram_merge.proofs.has_room.Tie as tie
+use Rattle.history_histogram.specs.Merge.{room}
+use Rattle.history_histogram.proofs.Room.{lookedTo, look-turn, look-end}
+use Rattle.history_histogram.proofs.merging.has_room.Statement.{statement}
+use Rattle.history_histogram.proofs.merging.has_room.Tie as tie
 
 abbrev Inv-loop : tie.InvT-loop
 Inv-loop into from fits₀ bin₀ fits bin = (bin ≤ length into) × (lookedTo into from fits bin ≡ room into from)

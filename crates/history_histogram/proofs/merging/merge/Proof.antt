@@ -1,11 +1,11 @@
--- `histogram_merge::merge` meets its contract, case by case: the look comes before anything is added. Assumes nothing.
+-- `merging::merge` meets its contract, case by case: the look comes before anything is added. Assumes nothing.
 use mathlib.Core.Path.{_≡_, refl, sym, _∙_}
 use borrow.Author.Needs.{needs}
 use denote.Ref.{now}
-use Rattle.histogram_merge.specs.Merge.{room}
-use Rattle.histogram_merge.proofs.Cases.{merge-store, merge-store-from, merge-full, merge-went}
-use Rattle.histogram_merge.proofs.merge.Statement.{statement}
-use Rattle.histogram_merge.proofs.merge.Tie as tie
+use Rattle.history_histogram.specs.Merge.{room}
+use Rattle.history_histogram.proofs.Cases.{merge-store, merge-store-from, merge-full, merge-went}
+use Rattle.history_histogram.proofs.merging.merge.Statement.{statement}
+use Rattle.history_histogram.proofs.merging.merge.Tie as tie
 
 returns : tie.Need-returns
 returns c = rw (merge-store _ _ (c .if1 .taken)) (refl, refl)

@@ -1,15 +1,15 @@
--- `queue::Queue::parts` meets its contract: where the store stands, both parts end inside it. Assumes nothing.
+-- `history_queue::Queue::parts` meets its contract: where the store stands, both parts end inside it. Assumes nothing.
 use mathlib.Core.Path.{_≡_, sym, ap, _∙_}
 use mathlib.Core.Bool.{true}
 use Prim.Native.Nat.{ℕ, _+_, _-_, _≤_}
 use native.Mathlib.Omega.{arith}
 use borrow.Author.Needs.{needs}
-use Rattle.queue.specs.declared.Parts.{Parts}
-use Rattle.queue.specs.Queue.{stands}
-use Rattle.queue.proofs.Ring.{Suited}
-use Rattle.queue.proofs.Standing.{stands-well, parts-standing, parts-nowhere}
-use Rattle.queue.proofs.Queue.parts.Statement.{statement}
-use Rattle.queue.proofs.Queue.parts.Tie as tie
+use Rattle.history_queue.specs.declared.Parts.{Parts}
+use Rattle.history_queue.specs.Queue.{stands}
+use Rattle.history_queue.proofs.Ring.{Suited}
+use Rattle.history_queue.proofs.Standing.{stands-well, parts-standing, parts-nowhere}
+use Rattle.history_queue.proofs.Queue.parts.Statement.{statement}
+use Rattle.history_queue.proofs.Queue.parts.Tie as tie
 
 there : (c : tie.Then1) → let a = c .before .before .args in stands (a .self) (a .start) (a .places) ≡ true
 there c = sym (c .before .stands .ensures) ∙ c .if1 .taken

@@ -1,10 +1,10 @@
--- `queue::Queue::stands` meets its contract: the store starts past the places, or has less than its own left, or it is the queue that says. Assumes nothing.
+-- `history_queue::Queue::stands` meets its contract: the store starts past the places, or has less than its own left, or it is the queue that says. Assumes nothing.
 use native.Mathlib.Omega.{arith}
 use mathlib.Core.Path.{sym, _∙_}
 use borrow.Author.Needs.{needs}
-use Rattle.queue.proofs.Standing.{outside, inside}
-use Rattle.queue.proofs.Queue.stands.Statement.{statement}
-use Rattle.queue.proofs.Queue.stands.Tie as tie
+use Rattle.history_queue.proofs.Standing.{outside, inside}
+use Rattle.history_queue.proofs.Queue.stands.Statement.{statement}
+use Rattle.history_queue.proofs.Queue.stands.Tie as tie
 
 returns : tie.Need-returns
 returns c = let a = c .before .args in sym (outside (a .self) (a .start) (a .places) (omega arith))

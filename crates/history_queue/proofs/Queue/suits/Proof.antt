@@ -1,11 +1,11 @@
--- `queue::Queue::suits` meets its contract: each test that fails makes one part of `suits` false. Assumes nothing.
+-- `history_queue::Queue::suits` meets its contract: each test that fails makes one part of `suits` false. Assumes nothing.
 use mathlib.Core.Path.{_≡_, sym, ap, _∙_}
 use mathlib.Core.Bool.{Bool, _&&_}
 use borrow.Author.Tests.{le-leb, lt-leb, eq-eqb, ne-eqb, lt-ltb, le-ltb}
 use lib.Dec.{leb, ltb}
-use Rattle.queue.specs.Queue.{longest, suits}
-use Rattle.queue.proofs.Queue.suits.Statement.{statement}
-use Rattle.queue.proofs.Queue.suits.Tie as tie
+use Rattle.history_queue.specs.Queue.{longest, suits}
+use Rattle.history_queue.proofs.Queue.suits.Statement.{statement}
+use Rattle.history_queue.proofs.Queue.suits.Tie as tie
 
 returns : tie.Need-returns
 unfolding suits

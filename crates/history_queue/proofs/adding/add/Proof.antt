@@ -1,4 +1,4 @@
--- `queue_add::add` meets its contract, case by case: `on_ring` gives the next place, which in a full queue is the head, and `after` the next head.
+-- `adding::add` meets its contract, case by case: `on_ring` gives the next place, which in a full queue is the head, and `after` the next head.
 -- Assumes nothing.
 use Prim.Native.Nat.{ℕ, _<_, _+_}
 use native.Mathlib.Nat.{mod-lt}
@@ -9,14 +9,14 @@ use borrow.Author.Needs.{needs}
 use denote.Ref.{now}
 use lib.Ieee.{lt}
 use lib.ListN.{length, set}
-use Rattle.refusals.specs.Outcome.{Outcome, went, NoValues, done}
-use Rattle.histogram_bins.specs.Energy.{dropped}
-use Rattle.queue.specs.Queue.{Stored, over}
-use Rattle.queue.proofs.Ring.{Suited, suited}
-use Rattle.queue_add.specs.Adding.{nextPlace, advanced, enqueued}
-use Rattle.queue_add.proofs.Adding.{enqueue-store, enqueue-dropped, enqueue-went, advance-more, advance-full, full-place}
-use Rattle.queue_add.proofs.add.Statement.{statement}
-use Rattle.queue_add.proofs.add.Tie as tie
+use Rattle.base_refusals.specs.Outcome.{Outcome, went, NoValues, done}
+use Rattle.bins.specs.Energy.{dropped}
+use Rattle.history_queue.specs.Queue.{Stored, over}
+use Rattle.history_queue.proofs.Ring.{Suited, suited}
+use Rattle.history_queue.specs.Adding.{nextPlace, advanced, enqueued}
+use Rattle.history_queue.proofs.Enqueued.{enqueue-store, enqueue-dropped, enqueue-went, advance-more, advance-full, full-place}
+use Rattle.history_queue.proofs.adding.add.Statement.{statement}
+use Rattle.history_queue.proofs.adding.add.Tie as tie
 
 -- where the store is the queue's, what that says
 suited-here : (c : tie.Then1) → Suited (c .before .before .before .args .queue) (length (now (c .before .before .before .args .store)))

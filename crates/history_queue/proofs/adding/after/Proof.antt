@@ -1,11 +1,11 @@
--- `queue_add::after` meets its contract: below the maximum a number is its own remainder, and that of the maximum is 0. Assumes nothing.
+-- `adding::after` meets its contract: below the maximum a number is its own remainder, and that of the maximum is 0. Assumes nothing.
 use Prim.Native.Nat.{_+_, _%_}
 use mathlib.Core.Path.{_≡_, sym, ap, _∙_}
 use native.Mathlib.Nat.{mod-eq-of-lt, mod-self}
 use native.Mathlib.Omega.{arith}
 use borrow.Author.Needs.{needs}
-use Rattle.queue_add.proofs.after.Statement.{statement}
-use Rattle.queue_add.proofs.after.Tie as tie
+use Rattle.history_queue.proofs.adding.after.Statement.{statement}
+use Rattle.history_queue.proofs.adding.after.Tie as tie
 
 returns : tie.Need-returns
 returns c = sym (mod-eq-of-lt (c .if1 .taken))

@@ -1,10 +1,10 @@
--- `queue_add::on_ring` meets its contract: below twice the maximum, the remainder is the place, less the maximum where it reaches it.
+-- `adding::on_ring` meets its contract: below twice the maximum, the remainder is the place, less the maximum where it reaches it.
 -- Assumes nothing.
 use mathlib.Core.Path.{sym, _∙_}
 use native.Mathlib.Nat.{mod-eq-of-lt, mod-eq-sub-mod}
 use native.Mathlib.Omega.{arith}
-use Rattle.queue_add.proofs.on_ring.Statement.{statement}
-use Rattle.queue_add.proofs.on_ring.Tie as tie
+use Rattle.history_queue.proofs.adding.on_ring.Statement.{statement}
+use Rattle.history_queue.proofs.adding.on_ring.Tie as tie
 
 returns : tie.Need-returns
 returns c = sym (mod-eq-of-lt (c .if1 .taken))

@@ -1,4 +1,4 @@
--- `history::set::any_outside` meets its contract. The invariant: the entries from `i` on give what all give, so none before reaches outside.
+-- `history_set::set::any_outside` meets its contract. The invariant: the entries from `i` on give what all give, so none before reaches outside.
 -- Assumes nothing.
 use Prim.Native.Nat.{_-_, _≤_}
 use native.Mathlib.Omega.{arith}
@@ -6,10 +6,10 @@ use mathlib.Core.Bool.{true, false}
 use mathlib.Core.Path.{_≡_, refl, sym, _∙_}
 use borrow.Author.Needs.{needs}
 use lib.ListN.{getD, take, drop}
-use Rattle.history.specs.Set.{isOutside, anyOutside}
-use Rattle.history.proofs.Entries.{past-the-last, any-found, any-passed, any-end}
-use Rattle.history.proofs.set.any_outside.Statement.{statement}
-use Rattle.history.proofs.set.any_outside.Tie as tie
+use Rattle.history_set.specs.Set.{isOutside, anyOutside}
+use Rattle.history_set.proofs.Entries.{past-the-last, any-found, any-passed, any-end}
+use Rattle.history_set.proofs.set.any_outside.Statement.{statement}
+use Rattle.history_set.proofs.set.any_outside.Tie as tie
 
 abbrev Inv-loop : tie.InvT-loop
 Inv-loop count counters energies entries i₀ i = (i ≤ count) × (anyOutside counters energies (drop i (take count entries)) ≡ anyOutside counters energies (take count entries))

@@ -1,11 +1,11 @@
--- `history::set::outside` meets its contract: for each shape, `start` past the slice, or less than its size left after `start`.
+-- `history_set::set::outside` meets its contract: for each shape, `start` past the slice, or less than its size left after `start`.
 -- Assumes nothing.
 use mathlib.Core.Path.{sym, _∙_}
 use borrow.Author.Needs.{needs}
-use Rattle.histogram_bins.specs.Bin.{bins}
-use Rattle.history.proofs.Entries.{past, left, histogram-outside, queue-outside}
-use Rattle.history.proofs.set.outside.Statement.{statement}
-use Rattle.history.proofs.set.outside.Tie as tie
+use Rattle.bins.specs.Bin.{bins}
+use Rattle.history_set.proofs.Entries.{past, left, histogram-outside, queue-outside}
+use Rattle.history_set.proofs.set.outside.Statement.{statement}
+use Rattle.history_set.proofs.set.outside.Tie as tie
 
 returns : tie.Need-returns
 returns c =

@@ -1,11 +1,11 @@
--- `history::set::outside_set` meets its contract: too many entries, or one of them outside. Assumes nothing.
+-- `history_set::set::outside_set` meets its contract: too many entries, or one of them outside. Assumes nothing.
 use mathlib.Core.Path.{sym, _∙_}
 use borrow.Author.Needs.{needs}
 use denote.Ref.{now}
-use Rattle.history.specs.Set.{Histories, histories}
-use Rattle.history.proofs.Rows.{too-many, not-too-many}
-use Rattle.history.proofs.set.outside_set.Statement.{statement}
-use Rattle.history.proofs.set.outside_set.Tie as tie
+use Rattle.history_set.specs.Set.{Histories, histories}
+use Rattle.history_set.proofs.Rows.{too-many, not-too-many}
+use Rattle.history_set.proofs.set.outside_set.Statement.{statement}
+use Rattle.history_set.proofs.set.outside_set.Tie as tie
 
 -- the set, as it was given
 abbrev given : tie.Start → Histories

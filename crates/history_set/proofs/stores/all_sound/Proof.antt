@@ -1,4 +1,4 @@
--- `sound_stores::all_sound` meets its contract. The invariant: the entries from `i` on give what all give, so each before is sound.
+-- `stores::all_sound` meets its contract. The invariant: the entries from `i` on give what all give, so each before is sound.
 -- Assumes nothing.
 use Prim.Native.Nat.{_-_, _≤_}
 use native.Mathlib.Omega.{arith}
@@ -7,10 +7,10 @@ use mathlib.Core.Bool.{true, false}
 use borrow.Author.Needs.{needs}
 use denote.Ref.{now}
 use lib.ListN.{length, getD, take, drop}
-use Rattle.history.specs.Set.{storeEnd, isSound, allSound}
-use Rattle.history.proofs.Entries.{past-the-last, all-found, all-passed, all-end, every-at}
-use Rattle.sound_stores.proofs.all_sound.Statement.{statement}
-use Rattle.sound_stores.proofs.all_sound.Tie as tie
+use Rattle.history_set.specs.Set.{storeEnd, isSound, allSound}
+use Rattle.history_set.proofs.Entries.{past-the-last, all-found, all-passed, all-end, every-at}
+use Rattle.history_set.proofs.stores.all_sound.Statement.{statement}
+use Rattle.history_set.proofs.stores.all_sound.Tie as tie
 
 abbrev Inv-loop : tie.InvT-loop
 Inv-loop count energies entries i₀ i =

@@ -1,14 +1,14 @@
--- `sound_stores::checked` meets its contract: its tests are those of the set's rows, in order. Assumes nothing.
+-- `stores::checked` meets its contract: its tests are those of the set's rows, in order. Assumes nothing.
 use mathlib.Core.Path.{_≡_, sym, _∙_}
 use mathlib.Core.Bool.{false}
 use borrow.Author.Needs.{needs}
 use denote.Ref.{now}
 use lib.ListN.{length}
-use Rattle.history.specs.Set.{Histories, histories, chosen, outsideSet}
-use Rattle.history.proofs.Entries.{stores-inside}
-use Rattle.history.proofs.Rows.{none-outside, set-refused, one-unsound, all-well}
-use Rattle.sound_stores.proofs.checked.Statement.{statement}
-use Rattle.sound_stores.proofs.checked.Tie as tie
+use Rattle.history_set.specs.Set.{Histories, histories, chosen, outsideSet}
+use Rattle.history_set.proofs.Entries.{stores-inside}
+use Rattle.history_set.proofs.Rows.{none-outside, set-refused, one-unsound, all-well}
+use Rattle.history_set.proofs.stores.checked.Statement.{statement}
+use Rattle.history_set.proofs.stores.checked.Tie as tie
 
 -- the set, as it was given
 abbrev given : tie.Start → Histories

@@ -1,4 +1,4 @@
--- `sound_stores::none_below` meets its contract. The invariant: what was found before `i`, with what the energies from there on give, is what all give.
+-- `stores::none_below` meets its contract. The invariant: what was found before `i`, with what the energies from there on give, is what all give.
 -- Assumes nothing.
 use Prim.Native.Nat.{_+_, _-_, _≤_}
 use native.Mathlib.Omega.{arith}
@@ -8,11 +8,11 @@ use borrow.Author.Needs.{needs}
 use denote.Ref.{now}
 use lib.Ieee.{Float, nan, lt}
 use lib.ListN.{getD}
-use Rattle.history.specs.Set.{noneBelow}
-use Rattle.queue.specs.Queue.{slice}
-use Rattle.history.proofs.Slices.{fine-turn, fine-end}
-use Rattle.sound_stores.proofs.none_below.Statement.{statement}
-use Rattle.sound_stores.proofs.none_below.Tie as tie
+use Rattle.history_set.specs.Set.{noneBelow}
+use Rattle.history_queue.specs.Queue.{slice}
+use Rattle.history_set.proofs.Slices.{fine-turn, fine-end}
+use Rattle.history_set.proofs.stores.none_below.Statement.{statement}
+use Rattle.history_set.proofs.stores.none_below.Tie as tie
 
 abbrev Inv-loop : tie.InvT-loop
 Inv-loop store from until least fine₀ i₀ fine i = (i ≤ until) × (fine && noneBelow (slice i until store) ≡ noneBelow (slice from until store))

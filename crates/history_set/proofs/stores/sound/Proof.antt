@@ -1,4 +1,4 @@
--- `sound_stores::sound` meets its contract, shape by shape: a queue's store is the slice of its maximum of places. Assumes nothing.
+-- `stores::sound` meets its contract, shape by shape: a queue's store is the slice of its maximum of places. Assumes nothing.
 use Prim.Native.Nat.{ℕ, _+_, _-_, _≤_}
 use native.Mathlib.Omega.{arith}
 use mathlib.Core.Path.{sym, ap, subst, _∙_}
@@ -6,12 +6,12 @@ use mathlib.Core.Bool.{_&&_}
 use borrow.Author.Needs.{needs}
 use denote.Ref.{now}
 use lib.ListN.{length, take, drop}
-use Rattle.queue.specs.Queue.{over, suits, heldOf, slice}
-use Rattle.queue.proofs.Standing.{slice-length}
-use Rattle.history.specs.declared.set.Shape.{Shape}
-use Rattle.history.specs.Set.{storeEnd, noneBelow, shapeSound}
-use Rattle.sound_stores.proofs.sound.Statement.{statement}
-use Rattle.sound_stores.proofs.sound.Tie as tie
+use Rattle.history_queue.specs.Queue.{over, suits, heldOf, slice}
+use Rattle.history_queue.proofs.Standing.{slice-length}
+use Rattle.history_set.specs.declared.set.Shape.{Shape}
+use Rattle.history_set.specs.Set.{storeEnd, noneBelow, shapeSound}
+use Rattle.history_set.proofs.stores.sound.Statement.{statement}
+use Rattle.history_set.proofs.stores.sound.Tie as tie
 
 -- the store of a queue is inside
 inside : (c : tie.After-shape) → c .shape .given .0 .0 + c .shape .given .0 .1 .0 .maximum ≤ length (now (c .before .before .before .args .energies))

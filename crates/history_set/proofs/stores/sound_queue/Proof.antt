@@ -1,16 +1,16 @@
--- `sound_stores::sound_queue` meets its contract: the energies held are two slices, and none is below boundary 0 where none in either is.
+-- `stores::sound_queue` meets its contract: the energies held are two slices, and none is below boundary 0 where none in either is.
 -- Assumes nothing.
 use mathlib.Core.Path.{_≡_, sym, ap, _∙_}
 use mathlib.Core.Bool.{true, false}
 use borrow.Author.Needs.{needs}
 use denote.Ref.{now}
 use lib.ListN.{length}
-use Rattle.queue.specs.declared.Parts.{Parts}
-use Rattle.queue.specs.Queue.{suits, slice, inParts}
-use Rattle.queue.proofs.Standing.{Within, parts-within, held-in-store}
-use Rattle.history.proofs.Entries.{none-below-append}
-use Rattle.sound_stores.proofs.sound_queue.Statement.{statement}
-use Rattle.sound_stores.proofs.sound_queue.Tie as tie
+use Rattle.history_queue.specs.declared.Parts.{Parts}
+use Rattle.history_queue.specs.Queue.{suits, slice, inParts}
+use Rattle.history_queue.proofs.Standing.{Within, parts-within, held-in-store}
+use Rattle.history_set.proofs.Entries.{none-below-append}
+use Rattle.history_set.proofs.stores.sound_queue.Statement.{statement}
+use Rattle.history_set.proofs.stores.sound_queue.Tie as tie
 
 -- the parts are within the store
 within : (c : tie.After-parts) → Within (c .parts .result) (length (now (c .before .before .before .before .args .store)))

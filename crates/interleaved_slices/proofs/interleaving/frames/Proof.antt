@@ -1,8 +1,8 @@
--- `frames::frames` meets its contract: the test at no channels is the definition's. Assumes nothing.
+-- `interleaving::frames` meets its contract: the test at no channels is the definition's. Assumes nothing.
 use borrow.Author.Needs.{needs}
 use borrow.Author.Tests.{eq-eqb, ne-eqb}
-use Rattle.frames.proofs.frames.Statement.{statement}
-use Rattle.frames.proofs.frames.Tie as tie
+use Rattle.interleaved_slices.proofs.interleaving.frames.Statement.{statement}
+use Rattle.interleaved_slices.proofs.interleaving.frames.Tie as tie
 
 returns : tie.Need-returns
 returns c = simp (eq-eqb _ _ (c .if1 .taken))

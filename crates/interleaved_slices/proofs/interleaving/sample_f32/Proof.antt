@@ -1,4 +1,4 @@
--- `frames::sample_f32` meets its contract: the two tests are the definition's, and past them the place lies inside the samples. Assumes nothing.
+-- `interleaving::sample_f32` meets its contract: the two tests are the definition's, and past them the place lies inside the samples. Assumes nothing.
 use borrow.Author.Needs.{needs}
 use Prim.Native.Nat.{_+_, _*_, _<_}
 use mathlib.Core.Path.{sym, _∙_}
@@ -7,9 +7,9 @@ use native.Mathlib.Omega.{arith}
 use lib.ListN.{length}
 use lib.Ieee.{nan, ofBits}
 use Rattle.samples.specs.Sample.{sampleOfF32}
-use Rattle.frames.proofs.Places.{inside, no-channel, none-of, sample-of}
-use Rattle.frames.proofs.sample_f32.Statement.{statement}
-use Rattle.frames.proofs.sample_f32.Tie as tie
+use Rattle.interleaved_slices.proofs.Places.{inside, no-channel, none-of, sample-of}
+use Rattle.interleaved_slices.proofs.interleaving.sample_f32.Statement.{statement}
+use Rattle.interleaved_slices.proofs.interleaving.sample_f32.Tie as tie
 
 returns : tie.Need-returns
 unfolding ofBits

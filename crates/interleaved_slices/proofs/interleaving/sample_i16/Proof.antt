@@ -1,4 +1,4 @@
--- `frames::sample_i16` meets its contract: the two tests are the definition's, and past them the place lies inside the samples. Assumes nothing.
+-- `interleaving::sample_i16` meets its contract: the two tests are the definition's, and past them the place lies inside the samples. Assumes nothing.
 use borrow.Author.Needs.{needs}
 use Prim.Native.Nat.{_+_, _*_, _<_}
 use mathlib.Core.Path.{sym, ap, _∙_}
@@ -10,9 +10,9 @@ use mir.Syntax.{w16}
 use mir.ValLaws.{toZ-ofZ}
 use lib.Ieee.{ofBits}
 use Rattle.samples.specs.Sample.{sampleOf16}
-use Rattle.frames.proofs.Places.{inside, no-channel, none-of, sample-of}
-use Rattle.frames.proofs.sample_i16.Statement.{statement}
-use Rattle.frames.proofs.sample_i16.Tie as tie
+use Rattle.interleaved_slices.proofs.Places.{inside, no-channel, none-of, sample-of}
+use Rattle.interleaved_slices.proofs.interleaving.sample_i16.Statement.{statement}
+use Rattle.interleaved_slices.proofs.interleaving.sample_i16.Tie as tie
 
 returns : tie.Need-returns
 unfolding ofBits

@@ -1,11 +1,11 @@
--- `interleaved_parts::before` meets its contract: a frame past the last begins past the end. Assumes nothing.
+-- `parts::before` meets its contract: a frame past the last begins past the end. Assumes nothing.
 use borrow.Author.Needs.{needs}
 use Prim.Native.Nat.{ℕ, _*_, min}
 use mathlib.Core.Path.{_≡_, sym, subst}
 use native.Mathlib.Omega.{arith}
-use Rattle.interleaved_parts.proofs.Splitting.{at-none, past, fits, within}
-use Rattle.interleaved_parts.proofs.before.Statement.{statement}
-use Rattle.interleaved_parts.proofs.before.Tie as tie
+use Rattle.interleaved_slices.proofs.Splitting.{at-none, past, fits, within}
+use Rattle.interleaved_slices.proofs.parts.before.Statement.{statement}
+use Rattle.interleaved_slices.proofs.parts.before.Tie as tie
 
 returns : tie.Need-returns
 returns c = let a = c .before .args in subst (λ (n : ℕ). 0 ≡ min (a .frame * n) (a .samples)) (sym (c .if1 .taken)) (at-none (a .frame) (a .samples))

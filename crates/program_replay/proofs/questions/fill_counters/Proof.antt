@@ -1,10 +1,10 @@
--- `replay::questions::fill_counters` is safe and ends: each turn is a bin of the case further, and the counters stay as many. Assumes nothing.
+-- `program_replay::questions::fill_counters` is safe and ends: each turn is a bin of the case further, and the counters stay as many. Assumes nothing.
 use Prim.Native.Nat.{_-_, _≤_}
 use mathlib.Core.Path.{_≡_}
 use lib.ListN.{length}
 use borrow.Author.Needs.{needs}
-use Rattle.replay.proofs.questions.fill_counters.Statement.{statement}
-use Rattle.replay.proofs.questions.fill_counters.Tie as tie
+use Rattle.program_replay.proofs.questions.fill_counters.Statement.{statement}
+use Rattle.program_replay.proofs.questions.fill_counters.Tie as tie
 
 abbrev Inv-loop : tie.InvT-loop
 Inv-loop case counters₀ at₀ counters at = (at ≤ 100) × (length counters ≡ length counters₀)

@@ -1,10 +1,10 @@
--- `replay_filter::filters::call_f32` is safe: the part that is lent is as long as the case says. Assumes nothing.
+-- `program_replay_filter::filters::call_f32` is safe: the part that is lent is as long as the case says. Assumes nothing.
 use mathlib.Core.Path.{sym}
 use lib.Seq.{length-take-le}
 use native.Mathlib.Omega.{arith}
 use borrow.Author.Needs.{needs}
-use Rattle.replay_filter.proofs.filters.call_f32.Statement.{statement}
-use Rattle.replay_filter.proofs.filters.call_f32.Tie as tie
+use Rattle.program_replay_filter.proofs.filters.call_f32.Statement.{statement}
+use Rattle.program_replay_filter.proofs.filters.call_f32.Tie as tie
 
 slice-aggregate-heard-f32 : tie.Need-slice-aggregate-heard-f32
 slice-aggregate-heard-f32 c =

@@ -1,10 +1,10 @@
--- `replay_filter::filters::call_i16` is safe: the part that is lent is as long as the case says. Assumes nothing.
+-- `program_replay_filter::filters::call_i16` is safe: the part that is lent is as long as the case says. Assumes nothing.
 use mathlib.Core.Path.{sym}
 use lib.Seq.{length-take-le}
 use native.Mathlib.Omega.{arith}
 use borrow.Author.Needs.{needs}
-use Rattle.replay_filter.proofs.filters.call_i16.Statement.{statement}
-use Rattle.replay_filter.proofs.filters.call_i16.Tie as tie
+use Rattle.program_replay_filter.proofs.filters.call_i16.Statement.{statement}
+use Rattle.program_replay_filter.proofs.filters.call_i16.Tie as tie
 
 slice-aggregate-heard-i16 : tie.Need-slice-aggregate-heard-i16
 slice-aggregate-heard-i16 c =

@@ -1,10 +1,10 @@
--- `replay_filter::filters::call_into` is safe: the part that is lent is as long as the case says. Assumes nothing.
+-- `program_replay_filter::filters::call_into` is safe: the part that is lent is as long as the case says. Assumes nothing.
 use mathlib.Core.Path.{sym}
 use lib.Seq.{length-take-le}
 use denote.Ref.{now}
 use borrow.Author.Needs.{needs}
-use Rattle.replay_filter.proofs.filters.call_into.Statement.{statement}
-use Rattle.replay_filter.proofs.filters.call_into.Tie as tie
+use Rattle.program_replay_filter.proofs.filters.call_into.Statement.{statement}
+use Rattle.program_replay_filter.proofs.filters.call_into.Tie as tie
 
 slice-aggregate-call-mapped : tie.Need-slice-aggregate-call-mapped
 slice-aggregate-call-mapped c =

@@ -1,10 +1,10 @@
--- `replay_filter::filters::call_mapped` is safe: the part of the map that is lent is as long as the case says. Assumes nothing.
+-- `program_replay_filter::filters::call_mapped` is safe: the part of the map that is lent is as long as the case says. Assumes nothing.
 use mathlib.Core.List.{[], _∷_}
 use mathlib.Core.Path.{sym}
 use lib.Seq.{length-take-le}
 use borrow.Author.Needs.{needs}
-use Rattle.replay_filter.proofs.filters.call_mapped.Statement.{statement}
-use Rattle.replay_filter.proofs.filters.call_mapped.Tie as tie
+use Rattle.program_replay_filter.proofs.filters.call_mapped.Statement.{statement}
+use Rattle.program_replay_filter.proofs.filters.call_mapped.Tie as tie
 
 slice-aggregate-call-of-kind : tie.Need-slice-aggregate-call-of-kind
 slice-aggregate-call-of-kind c =

@@ -1,4 +1,4 @@
--- `replay_filter::filters::float_of` is safe: only patterns with the exponent field 255 and digits are NaN's. Assumes nothing.
+-- `program_replay_filter::filters::float_of` is safe: only patterns with the exponent field 255 and digits are NaN's. Assumes nothing.
 use mathlib.Core.Path.{_≡_}
 use mathlib.Core.Bool.{Bool, true, false, not, _&&_}
 use Prim.Native.Nat.{ℕ, _%_, _/_}
@@ -6,8 +6,8 @@ use lib.Dec.{T, eqb}
 use lib.Ieee.{nanBits, binary32}
 use borrow.Author.Tests.{ne-eqb, eq-eqb}
 use borrow.Author.Needs.{needs}
-use Rattle.replay_filter.proofs.filters.float_of.Statement.{statement}
-use Rattle.replay_filter.proofs.filters.float_of.Tie as tie
+use Rattle.program_replay_filter.proofs.filters.float_of.Statement.{statement}
+use Rattle.program_replay_filter.proofs.filters.float_of.Tie as tie
 
 abbrev field : ℕ → ℕ
 field pattern = pattern % 0x8000_0000 / 0x0080_0000

@@ -1,10 +1,10 @@
--- `replay_filter::filters::impulse_part` is safe: the part that is lent is as long as the case says. Assumes nothing.
+-- `program_replay_filter::filters::impulse_part` is safe: the part that is lent is as long as the case says. Assumes nothing.
 use mathlib.Core.Path.{sym}
 use lib.Seq.{length-take-le}
 use denote.Ref.{now}
 use borrow.Author.Needs.{needs}
-use Rattle.replay_filter.proofs.filters.impulse_part.Statement.{statement}
-use Rattle.replay_filter.proofs.filters.impulse_part.Tie as tie
+use Rattle.program_replay_filter.proofs.filters.impulse_part.Statement.{statement}
+use Rattle.program_replay_filter.proofs.filters.impulse_part.Tie as tie
 
 slice-aggregate-heard-i16 : tie.Need-slice-aggregate-heard-i16
 slice-aggregate-heard-i16 c =

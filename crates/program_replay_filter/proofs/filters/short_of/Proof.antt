@@ -1,4 +1,4 @@
--- `replay_filter::filters::short_of` is safe: what is taken from two bytes fits an i16. Assumes nothing.
+-- `program_replay_filter::filters::short_of` is safe: what is taken from two bytes fits an i16. Assumes nothing.
 use mathlib.Core.Bool.{Bool, true, false, cond}
 use Prim.Native.Nat.{ℕ, suc, _-_, _≤_}
 use native.Mathlib.Omega.{arith}
@@ -8,8 +8,8 @@ use mir.Syntax.{w16}
 use mir.Val.{SFits}
 use mir.ValLaws.{toZ-pos}
 use borrow.Author.Needs.{needs}
-use Rattle.replay_filter.proofs.filters.short_of.Statement.{statement}
-use Rattle.replay_filter.proofs.filters.short_of.Tie as tie
+use Rattle.program_replay_filter.proofs.filters.short_of.Statement.{statement}
+use Rattle.program_replay_filter.proofs.filters.short_of.Tie as tie
 
 from-least-fits : (n : ℕ) → n ≤ 32767 → SFits w16 (negsuc 32767 +ℤ pos n)
 from-least-fits n h = go (ltb n 32768)

@@ -1,9 +1,9 @@
--- `replay_records::histograms::all_counted` is safe and ends: each turn is a bin further. Assumes nothing.
+-- `program_replay_records::histograms::all_counted` is safe and ends: each turn is a bin further. Assumes nothing.
 use Prim.Native.Nat.{_-_}
 use lib.ListN.{length}
 use borrow.Author.Needs.{needs}
-use Rattle.replay_records.proofs.histograms.all_counted.Statement.{statement}
-use Rattle.replay_records.proofs.histograms.all_counted.Tie as tie
+use Rattle.program_replay_records.proofs.histograms.all_counted.Statement.{statement}
+use Rattle.program_replay_records.proofs.histograms.all_counted.Tie as tie
 
 abbrev Inv-loop : tie.InvT-loop
 Inv-loop refusal told counters bin₀ bin = Unit

@@ -1,9 +1,9 @@
--- `replay_records::histograms::all_written` is safe and ends: each turn is a place further. Assumes nothing.
+-- `program_replay_records::histograms::all_written` is safe and ends: each turn is a place further. Assumes nothing.
 use Prim.Native.Nat.{_-_}
 use lib.ListN.{length}
 use borrow.Author.Needs.{needs}
-use Rattle.replay_records.proofs.histograms.all_written.Statement.{statement}
-use Rattle.replay_records.proofs.histograms.all_written.Tie as tie
+use Rattle.program_replay_records.proofs.histograms.all_written.Statement.{statement}
+use Rattle.program_replay_records.proofs.histograms.all_written.Tie as tie
 
 abbrev Inv-loop : tie.InvT-loop
 Inv-loop written told out place₀ place = Unit

@@ -1,8 +1,8 @@
--- `replay_records::queues::store_same` is safe and ends: there are ten places. Assumes nothing.
+-- `program_replay_records::queues::store_same` is safe and ends: there are ten places. Assumes nothing.
 use Prim.Native.Nat.{_-_, _≤_}
 use borrow.Author.Needs.{needs}
-use Rattle.replay_records.proofs.queues.store_same.Statement.{statement}
-use Rattle.replay_records.proofs.queues.store_same.Tie as tie
+use Rattle.program_replay_records.proofs.queues.store_same.Statement.{statement}
+use Rattle.program_replay_records.proofs.queues.store_same.Tie as tie
 
 abbrev Inv-loop : tie.InvT-loop
 Inv-loop case store place₀ place = place ≤ 10

@@ -1,4 +1,4 @@
--- `rising_range::all_below` meets its contract. The invariant: where `fine` holds, what the energies from `i` on leave is what those from the start on leave.
+-- `rising::all_below` meets its contract. The invariant: where `fine` holds, what the energies from `i` on leave is what those from the start on leave.
 -- Assumes nothing.
 use mathlib.Core.Path.{_≡_, refl, ap, _∙_}
 use mathlib.Core.Bool.{true}
@@ -7,10 +7,10 @@ use native.Mathlib.Omega.{arith}
 use denote.Ref.{now}
 use lib.Ieee.{nan}
 use lib.ListN.{drop}
-use Rattle.rising_range.specs.Rising.{fromGate}
-use Rattle.rising_range.proofs.Skipping.{skip-all}
-use Rattle.rising_range.proofs.all_below.Statement.{statement}
-use Rattle.rising_range.proofs.all_below.Tie as tie
+use Rattle.range_queues.specs.Rising.{fromGate}
+use Rattle.range_queues.proofs.Skipping.{skip-all}
+use Rattle.range_queues.proofs.rising.all_below.Statement.{statement}
+use Rattle.range_queues.proofs.rising.all_below.Tie as tie
 
 abbrev Inv-loop : tie.InvT-loop
 Inv-loop rising from until gate fine₀ i₀ fine i = (i ≤ until) × (fine ≡ true → fromGate gate (drop i rising) ≡ fromGate gate (drop from rising))

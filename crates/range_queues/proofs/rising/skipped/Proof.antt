@@ -1,4 +1,4 @@
--- `rising_range::skipped` meets its contract. The invariant of both loops: what the energies from `i` on leave is what all leave. Assumes nothing.
+-- `rising::skipped` meets its contract. The invariant of both loops: what the energies from `i` on leave is what all leave. Assumes nothing.
 use mathlib.Core.Path.{_≡_, refl, _∙_}
 use mathlib.Core.List.{List}
 use Prim.Native.Nat.{ℕ, _-_, _≤_}
@@ -6,11 +6,11 @@ use native.Mathlib.Omega.{arith}
 use denote.Ref.{now}
 use lib.Ieee.{Float, nan}
 use lib.ListN.{length, drop}
-use Rattle.rising_range.specs.Rising.{fromGate}
-use Rattle.rising_range.proofs.Skipping.{skip-on, skip-here, skip-end}
+use Rattle.range_queues.specs.Rising.{fromGate}
+use Rattle.range_queues.proofs.Skipping.{skip-on, skip-here, skip-end}
 use borrow.Author.Needs.{needs}
-use Rattle.rising_range.proofs.skipped.Statement.{statement}
-use Rattle.rising_range.proofs.skipped.Tie as tie
+use Rattle.range_queues.proofs.rising.skipped.Statement.{statement}
+use Rattle.range_queues.proofs.rising.skipped.Tie as tie
 
 abbrev Skips : List Float → Float → ℕ → Type 0
 Skips rising gate i = (i ≤ length rising) × (fromGate gate (drop i rising) ≡ fromGate gate rising)

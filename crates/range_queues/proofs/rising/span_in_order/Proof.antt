@@ -1,4 +1,4 @@
--- `rising_range::span_in_order` meets its contract: what is left at the gate, and the energies at its two ranks. Assumes nothing.
+-- `rising::span_in_order` meets its contract: what is left at the gate, and the energies at its two ranks. Assumes nothing.
 use mathlib.Core.Path.{_≡_, refl, sym, ap, _∙_}
 use mathlib.Core.List.{List}
 use Prim.Native.Nat.{_-_}
@@ -6,14 +6,14 @@ use native.Mathlib.Omega.{arith}
 use denote.Ref.{now}
 use lib.Ieee.{Float}
 use lib.ListN.{length, drop, length-drop}
-use Rattle.refusals.specs.Outcome.{says}
+use Rattle.base_refusals.specs.Outcome.{says}
 use Rattle.gate.specs.Totals.{none, energiesFrom}
-use Rattle.spans.specs.Span.{gateEnergy}
-use Rattle.rising_range.specs.Rising.{fromGate, atRanks}
-use Rattle.rising_range.proofs.Skipping.{ranks-none, span-found, gate-of}
+use Rattle.range_ranks.specs.Span.{gateEnergy}
+use Rattle.range_queues.specs.Rising.{fromGate, atRanks}
+use Rattle.range_queues.proofs.Skipping.{ranks-none, span-found, gate-of}
 use borrow.Author.Needs.{needs}
-use Rattle.rising_range.proofs.span_in_order.Statement.{statement}
-use Rattle.rising_range.proofs.span_in_order.Tie as tie
+use Rattle.range_queues.proofs.rising.span_in_order.Statement.{statement}
+use Rattle.range_queues.proofs.rising.span_in_order.Tie as tie
 
 abbrev rising : tie.After-skipped → List Float
 rising k = now (k .before .before .before .before .args .rising)

@@ -1,4 +1,4 @@
--- `rising_range::sum_of` meets its contract. The invariant: the energies from `i` on, on top of what was added, give what all give. Assumes nothing.
+-- `rising::sum_of` meets its contract. The invariant: the energies from `i` on, on top of what was added, give what all give. Assumes nothing.
 use mathlib.Core.Path.{_≡_, refl, sym, ap, _∙_}
 use Prim.Native.Nat.{_-_, _≤_}
 use native.Mathlib.Omega.{arith}
@@ -9,8 +9,8 @@ use Rattle.gate.specs.declared.blocks.Totals.{Totals}
 use Rattle.gate.specs.Totals.{none, energiesFrom}
 use Rattle.gate.proofs.Running.{energies-turn, energies-end}
 use borrow.Author.Needs.{needs}
-use Rattle.rising_range.proofs.sum_of.Statement.{statement}
-use Rattle.rising_range.proofs.sum_of.Tie as tie
+use Rattle.range_queues.proofs.rising.sum_of.Statement.{statement}
+use Rattle.range_queues.proofs.rising.sum_of.Tie as tie
 
 abbrev Inv-loop : tie.InvT-loop
 Inv-loop rising sum₀ i₀ sum i = (i ≤ length rising) × (energiesFrom (record { count = i; sum = sum }) (drop i rising) ≡ energiesFrom none rising)

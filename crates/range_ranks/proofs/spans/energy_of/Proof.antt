@@ -3,10 +3,10 @@ use mathlib.Core.Path.{sym}
 use borrow.Author.Needs.{needs}
 use denote.Ref.{now}
 use lib.Ieee.{div, ofBits}
-use Rattle.tables.proofs.Rules.{energy-past}
-use Rattle.tables.proofs.Taken.{energy-entry}
-use Rattle.spans.proofs.energy_of.Statement.{statement}
-use Rattle.spans.proofs.energy_of.Tie as tie
+use Rattle.bins_tables.proofs.Rules.{energy-past}
+use Rattle.bins_tables.proofs.Taken.{energy-entry}
+use Rattle.range_ranks.proofs.spans.energy_of.Statement.{statement}
+use Rattle.range_ranks.proofs.spans.energy_of.Tie as tie
 
 returns : tie.Need-returns
 returns c = let w = c .before .before in energy-entry (now (w .args .table)) (w .args .bin) (w .pre)

@@ -1,7 +1,7 @@
 -- `spans::gate_energy` meets its contract, by those of what it calls. Assumes nothing.
 use borrow.Author.Needs.{needs}
-use Rattle.spans.proofs.gate_energy.Statement.{statement}
-use Rattle.spans.proofs.gate_energy.Tie as tie
+use Rattle.range_ranks.proofs.spans.gate_energy.Statement.{statement}
+use Rattle.range_ranks.proofs.spans.gate_energy.Tie as tie
 
 returns : tie.Need-returns
 returns c = rw (c .before .nearest-u64-to-f64 .ensures, c .before .before .gate-share .ensures)

@@ -1,4 +1,4 @@
--- `histogram_reader::copy` meets its contract. The invariant: the places copied and those to come are all that there are to copy. Assumes nothing.
+-- `reader::copy` meets its contract. The invariant: the places copied and those to come are all that there are to copy. Assumes nothing.
 use mathlib.Core.Path.{_≡_, refl, sym, _∙_}
 use mathlib.Core.List.{_++_}
 use Prim.Native.Nat.{_-_}
@@ -6,9 +6,9 @@ use native.Mathlib.Omega.{arith}
 use borrow.Author.Needs.{needs}
 use denote.Ref.{now}
 use lib.ListN.{length, length-set, take, drop}
-use Rattle.histogram_reader.proofs.Copies.{copy-turn, copy-end}
-use Rattle.histogram_reader.proofs.copy.Statement.{statement}
-use Rattle.histogram_reader.proofs.copy.Tie as tie
+use Rattle.record_histogram.proofs.Copies.{copy-turn, copy-end}
+use Rattle.record_histogram.proofs.reader.copy.Statement.{statement}
+use Rattle.record_histogram.proofs.reader.copy.Tie as tie
 
 abbrev Inv-loop : tie.InvT-loop
 Inv-loop from to₀ i₀ to i = (length to ≡ length to₀) × (take i to ++ drop i from ≡ from)

@@ -1,8 +1,8 @@
--- `histogram_reader::read_counters` meets its contract: the places have every counter before they are copied. Assumes nothing.
+-- `reader::read_counters` meets its contract: the places have every counter before they are copied. Assumes nothing.
 use mathlib.Core.Path.{_∙_}
 use borrow.Author.Needs.{needs}
-use Rattle.histogram_reader.proofs.read_counters.Statement.{statement}
-use Rattle.histogram_reader.proofs.read_counters.Tie as tie
+use Rattle.record_histogram.proofs.reader.read_counters.Statement.{statement}
+use Rattle.record_histogram.proofs.reader.read_counters.Tie as tie
 
 returns : tie.Need-returns
 returns c =

@@ -1,21 +1,21 @@
--- `histogram_reader::read_histogram` meets its contract: bytes that pass the frame are as many as a record has, so every counter has its four. Assumes nothing.
+-- `reader::read_histogram` meets its contract: bytes that pass the frame are as many as a record has, so every counter has its four. Assumes nothing.
 use mathlib.Core.Path.{_≡_, refl, sym, ap, _∙_}
 use borrow.Author.Needs.{needs}
 use borrow.Author.Tests.{ne-eqb}
 use denote.Ref.{now}
 use lib.ListN.{length}
-use Rattle.refusals.specs.Outcome.{went, done}
-use Rattle.refusals.specs.Answer.{said}
-use Rattle.refusals.specs.Rows.{numberOf}
-use Rattle.fields.specs.declared.Order.{Order}
-use Rattle.histogram_bins.specs.Bin.{bins}
-use Rattle.layout.specs.declared.Kind.the-variants.{Histogram}
-use Rattle.layout.specs.Layout.{frameRows, frameOf, bodyIn, numbersIn}
-use Rattle.refusals.proofs.Behind.{passed, stopped-said}
-use Rattle.histogram_reader.specs.Record.{countersIn, storeRows, readHistogram}
-use Rattle.histogram_reader.proofs.Cases.{framed-length, read-behind, read-went}
-use Rattle.histogram_reader.proofs.read_histogram.Statement.{statement}
-use Rattle.histogram_reader.proofs.read_histogram.Tie as tie
+use Rattle.base_refusals.specs.Outcome.{went, done}
+use Rattle.base_refusals.specs.Answer.{said}
+use Rattle.base_refusals.specs.Rows.{numberOf}
+use Rattle.base_fields.specs.declared.Order.{Order}
+use Rattle.bins.specs.Bin.{bins}
+use Rattle.record_layout.specs.declared.Kind.the-variants.{Histogram}
+use Rattle.record_layout.specs.Layout.{frameRows, frameOf, bodyIn, numbersIn}
+use Rattle.base_refusals.proofs.Behind.{passed, stopped-said}
+use Rattle.record_histogram.specs.Record.{countersIn, storeRows, readHistogram}
+use Rattle.record_histogram.proofs.Cases.{framed-length, read-behind, read-went}
+use Rattle.record_histogram.proofs.reader.read_histogram.Statement.{statement}
+use Rattle.record_histogram.proofs.reader.read_histogram.Tie as tie
 
 past-frame : (c : tie.After-enum-told) → numberOf (frameRows Histogram (now (c .before .before .before .before .before .args .bytes))) ≡ 0
 unfolding frameOf

@@ -1,4 +1,4 @@
--- `histogram_reader::read_words` meets its contract. The invariant: the words read and those in the bytes that are left are all of them. Assumes nothing.
+-- `reader::read_words` meets its contract. The invariant: the words read and those in the bytes that are left are all of them. Assumes nothing.
 use mathlib.Core.Path.{_≡_, refl, sym, _∙_}
 use mathlib.Core.List.{_++_}
 use Prim.Native.Nat.{_+_, _-_, _*_, _≤_}
@@ -6,10 +6,10 @@ use native.Mathlib.Omega.{arith}
 use borrow.Author.Needs.{needs}
 use denote.Ref.{now}
 use lib.ListN.{length, length-set, take, drop}
-use Rattle.layout.specs.Layout.{numbersIn}
-use Rattle.layout.proofs.Turns.{all-left, read-turn, read-end}
-use Rattle.histogram_reader.proofs.read_words.Statement.{statement}
-use Rattle.histogram_reader.proofs.read_words.Tie as tie
+use Rattle.record_layout.specs.Layout.{numbersIn}
+use Rattle.record_layout.proofs.Turns.{all-left, read-turn, read-end}
+use Rattle.record_histogram.proofs.reader.read_words.Statement.{statement}
+use Rattle.record_histogram.proofs.reader.read_words.Tie as tie
 
 abbrev Inv-loop : tie.InvT-loop
 Inv-loop order bytes at words₀ i₀ words i = (i ≤ length words₀) × (length words ≡ length words₀) × (take i words ++ numbersIn order 4 (length words - i) (drop (at + 4 * i) bytes) ≡ numbersIn order 4 (length words₀) (drop at bytes))

@@ -1,13 +1,13 @@
--- `histogram_reader::word_at` meets its contract: the field lies in the part that is lent. Assumes nothing.
+-- `reader::word_at` meets its contract: the field lies in the part that is lent. Assumes nothing.
 use mathlib.Core.Path.{_∙_}
 use Prim.Native.Nat.{_+_, _-_}
 use native.Mathlib.Omega.{arith}
 use borrow.Author.Needs.{needs}
 use denote.Ref.{now}
 use lib.ListN.{drop}
-use Rattle.fields.proofs.Orders.{number-within}
-use Rattle.histogram_reader.proofs.word_at.Statement.{statement}
-use Rattle.histogram_reader.proofs.word_at.Tie as tie
+use Rattle.base_fields.proofs.Orders.{number-within}
+use Rattle.record_histogram.proofs.reader.word_at.Statement.{statement}
+use Rattle.record_histogram.proofs.reader.word_at.Tie as tie
 
 returns : tie.Need-returns
 returns c =

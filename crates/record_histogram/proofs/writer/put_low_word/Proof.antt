@@ -1,11 +1,11 @@
--- `histogram_writer::put_low_word` meets its contract. Assumes nothing.
+-- `writer::put_low_word` meets its contract. Assumes nothing.
 use native.Mathlib.Omega.{arith}
 use borrow.Author.Needs.{needs}
 use denote.Ref.{now}
 use lib.ListN.{length-set}
-use Rattle.histogram_writer.proofs.Words.{four-stores}
-use Rattle.histogram_writer.proofs.put_low_word.Statement.{statement}
-use Rattle.histogram_writer.proofs.put_low_word.Tie as tie
+use Rattle.record_histogram.proofs.Words.{four-stores}
+use Rattle.record_histogram.proofs.writer.put_low_word.Statement.{statement}
+use Rattle.record_histogram.proofs.writer.put_low_word.Tie as tie
 
 slice-write-out-2 : tie.Need-slice-write-out-2
 slice-write-out-2 c = simp length-set (omega arith)

@@ -1,13 +1,13 @@
--- `histogram_writer::put_word` meets its contract, order by order. Assumes nothing.
+-- `writer::put_word` meets its contract, order by order. Assumes nothing.
 use mathlib.Core.Path.{sym, ap, _∙_}
 use borrow.Author.Needs.{needs}
 use denote.Ref.{now}
 use lib.Seq.{sets}
-use Rattle.fields.specs.declared.Order.{Order}
-use Rattle.fields.specs.Field.{bytesOf}
-use Rattle.fields.proofs.Orders.{low-first}
-use Rattle.histogram_writer.proofs.put_word.Statement.{statement}
-use Rattle.histogram_writer.proofs.put_word.Tie as tie
+use Rattle.base_fields.specs.declared.Order.{Order}
+use Rattle.base_fields.specs.Field.{bytesOf}
+use Rattle.base_fields.proofs.Orders.{low-first}
+use Rattle.record_histogram.proofs.writer.put_word.Statement.{statement}
+use Rattle.record_histogram.proofs.writer.put_word.Tie as tie
 
 returns : tie.Need-returns
 returns c =

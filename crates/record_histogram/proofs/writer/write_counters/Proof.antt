@@ -1,4 +1,4 @@
--- `histogram_writer::write_counters` meets its contract. The invariant: the places filled and the counters to come are all the counters, so the places have
+-- `writer::write_counters` meets its contract. The invariant: the places filled and the counters to come are all the counters, so the places have
 -- every counter before they are written. Assumes nothing.
 use mathlib.Core.Path.{_≡_, refl, sym, ap, _∙_}
 use mathlib.Core.List.{List, _++_}
@@ -8,11 +8,11 @@ use borrow.Author.Needs.{needs}
 use denote.Ref.{now}
 use lib.ListN.{length, length-set, take, drop}
 use lib.Seq.{sets}
-use Rattle.histogram_bins.specs.Bin.{bins}
-use Rattle.layout.specs.Layout.{allBytes}
-use Rattle.histogram_reader.proofs.Copies.{copy-turn, copy-end}
-use Rattle.histogram_writer.proofs.write_counters.Statement.{statement}
-use Rattle.histogram_writer.proofs.write_counters.Tie as tie
+use Rattle.bins.specs.Bin.{bins}
+use Rattle.record_layout.specs.Layout.{allBytes}
+use Rattle.record_histogram.proofs.Copies.{copy-turn, copy-end}
+use Rattle.record_histogram.proofs.writer.write_counters.Statement.{statement}
+use Rattle.record_histogram.proofs.writer.write_counters.Tie as tie
 
 abbrev Inv-loop : tie.InvT-loop
 Inv-loop order counters out places₀ i₀ places i = (length places ≡ bins) × (take i places ++ drop i counters ≡ counters)

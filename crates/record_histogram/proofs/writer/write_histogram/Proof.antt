@@ -1,4 +1,4 @@
--- `histogram_writer::write_histogram` meets its contract: a head and then the counters' bytes, in an output with room for both. Assumes nothing.
+-- `writer::write_histogram` meets its contract: a head and then the counters' bytes, in an output with room for both. Assumes nothing.
 use mathlib.Core.Path.{refl, sym, ap, _∙_}
 use mathlib.Core.List.{List}
 use Prim.Native.Nat.{ℕ}
@@ -8,16 +8,16 @@ use borrow.Author.Tests.{eq-eqb, ne-eqb, lt-ltb, le-ltb}
 use denote.Ref.{now}
 use lib.ListN.{length}
 use lib.Seq.{sets}
-use Rattle.refusals.specs.Outcome.{says}
-use Rattle.fields.specs.declared.Order.{Order}
-use Rattle.histogram_bins.specs.Bin.{bins}
-use Rattle.layout.specs.declared.Kind.the-variants.{Histogram}
-use Rattle.layout.specs.Layout.{headWidth, orderOf, allBytes}
-use Rattle.histogram_reader.specs.Record.{countWidth}
-use Rattle.histogram_writer.specs.Writing.{histogramRecord, writeHistogram}
-use Rattle.histogram_writer.proofs.Cases.{whole-length, histogram-put}
-use Rattle.histogram_writer.proofs.write_histogram.Statement.{statement}
-use Rattle.histogram_writer.proofs.write_histogram.Tie as tie
+use Rattle.base_refusals.specs.Outcome.{says}
+use Rattle.base_fields.specs.declared.Order.{Order}
+use Rattle.bins.specs.Bin.{bins}
+use Rattle.record_layout.specs.declared.Kind.the-variants.{Histogram}
+use Rattle.record_layout.specs.Layout.{headWidth, orderOf, allBytes}
+use Rattle.record_histogram.specs.Record.{countWidth}
+use Rattle.record_histogram.specs.Writing.{histogramRecord, writeHistogram}
+use Rattle.record_histogram.proofs.WriterCases.{whole-length, histogram-put}
+use Rattle.record_histogram.proofs.writer.write_histogram.Statement.{statement}
+use Rattle.record_histogram.proofs.writer.write_histogram.Tie as tie
 
 returns : tie.Need-returns
 unfolding writeHistogram

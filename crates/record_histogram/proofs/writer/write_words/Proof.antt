@@ -1,4 +1,4 @@
--- `histogram_writer::write_words` meets its contract. The invariant: what is left to write gives what all of it gives. Assumes nothing.
+-- `writer::write_words` meets its contract. The invariant: what is left to write gives what all of it gives. Assumes nothing.
 use mathlib.Core.Path.{_≡_, refl, sym, ap, _∙_}
 use mathlib.Core.List.{List}
 use Prim.Native.Nat.{ℕ, _+_, _-_, _*_, _≤_}
@@ -7,11 +7,11 @@ use borrow.Author.Needs.{needs}
 use denote.Ref.{now}
 use lib.ListN.{length, getD, drop}
 use lib.Seq.{sets, length-sets}
-use Rattle.fields.specs.Field.{bytesOf}
-use Rattle.layout.specs.Layout.{allBytes}
-use Rattle.layout.proofs.Turns.{write-turn, write-end}
-use Rattle.histogram_writer.proofs.write_words.Statement.{statement}
-use Rattle.histogram_writer.proofs.write_words.Tie as tie
+use Rattle.base_fields.specs.Field.{bytesOf}
+use Rattle.record_layout.specs.Layout.{allBytes}
+use Rattle.record_layout.proofs.Turns.{write-turn, write-end}
+use Rattle.record_histogram.proofs.writer.write_words.Statement.{statement}
+use Rattle.record_histogram.proofs.writer.write_words.Tie as tie
 
 abbrev Inv-loop : tie.InvT-loop
 Inv-loop order words out₀ at i₀ out i = (i ≤ length words) × (length out ≡ length out₀) × (sets out (at + 4 * i) (allBytes order 4 (drop i words)) ≡ sets out₀ at (allBytes order 4 words))

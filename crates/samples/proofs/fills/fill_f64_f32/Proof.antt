@@ -6,10 +6,10 @@ use native.Mathlib.Nat.{min-le-left, min-le-right}
 use native.Mathlib.Omega.{arith}
 use lib.ListN.{length}
 use lib.Ieee.{nan}
 use Rattle.samples.specs.Sample.{sampleOfF32}
-use Rattle.fills.proofs.Fill.{Filling, starts, turn, ends, at-shorter}
-use Rattle.fills.proofs.fill_f64_f32.Statement.{statement}
-use Rattle.fills.proofs.fill_f64_f32.Tie as tie
+use Rattle.samples.proofs.Fill.{Filling, starts, turn, ends, at-shorter}
+use Rattle.samples.proofs.fills.fill_f64_f32.Statement.{statement}
+use Rattle.samples.proofs.fills.fill_f64_f32.Tie as tie
 
 abbrev Inv-loop : tie.InvT-loop
 Inv-loop block₀ from n i₀ block i = (n ≡ min (length block₀) (length from)) × Filling sampleOfF32 from block₀ block i

@@ -8,10 +8,10 @@ use lib.ListN.{length, getD}
 use lib.IntN.{pos}
 use mir.Syntax.{w16}
 use mir.ValLaws.{toZ-ofZ}
 use Rattle.samples.specs.Sample.{sampleOf16}
-use Rattle.fills.proofs.Fill.{Filling, starts, turn, ends, at-shorter}
-use Rattle.fills.proofs.fill_f64_i16.Statement.{statement}
-use Rattle.fills.proofs.fill_f64_i16.Tie as tie
+use Rattle.samples.proofs.Fill.{Filling, starts, turn, ends, at-shorter}
+use Rattle.samples.proofs.fills.fill_f64_i16.Statement.{statement}
+use Rattle.samples.proofs.fills.fill_f64_i16.Tie as tie
 
 abbrev Inv-loop : tie.InvT-loop
 Inv-loop block₀ from n i₀ block i = (n ≡ min (length block₀) (length from)) × Filling sampleOf16 from block₀ block i

@@ -1,10 +1,10 @@
 -- `sources::fill` meets its contract: the part of the samples from `at` on is what is left of the floats that they become. Assumes nothing.
 use borrow.Author.Needs.{needs}
 use mathlib.Core.Path.{sym, _∙_}
 use Rattle.samples.specs.Sample.{sampleOf16, sampleOfF32}
-use Rattle.sources.proofs.ByKind.{source-floats, source-ints, rest-from, none-from}
-use Rattle.sources.proofs.fill.Statement.{statement}
-use Rattle.sources.proofs.fill.Tie as tie
+use Rattle.samples.proofs.Chosen.{source-floats, source-ints, rest-from, none-from}
+use Rattle.samples.proofs.sources.fill.Statement.{statement}
+use Rattle.samples.proofs.sources.fill.Tie as tie
 
 returns : tie.Need-returns
 returns c =

@@ -1,10 +1,10 @@
 -- `sources::size_of` meets its contract: a sample becomes one float, of either kind. Assumes nothing.
 use mathlib.Core.Path.{sym, ap, _∙_}
 use lib.ListN.{length, length-map}
 use Rattle.samples.specs.Sample.{sampleOf16, sampleOfF32}
-use Rattle.sources.proofs.ByKind.{source-floats, source-ints}
-use Rattle.sources.proofs.size_of.Statement.{statement}
-use Rattle.sources.proofs.size_of.Tie as tie
+use Rattle.samples.proofs.Chosen.{source-floats, source-ints}
+use Rattle.samples.proofs.sources.size_of.Statement.{statement}
+use Rattle.samples.proofs.sources.size_of.Tie as tie
 
 returns : tie.Need-returns
 returns c =

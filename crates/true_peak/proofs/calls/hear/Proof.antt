@@ -1,4 +1,4 @@
--- `true_peaks::hear` meets its contract: where there are no integers the floats are the samples as they stand, and else the integers are. Assumes nothing.
+-- `calls::hear` meets its contract: where there are no integers the floats are the samples as they stand, and else the integers are. Assumes nothing.
 use borrow.Author.Needs.{needs}
 use Prim.Native.Nat.{ℕ, _+_, _-_, _≤_}
 use native.Mathlib.Omega.{arith}
@@ -8,16 +8,16 @@ use lib.ListN.{length, length-map, length-drop, take, drop}
 use lib.Seq.{length-take-le}
 use lib.Ieee.{Float}
 use Rattle.samples.specs.Sample.{sampleOf16}
-use Rattle.refusals.specs.Rows.{numberOf}
-use Rattle.calls.specs.Calls.{frameRows}
-use Rattle.sources.specs.Source.{sourceOf}
-use Rattle.sources.proofs.ByKind.{source-floats, source-ints}
-use Rattle.interp.specs.Interp.{kindOf}
+use Rattle.base_refusals.specs.Rows.{numberOf}
+use Rattle.filter_checks.specs.Calls.{frameRows}
+use Rattle.samples.specs.Source.{sourceOf}
+use Rattle.samples.proofs.Chosen.{source-floats, source-ints}
+use Rattle.true_peak_interp.specs.Interp.{kindOf}
 use Rattle.true_peak_state.specs.TruePeak.{measured}
 use Rattle.samples.proofs.ByKind.{as-they-stand}
-use Rattle.true_peaks.proofs.Turns.{went-on}
-use Rattle.true_peaks.proofs.hear.Statement.{statement}
-use Rattle.true_peaks.proofs.hear.Tie as tie
+use Rattle.true_peak.proofs.Turns.{went-on}
+use Rattle.true_peak.proofs.calls.hear.Statement.{statement}
+use Rattle.true_peak.proofs.calls.hear.Tie as tie
 
 -- the floats are the samples
 stand : (c : tie.Then1) → let a = c .before .before .args in sourceOf (a .ints .now) (a .floats .now) ≡ a .floats .now

@@ -1,4 +1,4 @@
--- `true_peaks::hear_ints` meets its contract: the block's first places hold the samples, whole frames that the true peak does not refuse. Assumes nothing.
+-- `calls::hear_ints` meets its contract: the block's first places hold the samples, whole frames that the true peak does not refuse. Assumes nothing.
 use borrow.Author.Needs.{needs}
 use native.Mathlib.Omega.{arith}
 use mathlib.Core.Path.{_≡_, sym, ap, subst, _∙_}
@@ -7,13 +7,13 @@ use Prim.Native.Nat.{ℕ}
 use lib.ListN.{length, take}
 use lib.Seq.{length-take-le}
 use lib.Ieee.{Float}
-use Rattle.refusals.specs.Rows.{numberOf}
-use Rattle.calls.specs.Calls.{frameRows}
-use Rattle.interp.specs.Interp.{kindOf}
+use Rattle.base_refusals.specs.Rows.{numberOf}
+use Rattle.filter_checks.specs.Calls.{frameRows}
+use Rattle.true_peak_interp.specs.Interp.{kindOf}
 use Rattle.true_peak_state.specs.TruePeak.{measured}
-use Rattle.true_peaks.proofs.Turns.{block-holds, went-on}
-use Rattle.true_peaks.proofs.hear_ints.Statement.{statement}
-use Rattle.true_peaks.proofs.hear_ints.Tie as tie
+use Rattle.true_peak.proofs.Turns.{block-holds, went-on}
+use Rattle.true_peak.proofs.calls.hear_ints.Statement.{statement}
+use Rattle.true_peak.proofs.calls.hear_ints.Tie as tie
 
 -- the block has room for the samples
 long : (c : tie.After-fill-f32-i16) → let s = c .before .before .before in length (take (s .args .size) (c .fill-f32-i16 .last .0)) ≡ s .args .size

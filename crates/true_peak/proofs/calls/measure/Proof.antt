@@ -1,4 +1,4 @@
--- `true_peaks::measure` meets its contract: the samples left, from the state as it is, give what all of them give. Assumes nothing.
+-- `calls::measure` meets its contract: the samples left, from the state as it is, give what all of them give. Assumes nothing.
 use borrow.Author.Needs.{needs}
 use Prim.Native.Nat.{ℕ, _-_, _*_, _/_, _^_, _≤_, _<_}
 use native.Mathlib.Nat.{zero-mul, div-le-self, mul-le-mul-right}
@@ -7,18 +7,18 @@ use mathlib.Core.Path.{_≡_, ap, _∙_}
 use mathlib.Core.List.{List}
 use lib.Ieee.{Float}
 use lib.ListN.{length, drop}
-use Rattle.sources.specs.Source.{sourceOf}
-use Rattle.sources.proofs.ByKind.{source-below}
-use Rattle.calls.proofs.Checking.{Framed, frames-fine}
-use Rattle.sources.proofs.Cutting.{Step, step-of}
-use Rattle.interp.specs.Interp.{kindOf}
+use Rattle.samples.specs.Source.{sourceOf}
+use Rattle.samples.proofs.Chosen.{source-below}
+use Rattle.filter_checks.proofs.Checking.{frames-fine}
+use Rattle.samples.proofs.Cutting.{Step, step-of, Framed}
+use Rattle.true_peak_interp.specs.Interp.{kindOf}
 use Rattle.true_peak_state.specs.declared.TruePeak.{TruePeak}
 use Rattle.true_peak_state.specs.TruePeak.{measured}
 use Rattle.true_peak_state.proofs.Independence.{Sized}
-use Rattle.true_peaks.specs.Inner.{places}
-use Rattle.true_peaks.proofs.Turns.{whole, turn, turn-sized, last}
-use Rattle.true_peaks.proofs.measure.Statement.{statement}
-use Rattle.true_peaks.proofs.measure.Tie as tie
+use Rattle.true_peak.specs.CallsInner.{places}
+use Rattle.true_peak.proofs.Turns.{whole, turn, turn-sized, last}
+use Rattle.true_peak.proofs.calls.measure.Statement.{statement}
+use Rattle.true_peak.proofs.calls.measure.Tie as tie
 
 abbrev Inv-loop : tie.InvT-loop
 Inv-loop rate channels ints floats frames most w₀ done₀ w done =

@@ -1,9 +1,9 @@
--- `true_peaks::most` meets its contract: at eight channels a run takes half a block. Assumes nothing.
+-- `calls::most` meets its contract: at eight channels a run takes half a block. Assumes nothing.
 use borrow.Author.Needs.{needs}
 use native.Mathlib.Omega.{arith}
-use Rattle.true_peaks.proofs.Turns.{some-runs, few-runs, runs-fit}
-use Rattle.true_peaks.proofs.most.Statement.{statement}
-use Rattle.true_peaks.proofs.most.Tie as tie
+use Rattle.true_peak.proofs.Turns.{some-runs, few-runs, runs-fit}
+use Rattle.true_peak.proofs.calls.most.Statement.{statement}
+use Rattle.true_peak.proofs.calls.most.Tie as tie
 
 mul-result-2 : tie.Need-mul-result-2
 mul-result-2 c = omega (arith, few-runs (c .args .channels))

@@ -1,9 +1,9 @@
--- `interp::Interp::coefficients` meets its contract: each factor's constant is its table. Assumes nothing.
+-- `true_peak_interp::Interp::coefficients` meets its contract: each factor's constant is its table. Assumes nothing.
 use borrow.Author.Tests.{eq-eqb, ne-eqb}
 use lib.Ieee.{div, ofBits}
-use Rattle.interp.specs.Taps.{fourfold, twofold}
-use Rattle.interp.proofs.Interp.coefficients.Statement.{statement}
-use Rattle.interp.proofs.Interp.coefficients.Tie as tie
+use Rattle.true_peak_interp.specs.Taps.{fourfold, twofold}
+use Rattle.true_peak_interp.proofs.Interp.coefficients.Statement.{statement}
+use Rattle.true_peak_interp.proofs.Interp.coefficients.Tie as tie
 
 returns : tie.Need-returns
 unfolding fourfold ofBits

@@ -1,10 +1,10 @@
--- `interp::Interp::of_rate` meets its contract: each return is the case that the two edges leave. Assumes nothing.
+-- `true_peak_interp::Interp::of_rate` meets its contract: each return is the case that the two edges leave. Assumes nothing.
 use borrow.Author.Needs.{needs}
 use borrow.Author.Tests.{lt-ltb, le-ltb}
 use mathlib.Core.Path.{ap}
-use Rattle.interp.specs.Interp.{upsampled}
-use Rattle.interp.proofs.Interp.of_rate.Statement.{statement}
-use Rattle.interp.proofs.Interp.of_rate.Tie as tie
+use Rattle.true_peak_interp.specs.Interp.{upsampled}
+use Rattle.true_peak_interp.proofs.Interp.of_rate.Statement.{statement}
+use Rattle.true_peak_interp.proofs.Interp.of_rate.Tie as tie
 
 returns : tie.Need-returns
 returns c = simp (lt-ltb _ _ (c .before .if1 .taken)) (ap upsampled (c .fourfold .ensures))

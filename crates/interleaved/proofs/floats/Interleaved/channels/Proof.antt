@@ -1,13 +1,13 @@
--- `interleaved_floats::Interleaved::channels` meets its contract: the walk of `channels` at its kind. Assumes nothing.
+-- `floats::Interleaved::channels` meets its contract: the walk of `channels` at its kind. Assumes nothing.
 use contract.Running.{givenOf, tables, tablesOf}
 use denote.Triple.Spec.{tripleOf}
 use denote.Triple.Table.{entered}
-use Rattle.interleaved_floats.proofs.Floats.{floats}
+use Rattle.interleaved.proofs.OfFloats.{floats}
 use Rattle.interleaved_walks.proofs.Walks.Channels.{meets}
-use Rattle.interleaved_floats.proofs.Interleaved.channels.Key.{name as #channels}
-use Rattle.interleaved_floats.proofs.Interleaved.channels as channels
-use Rattle.interleaved_floats.proofs.Interleaved.channels.Statement as stated
-use Rattle.interleaved_floats.proofs.Interleaved.channels.Code as code
+use Rattle.interleaved.proofs.floats.Interleaved.channels.Key.{name as #channels}
+use Rattle.interleaved.proofs.floats.Interleaved.channels as channels
+use Rattle.interleaved.proofs.floats.Interleaved.channels.Statement as stated
+use Rattle.interleaved.proofs.floats.Interleaved.channels.Code as code
 
 pub channels-spec : {M : Type 1} → stated.statement M
 unfolding code.routine tablesOf

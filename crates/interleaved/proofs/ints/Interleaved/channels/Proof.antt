@@ -1,13 +1,13 @@
--- `interleaved_ints::Interleaved::channels` meets its contract: the walk of `channels` at its kind. Assumes nothing.
+-- `ints::Interleaved::channels` meets its contract: the walk of `channels` at its kind. Assumes nothing.
 use contract.Running.{givenOf, tables, tablesOf}
 use denote.Triple.Spec.{tripleOf}
 use denote.Triple.Table.{entered}
-use Rattle.interleaved_ints.proofs.Ints.{ints}
+use Rattle.interleaved.proofs.OfInts.{ints}
 use Rattle.interleaved_walks.proofs.Walks.Channels.{meets}
-use Rattle.interleaved_ints.proofs.Interleaved.channels.Key.{name as #channels}
-use Rattle.interleaved_ints.proofs.Interleaved.channels as channels
-use Rattle.interleaved_ints.proofs.Interleaved.channels.Statement as stated
-use Rattle.interleaved_ints.proofs.Interleaved.channels.Code as code
+use Rattle.interleaved.proofs.ints.Interleaved.channels.Key.{name as #channels}
+use Rattle.interleaved.proofs.ints.Interleaved.channels as channels
+use Rattle.interleaved.proofs.ints.Interleaved.channels.Statement as stated
+use Rattle.interleaved.proofs.ints.Interleaved.channels.Code as code
 
 pub channels-spec : {M : Type 1} → stated.statement M
 unfolding code.routine tablesOf

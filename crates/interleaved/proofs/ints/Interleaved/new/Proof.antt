@@ -1,13 +1,13 @@
--- `interleaved_ints::Interleaved::new` meets its contract: the walk of `new` at its kind. Assumes nothing.
+-- `ints::Interleaved::new` meets its contract: the walk of `new` at its kind. Assumes nothing.
 use contract.Running.{givenOf, tables, tablesOf}
 use denote.Triple.Spec.{tripleOf}
 use denote.Triple.Table.{entered}
-use Rattle.interleaved_ints.proofs.Ints.{ints}
+use Rattle.interleaved.proofs.OfInts.{ints}
 use Rattle.interleaved_walks.proofs.Walks.New.{meets}
-use Rattle.interleaved_ints.proofs.Interleaved.new.Key.{name as #new}
-use Rattle.interleaved_ints.proofs.Interleaved.new as new
-use Rattle.interleaved_ints.proofs.Interleaved.new.Statement as stated
-use Rattle.interleaved_ints.proofs.Interleaved.new.Code as code
+use Rattle.interleaved.proofs.ints.Interleaved.new.Key.{name as #new}
+use Rattle.interleaved.proofs.ints.Interleaved.new as new
+use Rattle.interleaved.proofs.ints.Interleaved.new.Statement as stated
+use Rattle.interleaved.proofs.ints.Interleaved.new.Code as code
 
 pub new-spec : {M : Type 1} → stated.statement M
 unfolding code.routine tablesOf

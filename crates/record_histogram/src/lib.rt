@@ -1,0 +1,3 @@
+// A histogram's record: read into lent counters, and written from them.
+pub mod reader;
+pub mod writer;
