@@ -53,5 +53,5 @@ sound-spec =
     (search needs)
     part-sound-queue-end
     (search needs)
-    (search needs)
+    (λ c. search needs)
     returns-2)
