@@ -20,7 +20,7 @@ use Rattle.history_queue.specs.Queue.{longest, over, started, heldOf}
 use Rattle.history_queue.specs.Adding.{fedTo, taken}
 use Rattle.history_set.specs.Set.{History, counted, listed}
 use Rattle.gate.specs.declared.blocks.Totals.{Totals}
-use Rattle.gate.specs.Relative.{Level, loudness, energy as energyOf}
+use Rattle.gate.specs.Relative.{Limit, loudness, energy as energyOf}
 use Rattle.acceptance_meaning.specs.Levels.{absoluteGate, noEnergy, added, mean, tenLuBelow}
 
 -- whether a gate lets a block of an energy through
@@ -91,12 +91,12 @@ abbrev pub measuredEnergy : Rule → List (List Float) → Question Float
 measuredEnergy rule material = meanOfThese (measured rule material)
 
 -- the relative gate of one history's material, as 01 answers it: -70.0 LUFS where no block is above the absolute gate
-abbrev pub gateLevel : List Float → Question Level
+abbrev pub gateLevel : List Float → Question Limit
 gateLevel blocks =
     cond (eqb (length blocks) 0) (answers (loudness (round binary64 true 70 1)))
     (cond (isNan (added noEnergy blocks)) (refused NAN) (answers (energyOf (tenLuBelow (mean (length blocks) (added noEnergy blocks))))))
 
-unfoldable pub measuredGate : Rule → List Float → Question Level
+unfoldable pub measuredGate : Rule → List Float → Question Limit
 measuredGate rule material = gateLevel (through rule absoluteGate material)
 
 -- ---- histories of either kind, with what they hold

@@ -25,9 +25,9 @@ use Rattle.gate.specs.declared.threshold.Threshold.{Threshold}
 use Rattle.gate.specs.declared.threshold.Threshold.the-variants.{Loudness, Energy as Energy-at, Refused as Refused-threshold}
 use Rattle.gate.specs.Gate.{gateOf, said as saidGated}
 use Rattle.gate.specs.GatedEnergy.{gatedEnergyOf, said as saidEnergy}
-use Rattle.gate.specs.Relative.{Level as LevelOf, loudness, energy as energy-of, relativeOf, said as saidThreshold}
-use Rattle.range_ranks.specs.declared.spans.Range.{Range}
-use Rattle.range_ranks.specs.declared.spans.Range.the-variants.{Found, Nothing, NotANumber, Refused as Refused-range}
+use Rattle.gate.specs.Relative.{Limit, loudness, energy as energy-of, relativeOf, said as saidThreshold}
+use Rattle.range_ranks.specs.declared.spans.Span.{Span as SpanAnswer}
+use Rattle.range_ranks.specs.declared.spans.Span.the-variants.{Found, Nothing, NotANumber, Refused as Refused-range}
 use Rattle.range_ranks.specs.Span.{Span, found, nothing, notANumber}
 use Rattle.range_ranks.specs.Span.{said as saidRange}
 use Rattle.range_histograms.specs.Counted.{histogramRange}
@@ -77,7 +77,7 @@ unfolding energy-back
 energy-there (Of e) = refl
 energy-there (Refused-energy n) = refl
 
-threshold-back : Said LevelOf → Threshold
+threshold-back : Said Limit → Threshold
 threshold-back (says (loudness l)) = Loudness l
 threshold-back (says (energy-of e)) = Energy-at e
 threshold-back (refusal n) = Refused-threshold n
@@ -88,13 +88,13 @@ threshold-there (Loudness l) = refl
 threshold-there (Energy-at e) = refl
 threshold-there (Refused-threshold n) = refl
 
-range-back : Said Span → Range
+range-back : Said Span → SpanAnswer
 range-back (says (found low high)) = Found low high
 range-back (says nothing) = Nothing
 range-back (says notANumber) = NotANumber
 range-back (refusal n) = Refused-range n
 
-range-there : (a : Range) → range-back (saidRange a) ≡ a
+range-there : (a : SpanAnswer) → range-back (saidRange a) ≡ a
 unfolding range-back
 range-there (Found low high) = refl
 range-there Nothing = refl

@@ -98,12 +98,12 @@ pub signal-calls : SignalCalls
 signal-calls = record {
   process = processes;
   seed = seeds;
-  truePeak = λ rate block t. refused-by (peakRows block) _ done;
-  seedTruePeak = λ rate block t. refused-by (peakRows block) _ done;
+  truePeak = λ rate source t. refused-by (peakRows source) _ done;
+  seedTruePeak = λ rate source t. refused-by (peakRows source) _ done;
   fixedProcess = λ call. fixes Kept said answer-back answer-there (given call) (processed call);
   fixedSeed = λ call. fixes Kept said answer-back answer-there (given call) (seeded call);
-  fixedTruePeak = λ rate block t. fixes TruePeak said answer-back answer-there t (peakProcessed rate block t);
-  fixedSeedTruePeak = λ rate block t. fixes TruePeak said answer-back answer-there t (peakSeeded rate block t);
+  fixedTruePeak = λ rate source t. fixes TruePeak said answer-back answer-there t (peakProcessed rate source t);
+  fixedSeedTruePeak = λ rate source t. fixes TruePeak said answer-back answer-there t (peakSeeded rate source t);
   frames = λ channels samples. refused-by (frameRows channels samples) tt _;
   sample = λ channels samples channel frame. refused-by (frameRows channels (length samples)) tt _;
   processOver = processes-over;

@@ -14,7 +14,7 @@ use Rattle.filter.specs.Call.{Call, given}
 use Rattle.filter.specs.Process.{processRows, processed}
 use Rattle.filter.specs.Seed.{seedRows, seeded}
 use Rattle.true_peak_state.specs.declared.TruePeak.{TruePeak}
-use Rattle.true_peak_state.specs.TruePeak.{Block}
+use Rattle.true_peak_state.specs.TruePeak.{Heard}
 use Rattle.true_peak.specs.TruePeak.{peakRows, processed as peakProcessed, seeded as peakSeeded}
 use Rattle.interleaved_slices.specs.Shown.{framesIn, sampleIn}
 use Rattle.interleaved_slices.specs.Said.{framesSaid, sampleSaid}
@@ -30,13 +30,13 @@ rowsOver rows channels call = cond (eqb channels (call .filter .channels)) (rows
 pub record SignalCalls : Type 0 where
   pub process : (call : Call) → RefusedBy (processRows call) (processed call)
   pub seed : (call : Call) → RefusedBy (seedRows call) (seeded call)
-  pub truePeak : (rate : ℕ) (block : Block) (t : TruePeak) → RefusedBy (peakRows block) (peakProcessed rate block t)
-  pub seedTruePeak : (rate : ℕ) (block : Block) (t : TruePeak) → RefusedBy (peakRows block) (peakSeeded rate block t)
+  pub truePeak : (rate : ℕ) (source : Heard) (t : TruePeak) → RefusedBy (peakRows source) (peakProcessed rate source t)
+  pub seedTruePeak : (rate : ℕ) (source : Heard) (t : TruePeak) → RefusedBy (peakRows source) (peakSeeded rate source t)
   -- the filter, with its peaks and states, and the destination
   pub fixedProcess : (call : Call) → Fixed said (given call) (processed call)
   pub fixedSeed : (call : Call) → Fixed said (given call) (seeded call)
-  pub fixedTruePeak : (rate : ℕ) (block : Block) (t : TruePeak) → Fixed said t (peakProcessed rate block t)
-  pub fixedSeedTruePeak : (rate : ℕ) (block : Block) (t : TruePeak) → Fixed said t (peakSeeded rate block t)
+  pub fixedTruePeak : (rate : ℕ) (source : Heard) (t : TruePeak) → Fixed said t (peakProcessed rate source t)
+  pub fixedSeedTruePeak : (rate : ℕ) (source : Heard) (t : TruePeak) → Fixed said t (peakSeeded rate source t)
   -- an `Interleaved`
   pub frames : (channels samples : ℕ) → RefusedBy (frameRows channels samples) (framesIn channels samples)
   pub sample : (channels : ℕ) (samples : List Float) (channel frame : ℕ) → RefusedBy (frameRows channels (length samples)) (sampleIn channels samples channel frame)

@@ -8,7 +8,7 @@ ghost use Rattle.exports_entries.specs.Sets.{numbersAnEntry, setOf};
 ghost use Rattle.exports_range.specs.Spans.{rangeAsked, histogramAt, spanCode, lowOr, highOr};
 use bins::Count;
 use history_set::set::Shape;
-use range_ranks::spans::Range;
+use range_ranks::spans::Span;
 
 // The codes of a range that answers no energies.
 const NOTHING: u8 = 128;
@@ -16,20 +16,20 @@ const NOTHING: u8 = 128;
 const NOT_A_NUMBER: u8 = 129;
 
 // The range of the histogram whose counters start at a place: nothing is added to them, and no set is made.
-fn of_histogram(counters: &[Count], start: usize) -> Range
+fn of_histogram(counters: &[Count], start: usize) -> Span
     ensures { λ r. ⌜ said r ≡ saidBy (histogramAt (now (counters .entry)) start) ⌝ }
 {
     if counters.len() < start {
-        return Range::Refused(base_refusals::SET);
+        return Span::Refused(base_refusals::SET);
     }
     if counters.len() - start < bins::BINS {
-        return Range::Refused(base_refusals::SET);
+        return Span::Refused(base_refusals::SET);
     }
     range_one::of_counters(counters, start)
 }
 
 // The range of the set of the numbers.
-fn of_set(entries: &[usize], counters: &[Count], energies: &[f64], work: &mut [f64]) -> Range
+fn of_set(entries: &[usize], counters: &[Count], energies: &[f64], work: &mut [f64]) -> Span
     ensures { λ r. ⌜ (said r ≡ saidBy (rangeOf (setOf (now (entries .entry)) (now (counters .entry)) (now (energies .entry))) (now (work .entry))))
         × (now (work .exit) ≡ keptBy (now (work .entry)) (rangeOf (setOf (now (entries .entry)) (now (counters .entry)) (now (energies .entry))) (now (work .entry)))) ⌝ }
 {
@@ -43,7 +43,7 @@ fn of_set(entries: &[usize], counters: &[Count], energies: &[f64], work: &mut [f
 }
 
 // That of one entry. A histogram needs no set of sixteen.
-fn of_one(entries: &[usize], counters: &[Count], energies: &[f64], work: &mut [f64]) -> Range
+fn of_one(entries: &[usize], counters: &[Count], energies: &[f64], work: &mut [f64]) -> Span
     requires { ⌜ length (now entries) ≡ numbersAnEntry ⌝ }
     ensures { λ r. ⌜ (said r ≡ saidBy (rangeOf (setOf (now (entries .entry)) (now (counters .entry)) (now (energies .entry))) (now (work .entry))))
         × (now (work .exit) ≡ keptBy (now (work .entry)) (rangeOf (setOf (now (entries .entry)) (now (counters .entry)) (now (energies .entry))) (now (work .entry)))) ⌝ }
@@ -57,7 +57,7 @@ fn of_one(entries: &[usize], counters: &[Count], energies: &[f64], work: &mut [f
 }
 
 // The range of the numbers, and SET where they are not whole entries.
-fn asked(entries: &[usize], counters: &[Count], energies: &[f64], work: &mut [f64]) -> Range
+fn asked(entries: &[usize], counters: &[Count], energies: &[f64], work: &mut [f64]) -> Span
     ensures { λ r. ⌜ (said r ≡ saidBy (rangeAsked (now (entries .entry)) (now (counters .entry)) (now (energies .entry)) (now (work .entry))))
         × (now (work .exit) ≡ keptBy (now (work .entry)) (rangeAsked (now (entries .entry)) (now (counters .entry)) (now (energies .entry)) (now (work .entry)))) ⌝ }
 {
@@ -65,7 +65,7 @@ fn asked(entries: &[usize], counters: &[Count], energies: &[f64], work: &mut [f6
         return of_one(entries, counters, energies, work);
     }
     if entries.len() % exports_entries::NUMBERS != 0 {
-        return Range::Refused(base_refusals::SET);
+        return Span::Refused(base_refusals::SET);
     }
     of_set(entries, counters, energies, work)
 }
@@ -85,13 +85,13 @@ pub extern "C" fn xel_loudness_range(
         × (now (high .exit) ≡ highOr (now (high .entry)) (rangeAsked (now (entries .entry)) (now (counters .entry)) (now (energies .entry)) (now (work .entry)))) ⌝ }
 {
     match asked(entries, counters, energies, work) {
-        Range::Found(lower, higher) => {
+        Span::Found(lower, higher) => {
             *low = lower;
             *high = higher;
             0
         }
-        Range::Nothing => NOTHING,
-        Range::NotANumber => NOT_A_NUMBER,
-        Range::Refused(number) => number,
+        Span::Nothing => NOTHING,
+        Span::NotANumber => NOT_A_NUMBER,
+        Span::Refused(number) => number,
     }
 }

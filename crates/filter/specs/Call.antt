@@ -7,7 +7,7 @@ use Rattle.base_refusals.specs.Outcome.{Outcome, keptBy, NoValues}
 use Rattle.samples.specs.Kinds.{Samples, asF64, asF32}
 use Rattle.filter_recurrence.specs.declared.states.State.{State}
 use Rattle.filter_recurrence.specs.Channels as recurrence
-use Rattle.true_peak_state.specs.TruePeak.{Block}
+use Rattle.true_peak_state.specs.TruePeak.{Heard}
 use Rattle.filter.specs.declared.Filter.{Filter}
 use Rattle.filter.specs.Filter.{Arrays, withArrays}
 
@@ -24,11 +24,11 @@ abbrev pub seedOf : Filter → Samples → List ℕ → Call
 seedOf filter samples map = record { filter = filter; samples = samples; map = map; dest = []; start = 0 }
 
 -- what the weighting is given
-abbrev pub weighing : Call → recurrence.Call
-weighing call = recurrence.callOf (call .filter .coefficients) (call .filter .state) (call .filter .channels) (asF64 (call .samples)) (call .map)
+abbrev pub weighing : Call → recurrence.Weighing
+weighing call = recurrence.weighingOf (call .filter .coefficients) (call .filter .state) (call .filter .channels) (asF64 (call .samples)) (call .map)
 
 -- what the true peak hears
-abbrev pub hearing : Call → Block
+abbrev pub hearing : Call → Heard
 hearing call = record { channels = call .filter .channels; samples = asF32 (call .samples) }
 
 -- what a call has in hand, and what it leaves

@@ -27,7 +27,7 @@ use Rattle.filter.specs.Process.{weighedDest, measuredPeaks, measuredTruePeaks,
 
 -- ---- the weighting
 
-module _ (call : recurrence.Call) (dest : List Float) (start : ℕ) where
+module _ (call : recurrence.Weighing) (dest : List Float) (start : ℕ) where
   abbrev leaves : weighting.Kept
   leaves = record { state = record { values = recurrence.stateAfter call }; dest = weighting.destAfter call dest start }
 

@@ -10,7 +10,7 @@ ghost use Rattle.filter_weighting.specs.Weighting as weighting;
 ghost use Rattle.filter_sample_peak.specs.declared.Peaks.{Peaks};
 ghost use Rattle.filter_sample_peak.specs.Peak.{raised};
 ghost use Rattle.true_peak_state.specs.declared.TruePeak.{TruePeak};
-ghost use Rattle.true_peak_state.specs.TruePeak.{Block};
+ghost use Rattle.true_peak_state.specs.TruePeak.{Heard};
 ghost use Rattle.true_peak.specs.TruePeak as trues;
 ghost use Rattle.filter.specs.Filter.{resting, withArrays};
 ghost use Rattle.filter.specs.Call.{Call, standing, kept};
@@ -50,7 +50,7 @@ fn listen(
     floats: &[f32],
 )
     ensures { λ _. ⌜ (let stored : TruePeak = record { memory = now (memory .entry); peaks = now (peaks .entry) } in
-        let heard : Block = record { channels = channels; samples = asF32 (lent (now (ints .entry)) (now (floats .entry))) } in
+        let heard : Heard = record { channels = channels; samples = asF32 (lent (now (ints .entry)) (now (floats .entry))) } in
         let after = cond on (keptBy stored (trues.processed rate heard stored)) stored in
         (now (memory .exit) ≡ after .memory) × (now (peaks .exit) ≡ after .peaks)) ⌝ }
 {
@@ -81,7 +81,7 @@ fn weigh(
 )
     ensures { λ _. ⌜ (let stored : State = record { values = now (state .entry) } in
         let samples = asF64 (lent (now (ints .entry)) (now (floats .entry))) in
-        let after = weighting.kept (recurrence.callOf c stored (sizes .channels) samples (now (map .entry))) (now (dest .entry)) (sizes .start) in
+        let after = weighting.kept (recurrence.weighingOf c stored (sizes .channels) samples (now (map .entry))) (now (dest .entry)) (sizes .start) in
         (now (state .exit) ≡ cond on (after .state) stored .values) × (now (dest .exit) ≡ cond on (after .dest) (now (dest .entry)))) ⌝ }
 {
     if !on {

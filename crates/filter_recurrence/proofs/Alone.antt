@@ -7,11 +7,11 @@ use mathlib.Core.Bool.{cond}
 use lib.ListN.{length, getD}
 use Rattle.filter_checks.specs.Calls.{used}
 use Rattle.filter_recurrence.specs.Recurrence.{after, flushed}
-use Rattle.filter_recurrence.specs.Channels.{Call, statePlaces, memoryOf, heard, stateAfter}
+use Rattle.filter_recurrence.specs.Channels.{Weighing, statePlaces, memoryOf, heard, stateAfter}
 use Rattle.filter_recurrence.proofs.Memories.{over-own}
 use Rattle.samples.specs.Frames.{mostChannels}
 
-pub own-state : (call : Call) (k : ℕ) → k < length (call .map) → k < mostChannels → length (call .state .values) ≡ statePlaces
+pub own-state : (call : Weighing) (k : ℕ) → k < length (call .map) → k < mostChannels → length (call .state .values) ≡ statePlaces
     → memoryOf (stateAfter call) k
     ≡ cond (used (getD (call .map) k 0)) (flushed (after (call .coefficients .a) (memoryOf (call .state .values) k) (heard call k))) (memoryOf (call .state .values) k)
 unfolding stateAfter

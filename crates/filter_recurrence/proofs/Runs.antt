@@ -9,7 +9,7 @@ use Rattle.samples.specs.Frames.{column, channelOf, mostChannels}
 use Rattle.samples.proofs.Cutting.{Next, joined, frames-are}
 use Rattle.filter_recurrence.specs.Recurrence.{after, flushed}
 use Rattle.filter_recurrence.proofs.Moving.{after-append, none-after}
-use Rattle.filter_recurrence.specs.Channels.{Call, statePlaces, memoryOf, withMemory, overUsed, stateAfter}
+use Rattle.filter_recurrence.specs.Channels.{Weighing, statePlaces, memoryOf, withMemory, overUsed, stateAfter}
 use Rattle.filter_recurrence.proofs.Each.{each-same, each-none}
 use Rattle.filter_recurrence.proofs.Memories.{with-own, over-twice}
 
@@ -22,22 +22,22 @@ run-none a samples channels map v =
     (λ k u. ap (withMemory u k) (none-after a (memoryOf u k) samples k channels 0 refl) ∙ with-own u k) map 0 v
 
 -- a run more
-pub run-more : (a src block : List Float) (channels done count : ℕ) → Next src block channels done count → (map : List ℕ) (v : List Float) → length map ≡ channels → channels ≤ mostChannels → length v ≡ statePlaces
-    → overUsed (λ k m. after a m (column block k channels count)) map 0 (overUsed (λ k m. after a m (column src k channels done)) map 0 v)
+pub run-more : (a src stretch : List Float) (channels done count : ℕ) → Next src stretch channels done count → (map : List ℕ) (v : List Float) → length map ≡ channels → channels ≤ mostChannels → length v ≡ statePlaces
+    → overUsed (λ k m. after a m (column stretch k channels count)) map 0 (overUsed (λ k m. after a m (column src k channels done)) map 0 v)
     ≡ overUsed (λ k m. after a m (column src k channels (done + count))) map 0 v
-run-more a src block channels done count next map v mapped few l =
-    over-twice (λ k m. after a m (column src k channels done)) (λ k m. after a m (column block k channels count)) map v (omega arith) l
+run-more a src stretch channels done count next map v mapped few l =
+    over-twice (λ k m. after a m (column src k channels done)) (λ k m. after a m (column stretch k channels count)) map v (omega arith) l
     ∙ each-same
-    (λ k u. withMemory u k (after a (after a (memoryOf u k) (column src k channels done)) (column block k channels count)))
+    (λ k u. withMemory u k (after a (after a (memoryOf u k) (column src k channels done)) (column stretch k channels count)))
     (λ k u. withMemory u k (after a (memoryOf u k) (column src k channels (done + count)))) map 0 v
     (λ k u _ h.
     ap (withMemory u k)
-    (sym (after-append a (memoryOf u k) (column src k channels done) (column block k channels count))
-    ∙ ap (after a (memoryOf u k)) (joined src block channels done count next k (omega arith))))
+    (sym (after-append a (memoryOf u k) (column src k channels done) (column stretch k channels count))
+    ∙ ap (after a (memoryOf u k)) (joined src stretch channels done count next k (omega arith))))
 
 -- ---- the call, at the number of frames that the code counts
 
-pub state-is : (call : Call) (counted : ℕ) → 0 < call .channels → counted ≡ length (call .samples)
+pub state-is : (call : Weighing) (counted : ℕ) → 0 < call .channels → counted ≡ length (call .samples)
     → overUsed (λ k m. flushed (after (call .coefficients .a) m (column (call .samples) k (call .channels) (counted / call .channels)))) (call .map) 0 (call .state .values) ≡ stateAfter call
 unfolding stateAfter channelOf
 state-is call counted some e =

@@ -35,22 +35,22 @@ abbrev pub overUsed : (ℕ → Memory → Memory) → List ℕ → ℕ → List 
 overUsed change bytes k values = eachUsed (λ j v. withMemory v j (change j (memoryOf v j))) bytes k values
 
 -- what the weighting is given in a call; `samples` are the floats that the interleaved samples become
-pub record Call : Type 0 where
+pub record Weighing : Type 0 where
   pub coefficients : Coefficients
   pub state : State
   pub channels : ℕ
   pub samples : List Float
   pub map : List ℕ
 
-abbrev pub callOf : Coefficients → State → ℕ → List Float → List ℕ → Call
-callOf coefficients state channels samples map =
+abbrev pub weighingOf : Coefficients → State → ℕ → List Float → List ℕ → Weighing
+weighingOf coefficients state channels samples map =
     record { coefficients = coefficients; state = state; channels = channels; samples = samples; map = map }
 
 -- channel k's samples in the call, in order
-abbrev pub heard : Call → ℕ → List Float
+abbrev pub heard : Weighing → ℕ → List Float
 heard call k = channelOf (call .channels) (call .samples) k
 
 -- the flat state after the call
-unfoldable pub stateAfter : Call → List Float
+unfoldable pub stateAfter : Weighing → List Float
 unfolding eachUsed after flushed
 stateAfter call = overUsed (λ k m. flushed (after (call .coefficients .a) m (heard call k))) (call .map) 0 (call .state .values)

@@ -7,7 +7,7 @@ use lib.Ieee.{Float}
 use Rattle.samples.specs.Frames.{column}
 use Rattle.samples.proofs.Columns.{column-append}
 use Rattle.base_floats.specs.Largest.{largest}
-use Rattle.samples.specs.Blocks.{Reach}
+use Rattle.samples.specs.Stretches.{Reach}
 use Rattle.base_floats.proofs.Magnitude.{largest-append}
 
 distributed : (m n step : ℕ) → (m + n) * step ≡ m * step + n * step

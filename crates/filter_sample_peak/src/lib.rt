@@ -7,7 +7,7 @@ ghost use Rattle.base_refusals.specs.Answer.{said};
 ghost use Rattle.base_refusals.specs.Outcome.{saidBy, keptBy};
 ghost use Rattle.samples.specs.Frames.{column, mostChannels};
 ghost use Rattle.samples.specs.Source.{sourceOf};
-ghost use Rattle.samples.specs.Blocks.{Whole};
+ghost use Rattle.samples.specs.Stretches.{Whole};
 ghost use Rattle.base_floats.specs.Entry.{plusZero};
 ghost use Rattle.base_floats.specs.Largest.{greater, largest};
 ghost use Rattle.filter_sample_peak.specs.Peak.{overChannels, raised};

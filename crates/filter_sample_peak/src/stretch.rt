@@ -5,7 +5,7 @@ ghost use Prim.Native.Nat.{ℕ, _+_, _*_, _<_, _≤_};
 ghost use lib.ListN.{length, getD};
 ghost use lib.Ieee.{nan, lt};
 ghost use Rattle.samples.specs.Frames.{column, mostChannels};
-ghost use Rattle.samples.specs.Blocks.{Reach};
+ghost use Rattle.samples.specs.Stretches.{Reach};
 ghost use Rattle.base_floats.specs.Entry.{plusZero};
 ghost use Rattle.base_floats.specs.Largest.{magnitude, greater, largest};
 ghost use Rattle.filter_sample_peak.specs.Peak.{overChannels};

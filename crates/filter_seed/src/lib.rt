@@ -8,7 +8,7 @@ ghost use Rattle.filter_recurrence.specs.declared.states.State.{State};
 ghost use Rattle.filter_recurrence.specs.Channels as recurrence;
 ghost use Rattle.filter_weighting.specs.Seeding as seeding;
 ghost use Rattle.true_peak_state.specs.declared.TruePeak.{TruePeak};
-ghost use Rattle.true_peak_state.specs.TruePeak.{Block};
+ghost use Rattle.true_peak_state.specs.TruePeak.{Heard};
 ghost use Rattle.true_peak.specs.TruePeak as trues;
 ghost use Rattle.filter.specs.Filter.{resting, withArrays};
 ghost use Rattle.filter.specs.Call.{seedOf, kept};
@@ -33,7 +33,7 @@ fn remember(
     floats: &[f32],
 )
     ensures { λ _. ⌜ (let stored : TruePeak = record { memory = now (memory .entry); peaks = now (peaks .entry) } in
-        let heard : Block = record { channels = channels; samples = asF32 (lent (now (ints .entry)) (now (floats .entry))) } in
+        let heard : Heard = record { channels = channels; samples = asF32 (lent (now (ints .entry)) (now (floats .entry))) } in
         now (memory .exit) ≡ cond on (keptBy stored (trues.seeded rate heard stored)) stored .memory) ⌝ }
 {
     if !on {
@@ -61,7 +61,7 @@ fn advance(
 )
     ensures { λ _. ⌜ (let stored : State = record { values = now (state .entry) } in
         let samples = asF64 (lent (now (ints .entry)) (now (floats .entry))) in
-        let call = recurrence.callOf (record { a = now (a .entry); b = now (b .entry) }) stored channels samples (now (map .entry)) in
+        let call = recurrence.weighingOf (record { a = now (a .entry); b = now (b .entry) }) stored channels samples (now (map .entry)) in
         now (state .exit) ≡ cond on (keptBy stored (seeding.moved call)) stored .values) ⌝ }
 {
     if !on {

@@ -12,12 +12,12 @@ use Rattle.samples.specs.Frames.{framesOf, channelOf}
 use Rattle.samples.proofs.Columns.{length-column}
 use Rattle.filter_checks.specs.Calls.{used}
 use Rattle.filter_recurrence.specs.Recurrence.{outs}
-use Rattle.filter_recurrence.specs.Channels.{Call, heard, memoryOf}
+use Rattle.filter_recurrence.specs.Channels.{Weighing, heard, memoryOf}
 use Rattle.filter_recurrence.proofs.Moving.{length-outs}
 use Rattle.filter_weighting.specs.Weighting.{destAfter}
 use Rattle.filter_weighting.proofs.Destinations.{parts-own, parts-stay}
 
-module _ (call : Call) (dest : List Float) (start : ℕ) where
+module _ (call : Weighing) (dest : List Float) (start : ℕ) where
   -- channel k's outputs
   abbrev pub given : ℕ → List Float
   given k = outs (call .coefficients .a) (call .coefficients .b) (memoryOf (call .state .values) k) (heard call k)

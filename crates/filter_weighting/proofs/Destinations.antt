@@ -15,7 +15,7 @@ use Rattle.filter_checks.specs.Calls.{used}
 use Rattle.samples.proofs.Stored.{at-before, at-after, at-within}
 use Rattle.samples.proofs.Cutting.{frames-are}
 use Rattle.filter_recurrence.specs.Recurrence.{outs}
-use Rattle.filter_recurrence.specs.Channels.{Call, memoryOf, eachUsed}
+use Rattle.filter_recurrence.specs.Channels.{Weighing, memoryOf, eachUsed}
 use Rattle.filter_weighting.specs.Weighting.{overParts, destAfter}
 
 abbrev stored : (ℕ → List Float) → ℕ → ℕ → Bool → ℕ → List Float → List Float
@@ -77,7 +77,7 @@ parts-own g part start n gn fit (b ∷ bytes) k (suc i) f d x h q r u =
 
 -- ---- the call, at the number of frames that the code counts
 
-pub dest-is : (call : Call) (counted : ℕ) → 0 < call .channels → counted ≡ length (call .samples) → (dest : List Float) (start : ℕ)
+pub dest-is : (call : Weighing) (counted : ℕ) → 0 < call .channels → counted ≡ length (call .samples) → (dest : List Float) (start : ℕ)
     → overParts (λ k. outs (call .coefficients .a) (call .coefficients .b) (memoryOf (call .state .values) k) (column (call .samples) k (call .channels) (counted / call .channels))) (length dest / call .channels) start (call .map) 0 dest
     ≡ destAfter call dest start
 unfolding destAfter channelOf

@@ -7,7 +7,7 @@ ghost use lib.Ieee.{nan};
 ghost use lib.Seq.{sets};
 ghost use Rattle.filter_checks.specs.Calls.{used};
 ghost use Rattle.samples.specs.Source.{sourceOf};
-ghost use Rattle.samples.specs.Blocks.{Reach};
+ghost use Rattle.samples.specs.Stretches.{Reach};
 ghost use Rattle.samples.specs.Frames.{mostChannels};
 ghost use Rattle.filter_recurrence.specs.Recurrence.{next, out, flushed};
 ghost use Rattle.filter_recurrence.specs.Channels.{eachUsed, overUsed};

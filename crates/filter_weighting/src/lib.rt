@@ -3,7 +3,7 @@ ghost use mathlib.Core.Path.{_≡_};
 ghost use Rattle.base_refusals.specs.Answer.{said};
 ghost use Rattle.base_refusals.specs.Outcome.{saidBy};
 ghost use Rattle.samples.specs.Source.{sourceOf};
-ghost use Rattle.filter_recurrence.specs.Channels.{callOf};
+ghost use Rattle.filter_recurrence.specs.Channels.{weighingOf};
 ghost use Rattle.filter_weighting.specs.Weighting.{weighed, kept};
 use base_refusals::Answer;
 use channels::Work;
@@ -26,7 +26,7 @@ pub fn process_lent(
     dest: &mut [f64],
     start: usize,
 ) -> Answer
-    ensures { λ r. ⌜ (let call = callOf c (record { values = now (state .entry) }) channels (sourceOf (now (ints .entry)) (now (floats .entry))) (now (map .entry)) in
+    ensures { λ r. ⌜ (let call = weighingOf c (record { values = now (state .entry) }) channels (sourceOf (now (ints .entry)) (now (floats .entry))) (now (map .entry)) in
         (said r ≡ saidBy (weighed call (now (dest .entry)) start))
         × (now (state .exit) ≡ kept call (now (dest .entry)) start .state .values)
         × (now (dest .exit) ≡ kept call (now (dest .entry)) start .dest)) ⌝ }

@@ -3,7 +3,7 @@ ghost use mathlib.Core.Path.{_≡_};
 ghost use Rattle.base_refusals.specs.Answer.{said};
 ghost use Rattle.base_refusals.specs.Outcome.{saidBy, keptBy};
 ghost use Rattle.samples.specs.Source.{sourceOf};
-ghost use Rattle.filter_recurrence.specs.Channels.{callOf};
+ghost use Rattle.filter_recurrence.specs.Channels.{weighingOf};
 ghost use Rattle.filter_weighting.specs.Seeding.{moved};
 use filter_recurrence::Coefficients;
 use filter_recurrence::states::State;
@@ -23,8 +23,8 @@ pub fn seed(
     floats: &[f32],
     map: &[u8],
 ) -> Seeded
-    ensures { λ r. ⌜ said (r .answer) ≡ saidBy (moved (callOf c s channels (sourceOf (now (ints .entry)) (now (floats .entry))) (now (map .entry)))) ⌝ }
-    ensures { λ r. ⌜ r .state ≡ keptBy s (moved (callOf c s channels (sourceOf (now (ints .entry)) (now (floats .entry))) (now (map .entry)))) ⌝ }
+    ensures { λ r. ⌜ said (r .answer) ≡ saidBy (moved (weighingOf c s channels (sourceOf (now (ints .entry)) (now (floats .entry))) (now (map .entry)))) ⌝ }
+    ensures { λ r. ⌜ r .state ≡ keptBy s (moved (weighingOf c s channels (sourceOf (now (ints .entry)) (now (floats .entry))) (now (map .entry)))) ⌝ }
 {
     let samples = samples::sources::size_of(ints, floats);
     let number = filter_checks::refused_seed(channels, samples, map);

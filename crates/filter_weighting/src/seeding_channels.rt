@@ -6,7 +6,7 @@ ghost use lib.ListN.{length};
 ghost use Rattle.samples.specs.Frames.{column, mostChannels};
 ghost use Rattle.filter_checks.specs.Calls.{used};
 ghost use Rattle.samples.specs.Source.{sourceOf};
-ghost use Rattle.samples.specs.Blocks.{Reach, Whole};
+ghost use Rattle.samples.specs.Stretches.{Reach, Whole};
 ghost use Rattle.filter_recurrence.specs.Recurrence.{after, flushed};
 ghost use Rattle.filter_recurrence.specs.Channels.{memoryOf, withMemory, overUsed};
 use filter_recurrence::Memory;

@@ -23,15 +23,15 @@ tenth = round binary64 false 1 10
 abbrev pub thresholdOf : Totals → Float
 thresholdOf totals = mul binary64 (meanOf totals) tenth
 
-pub data Level : Type 0 where
-  loudness : Float → Level
-  energy : Float → Level
+pub data Limit : Type 0 where
+  loudness : Float → Limit
+  energy : Float → Limit
 
 -- the loudness of the absolute gate, -70.0
 unfoldable pub lowest : Float
 lowest = round binary64 true 70 1
 
-abbrev pub levelOf : Totals → Level
+abbrev pub levelOf : Totals → Limit
 levelOf totals = cond (eqb (totals .count) 0) (loudness lowest) (energy (thresholdOf totals))
 
 -- NAN: "the threshold sum is NaN". Without blocks there is no threshold
@@ -42,11 +42,11 @@ levelRows totals = row NAN (not (eqb (totals .count) 0) && isNan (totals .sum)) 
 abbrev pub relativeRows : Entry → List ℕ → List Float → List Row
 relativeRows entry counters energies = setRows (alone entry counters energies) ++ levelRows (totalsOf (shows counters energies entry))
 
-unfoldable pub relativeOf : Entry → List ℕ → List Float → Question Level
+unfoldable pub relativeOf : Entry → List ℕ → List Float → Question Limit
 relativeOf entry counters energies = byRows (relativeRows entry counters energies) (answers (levelOf (totalsOf (shows counters energies entry))))
 
 -- what each case of `Threshold` says
-abbrev pub said : Threshold → Said Level
+abbrev pub said : Threshold → Said Limit
 said (Loudness l) = says (loudness l)
 said (Energy e) = says (energy e)
 said (Refused n) = refusal n

@@ -10,7 +10,7 @@ use gate::threshold::Threshold;
 use history_queue::Queue;
 use history_set::set::Entry;
 use history_set::set::Shape;
-use range_ranks::spans::Range;
+use range_ranks::spans::Span;
 
 pub(crate) fn answers_same(case: &[u8]) -> bool {
     let mut counters: [Count; 1000] = [0; 1000];
@@ -133,19 +133,19 @@ fn range_same(case: &[u8], counters: &[Count], energies: &[f64]) -> bool {
     ranged_same(case, range) && crate::histories::patterns_same(case, 318, &work)
 }
 
-fn ranged_same(case: &[u8], range: Range) -> bool {
+fn ranged_same(case: &[u8], range: Span) -> bool {
     let code = base_fields::number_at(case, 300, 2);
     let low = base_fields::number_at(case, 302, 8);
     let high = base_fields::number_at(case, 310, 8);
     match range {
-        Range::Found(lower, higher) => {
+        Span::Found(lower, higher) => {
             code == 0
                 && low == base_floats::pattern_of(lower)
                 && high == base_floats::pattern_of(higher)
         }
-        Range::Nothing => code == 128,
-        Range::NotANumber => code == 129,
-        Range::Refused(number) => code == number as u64,
+        Span::Nothing => code == 128,
+        Span::NotANumber => code == 129,
+        Span::Refused(number) => code == number as u64,
     }
 }
 

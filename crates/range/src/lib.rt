@@ -3,7 +3,7 @@ use bins::Count;
 use history_set::set::Entry;
 use history_set::set::MOST;
 use history_set::set::Shape;
-use range_ranks::spans::Range;
+use range_ranks::spans::Span;
 ghost use mathlib.Core.Path.{_≡_};
 ghost use mathlib.Core.List.{List};
 ghost use Prim.Native.Nat.{ℕ, _≤_};
@@ -47,12 +47,12 @@ pub fn loudness_range(
     counters: &[Count],
     energies: &[f64],
     work: &mut [f64],
-) -> Range
+) -> Span
     ensures { λ r. ⌜ (said r ≡ saidBy (rangeOf (histories entries count (now (counters .entry)) (now (energies .entry))) (now (work .entry))))
         × (now (work .exit) ≡ keptBy (now (work .entry)) (rangeOf (histories entries count (now (counters .entry)) (now (energies .entry))) (now (work .entry)))) ⌝ }
 {
     if count > MOST {
-        return Range::Refused(base_refusals::SET);
+        return Span::Refused(base_refusals::SET);
     }
     let queues = queues_in(entries, count);
     if queues == 0 {
@@ -63,7 +63,7 @@ pub fn loudness_range(
     }
     let refusal = history_set::stores::checked(entries, count, counters, energies);
     if refusal != 0 {
-        return Range::Refused(refusal);
+        return Span::Refused(refusal);
     }
-    Range::Refused(base_refusals::MODE)
+    Span::Refused(base_refusals::MODE)
 }

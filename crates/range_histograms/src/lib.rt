@@ -5,7 +5,7 @@ use history_set::set::Entry;
 use history_set::set::MOST;
 use history_set::set::Shape;
 use range_one::Place;
-use range_ranks::spans::Range;
+use range_ranks::spans::Span;
 ghost use mathlib.Core.Path.{_≡_};
 ghost use mathlib.Core.List.{[]};
 ghost use Prim.Native.Nat.{ℕ, _+_, _-_, _*_, _≤_};
@@ -131,14 +131,14 @@ fn first_past(counters: &[u64], from: Place, rank: u64) -> Place
 }
 
 // The energies at the two ranks among the blocks from a bin on. The low rank is not above the high one, whose search goes on from there.
-fn ranked(counters: &[u64], count: u64, start: usize) -> Range
+fn ranked(counters: &[u64], count: u64, start: usize) -> Span
     requires { ⌜ (length (now counters) ≡ bins) × AtMost mostInBin (now counters) × (start ≤ bins) × (count ≡ blocksIn (now counters)) ⌝ }
     ensures { λ r. ⌜ said r ≡ says (leftIn (now (counters .entry)) (blocksIn (take start (now (counters .entry)))) (count - blocksIn (take start (now (counters .entry))))) ⌝ }
 {
     let before = below(counters, start);
     let left = count - before;
     if left == 0 {
-        return Range::Nothing;
+        return Span::Nothing;
     }
     let gate = Place { bin: start, before };
     let low = first_past(counters, gate, range_ranks::low_rank(left - 1) + before);
@@ -147,28 +147,28 @@ fn ranked(counters: &[u64], count: u64, start: usize) -> Range
 }
 
 // The range of added counters.
-fn span_of(counters: &[u64]) -> Range
+fn span_of(counters: &[u64]) -> Span
     requires { ⌜ (length (now counters) ≡ bins) × AtMost mostInBin (now counters) ⌝ }
     ensures { λ r. ⌜ said r ≡ says (countedSpan (now (counters .entry))) ⌝ }
 {
     let totals = sum_up(counters);
     let count = totals.count;
     if count == 0 {
-        return Range::Nothing;
+        return Span::Nothing;
     }
     let start = gate::blocks::start_bin(range_ranks::spans::gate_energy(totals));
     ranked(counters, count, start)
 }
 
 // The range of a single history, to which nothing is added.
-fn alone(entry: Entry, counters: &[Count]) -> Range
+fn alone(entry: Entry, counters: &[Count]) -> Span
     requires { ⌜ countersEnd (entry .shape) ≤ length (now counters) ⌝ }
     ensures { λ r. ⌜ said r ≡ says (countedSpan (withHistory empty (shows (now (counters .entry)) [] entry))) ⌝ }
 {
     let shape = entry.shape;
     match shape {
         Shape::Histogram(start) => range_one::of_counters(counters, start),
-        Shape::Queue(_, _) => Range::Nothing,
+        Shape::Queue(_, _) => Span::Nothing,
     }
 }
 
@@ -178,12 +178,12 @@ pub fn of_histograms(
     count: usize,
     counters: &[Count],
     energies: &[f64],
-) -> Range
+) -> Span
     ensures { λ r. ⌜ said r ≡ saidBy (histogramRange (histories entries count (now (counters .entry)) (now (energies .entry)))) ⌝ }
 {
     let refusal = history_set::stores::checked(entries, count, counters, energies);
     if refusal != 0 {
-        return Range::Refused(refusal);
+        return Span::Refused(refusal);
     }
     if count == 1 {
         let entry = entries[0];

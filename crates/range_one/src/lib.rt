@@ -1,6 +1,6 @@
 // The loudness range of one histogram: the bins of the two ranks among the blocks that the gate leaves.
 use bins::Count;
-use range_ranks::spans::Range;
+use range_ranks::spans::Span;
 ghost use mathlib.Core.Path.{_≡_};
 ghost use Prim.Native.Nat.{_+_, _-_, _≤_};
 ghost use lib.ListN.{length, take};
@@ -71,14 +71,14 @@ fn first_past(counters: &[Count], from: Place, rank: u64) -> Place
 }
 
 // The energies at the two ranks among the blocks from a bin on. The low rank is not above the high one, whose search goes on from there.
-fn ranked(counters: &[Count], count: u64, start: usize) -> Range
+fn ranked(counters: &[Count], count: u64, start: usize) -> Span
     requires { ⌜ (length (now counters) ≡ bins) × (start ≤ bins) × (count ≡ blocksIn (now counters)) × (count ≤ mostBlocks) ⌝ }
     ensures { λ r. ⌜ said r ≡ says (leftIn (now (counters .entry)) (blocksIn (take start (now (counters .entry)))) (count - blocksIn (take start (now (counters .entry))))) ⌝ }
 {
     let before = blocks_of(counters, 0, start);
     let left = count - before;
     if left == 0 {
-        return Range::Nothing;
+        return Span::Nothing;
     }
     let gate = Place { bin: start, before };
     let low = first_past(counters, gate, range_ranks::low_rank(left - 1) + before);
@@ -87,14 +87,14 @@ fn ranked(counters: &[Count], count: u64, start: usize) -> Range
 }
 
 // The range of the histogram whose counters start at a place. There is none where 1,000 counters do not stand there.
-pub fn of_counters(counters: &[Count], start: usize) -> Range
+pub fn of_counters(counters: &[Count], start: usize) -> Span
     ensures { λ r. ⌜ said r ≡ says (spanAt (now (counters .entry)) start) ⌝ }
 {
     let started = gate::blocks::started(counters, start, range_ranks::spans::gate_share());
     let totals = started.totals;
     let count = totals.count;
     if count == 0 {
-        return Range::Nothing;
+        return Span::Nothing;
     }
     let end = start + bins::BINS;
     ranked(&counters[start..end], count, started.bin)

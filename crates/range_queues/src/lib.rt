@@ -4,7 +4,7 @@ use history_queue::Parts;
 use history_set::set::Entry;
 use history_set::set::MOST;
 use history_set::set::Shape;
-use range_ranks::spans::Range;
+use range_ranks::spans::Span;
 ghost use mathlib.Core.Path.{_≡_};
 ghost use mathlib.Core.Bool.{true, _&&_};
 ghost use Prim.Native.Nat.{_+_, _-_, _≤_};
@@ -162,7 +162,7 @@ fn in_order(
     energies: &[f64],
     work: &mut [f64],
     seen: Seen,
-) -> Range
+) -> Span
     requires { ⌜ (count ≤ mostHistories) × (storesInside (length (now energies)) (take count entries)) × (allSound (now energies) (take count entries) ≡ true)
         × (seen ≡ seenOf (heldIn (now energies) (take count entries))) ⌝ }
     ensures { λ r. ⌜ (said r ≡ saidBy (listedRange (heldIn (now (energies .entry)) (take count entries)) (now (work .entry))))
@@ -170,10 +170,10 @@ fn in_order(
 {
     let blocks = seen.blocks;
     if work.len() < blocks {
-        return Range::Refused(base_refusals::ROOM);
+        return Span::Refused(base_refusals::ROOM);
     }
     if seen.nan {
-        return Range::NotANumber;
+        return Span::NotANumber;
     }
     copy_all(entries, count, energies, work);
     order::order(&mut work[..blocks]);
@@ -187,16 +187,16 @@ pub fn of_queues(
     counters: &[Count],
     energies: &[f64],
     work: &mut [f64],
-) -> Range
+) -> Span
     ensures { λ r. ⌜ (said r ≡ saidBy (queueRange (histories entries count (now (counters .entry)) (now (energies .entry))) (now (work .entry))))
         × (now (work .exit) ≡ keptBy (now (work .entry)) (queueRange (histories entries count (now (counters .entry)) (now (energies .entry))) (now (work .entry)))) ⌝ }
 {
     if history_set::set::outside_set(entries, count, counters, energies) {
-        return Range::Refused(base_refusals::SET);
+        return Span::Refused(base_refusals::SET);
     }
     let seen = look(entries, count, energies);
     if seen.fine {
         return in_order(entries, count, energies, work, seen);
     }
-    Range::Refused(base_refusals::STORE)
+    Span::Refused(base_refusals::STORE)
 }

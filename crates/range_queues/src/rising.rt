@@ -1,6 +1,6 @@
 // The loudness range of energies in rising order: the energies at the two ranks among those that the gate leaves.
 use gate::blocks::Totals;
-use range_ranks::spans::Range;
+use range_ranks::spans::Span;
 ghost use mathlib.Core.Path.{_≡_};
 ghost use mathlib.Core.Bool.{true};
 ghost use Prim.Native.Nat.{_≤_};
@@ -59,7 +59,7 @@ fn skipped(rising: &[f64], gate: f64) -> usize
 }
 
 // The range of energies in rising order.
-pub(crate) fn span_in_order(rising: &[f64]) -> Range
+pub(crate) fn span_in_order(rising: &[f64]) -> Span
     ensures { λ r. ⌜ said r ≡ says (listedSpan (now (rising .entry))) ⌝ }
 {
     let count = rising.len();
@@ -70,10 +70,10 @@ pub(crate) fn span_in_order(rising: &[f64]) -> Range
     let first = skipped(rising, gate);
     let left = count - first;
     if left == 0 {
-        return Range::Nothing;
+        return Span::Nothing;
     }
     let last = (left - 1) as u64;
     let low = first + range_ranks::low_rank(last) as usize;
     let high = first + range_ranks::high_rank(last) as usize;
-    Range::Found(rising[low], rising[high])
+    Span::Found(rising[low], rising[high])
 }

@@ -4,8 +4,8 @@ use lib.Ieee.{Float, binary64, mul, round}
 use Rattle.base_refusals.specs.Outcome.{Said, says, refusal}
 use Rattle.gate.specs.declared.blocks.Totals.{Totals}
 use Rattle.gate.specs.Totals.{meanOf}
-use Rattle.range_ranks.specs.declared.spans.Range.{Range}
-use Rattle.range_ranks.specs.declared.spans.Range.the-variants.{Found, Nothing, NotANumber, Refused}
+use Rattle.range_ranks.specs.declared.spans.Span.{Span as Answer}
+use Rattle.range_ranks.specs.declared.spans.Span.the-variants.{Found, Nothing, NotANumber, Refused}
 
 -- what a range answers: two energies, nothing, or not a number
 pub data Span : Type 0 where
@@ -13,8 +13,8 @@ pub data Span : Type 0 where
   nothing : Span
   notANumber : Span
 
--- what each case of `Range` says
-abbrev pub said : Range → Said Span
+-- what each case of the answer says
+abbrev pub said : Answer → Said Span
 said (Found low high) = says (found low high)
 said Nothing = says nothing
 said NotANumber = says notANumber

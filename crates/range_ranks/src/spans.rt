@@ -6,7 +6,7 @@ ghost use Rattle.bins_tables.specs.Tables.{energies as binEnergies, energyAt};
 ghost use Rattle.range_ranks.specs.Span.{found, hundredth, gateEnergy, said};
 
 // The answer: the energies at the low and at the high rank.
-pub enum Range {
+pub enum Span {
     Found(f64, f64),
     Nothing,
     NotANumber,
@@ -36,9 +36,9 @@ fn energy_of(table: &[f64; 1000], bin: usize) -> f64
 }
 
 // The answer where the blocks of the two ranks are in these bins.
-pub fn of_bins(low: usize, high: usize) -> Range
+pub fn of_bins(low: usize, high: usize) -> Span
     ensures { λ r. ⌜ said r ≡ says (found (energyAt low) (energyAt high)) ⌝ }
 {
     let table = bins_tables::all_energies();
-    Range::Found(energy_of(&table, low), energy_of(&table, high))
+    Span::Found(energy_of(&table, low), energy_of(&table, high))
 }

@@ -3,7 +3,7 @@ use base_refusals::Answer;
 use bins::Count;
 use history_set::set::Entry;
 use history_set::set::Shape;
-use range_ranks::spans::Range;
+use range_ranks::spans::Span;
 ghost use mathlib.Core.Path.{_≡_};
 ghost use Prim.Native.Nat.{_-_};
 ghost use lib.ListN.{length};
@@ -55,7 +55,7 @@ fn figures(counters: &[Count]) -> Summary
     let energies = [0.0f64; 0];
     let mut work = [0.0f64; 0];
     match range::loudness_range(entries, 1, counters, &energies, &mut work) {
-        Range::Found(low, high) => {
+        Span::Found(low, high) => {
             let low = bins::search::find_histogram_index(low);
             let high = bins::search::find_histogram_index(high);
             Summary::Ranged {
@@ -65,9 +65,9 @@ fn figures(counters: &[Count]) -> Summary
                 range: between(low, high),
             }
         }
-        Range::Nothing => Summary::Rangeless(blocks),
-        Range::NotANumber => Summary::Rangeless(blocks),
-        Range::Refused(number) => Summary::Refused(number),
+        Span::Nothing => Summary::Rangeless(blocks),
+        Span::NotANumber => Summary::Rangeless(blocks),
+        Span::Refused(number) => Summary::Refused(number),
     }
 }
 

@@ -43,15 +43,15 @@ source-below ints floats n h k = go (eqb (length ints) 0)
 rest-is : {A : Type 0} (l : List A) (at : ℕ) → take (length l - at) (drop at l) ≡ drop at l
 rest-is l at = take-all (length l - at) (drop at l) (le-of-eq (length-drop at l))
 
-pub rest-from : {A : Type 0} (f : A → Float) (l : List A) {src : List Float} → src ≡ map f l → (block : List Float) (at : ℕ)
-    → sets block 0 (map f (take (length l - at) (drop at l))) ≡ sets block 0 (drop at src)
-rest-from {A} f l e block at =
-    ap (λ (t : List A). sets block 0 (map f t)) (rest-is l at) ∙ ap (sets block 0) (map-drop f at l ∙ ap (drop at) (sym e))
+pub rest-from : {A : Type 0} (f : A → Float) (l : List A) {src : List Float} → src ≡ map f l → (stretch : List Float) (at : ℕ)
+    → sets stretch 0 (map f (take (length l - at) (drop at l))) ≡ sets stretch 0 (drop at src)
+rest-from {A} f l e stretch at =
+    ap (λ (t : List A). sets stretch 0 (map f t)) (rest-is l at) ∙ ap (sets stretch 0) (map-drop f at l ∙ ap (drop at) (sym e))
 
 -- past the end there are none to fill with
-pub none-from : {A : Type 0} (f : A → Float) (l : List A) {src : List Float} → src ≡ map f l → (block : List Float) (at : ℕ) → length l ≤ at → sets block 0 (drop at src) ≡ block
-none-from f l e block at h =
-    ap (λ (t : List Float). sets block 0 (drop at t)) e ∙ ap (sets block 0) (drop-of-length-le (map f l) (le-trans (le-of-eq (length-map l f)) h))
+pub none-from : {A : Type 0} (f : A → Float) (l : List A) {src : List Float} → src ≡ map f l → (stretch : List Float) (at : ℕ) → length l ≤ at → sets stretch 0 (drop at src) ≡ stretch
+none-from f l e stretch at h =
+    ap (λ (t : List Float). sets stretch 0 (drop at t)) e ∙ ap (sets stretch 0) (drop-of-length-le (map f l) (le-trans (le-of-eq (length-map l f)) h))
 
 -- ---- one sample: the entry of its own kind, as a float, at the same place
 

@@ -1,4 +1,4 @@
--- A call in blocks: a block holds the samples from some frame on, and a channel's samples before it and its own, one after the other, are that channel's samples. Assumes nothing.
+-- A call in stretches: a stretch holds the samples from some frame on, and a channel's samples before it and its own, one after the other, are that channel's samples. Assumes nothing.
 use Prim.Native.Nat.{ℕ, _+_, _-_, _*_, _/_, _^_, _≤_, _<_, min}
 use native.Mathlib.Nat.{min-le-left, min-le-right, mul-le-mul-right, add-mul, div-add-mod', mod-lt, zero-mul, lt-irrefl, eq-zero-or-pos}
 use mathlib.Core.Logic.{⊎-elim}
@@ -11,7 +11,7 @@ use lib.Seq.{sets, getD-drop}
 use lib.Ieee.{Float}
 use Rattle.samples.specs.Frames.{silence, framesOf, column, mostChannels}
 use Rattle.samples.proofs.Columns.{frames-of, column-append, column-agrees}
-use Rattle.samples.specs.Blocks.{Whole}
+use Rattle.samples.specs.Stretches.{Whole}
 use Rattle.samples.specs.Source.{sourceOf}
 use Rattle.samples.proofs.Stored.{at-within}
 use Rattle.samples.proofs.Chosen.{source-below}
@@ -22,56 +22,56 @@ pub record Framed (channels samples : ℕ) : Type 0 where
   pub few : channels ≤ mostChannels
   pub whole : samples / channels * channels ≡ samples
 
--- ---- a block that was filled from place `far` on
+-- ---- a stretch that was filled from place `far` on
 
-pub filled : (src block₀ block : List Float) (far n : ℕ) → block ≡ sets block₀ 0 (drop far src) → far + n ≤ length src → n ≤ length block₀
-    → (i : ℕ) → i < n → getD block i silence ≡ getD src (far + i) silence
-filled src block₀ block far n e h k i q =
+pub filled : (src stretch₀ stretch : List Float) (far n : ℕ) → stretch ≡ sets stretch₀ 0 (drop far src) → far + n ≤ length src → n ≤ length stretch₀
+    → (i : ℕ) → i < n → getD stretch i silence ≡ getD src (far + i) silence
+filled src stretch₀ stretch far n e h k i q =
     let z : 0 + i ≡ i = omega arith in
     ap (λ (l : List Float). getD l i silence) e
-    ∙ ap (λ (p : ℕ). getD (sets block₀ 0 (drop far src)) p silence) (sym z)
-    ∙ at-within (drop far src) block₀ 0 i silence (omega (arith, length-drop far src)) (omega arith)
+    ∙ ap (λ (p : ℕ). getD (sets stretch₀ 0 (drop far src)) p silence) (sym z)
+    ∙ at-within (drop far src) stretch₀ 0 i silence (omega (arith, length-drop far src)) (omega arith)
     ∙ getD-drop far src i silence
 
--- ---- the next block
+-- ---- the next stretch
 
--- the samples of the frames done, and of the block's frames
-pub record Next (src block : List Float) (channels done count : ℕ) : Type 0 where
-  pub agrees : (i : ℕ) → i < count * channels → getD block i silence ≡ getD src (done * channels + i) silence
+-- the samples of the frames done, and of the stretch's frames
+pub record Next (src stretch : List Float) (channels done count : ℕ) : Type 0 where
+  pub agrees : (i : ℕ) → i < count * channels → getD stretch i silence ≡ getD src (done * channels + i) silence
 
-module _ (src block : List Float) (channels done count : ℕ) (next : Next src block channels done count) where
-  pub columns : (j : ℕ) → j < channels → column block j channels count ≡ column src (j + done * channels) channels count
+module _ (src stretch : List Float) (channels done count : ℕ) (next : Next src stretch channels done count) where
+  pub columns : (j : ℕ) → j < channels → column stretch j channels count ≡ column src (j + done * channels) channels count
   columns j h =
       let e : done * channels + j ≡ j + done * channels = omega arith in
-      column-agrees block src (done * channels) j channels count (λ i q. next .agrees i (omega arith))
+      column-agrees stretch src (done * channels) j channels count (λ i q. next .agrees i (omega arith))
       ∙ ap (λ (p : ℕ). column src p channels count) e
 
-  pub joined : (j : ℕ) → j < channels → column src j channels done ++ column block j channels count ≡ column src j channels (done + count)
+  pub joined : (j : ℕ) → j < channels → column src j channels done ++ column stretch j channels count ≡ column src j channels (done + count)
   joined j h = ap (λ (l : List Float). column src j channels done ++ l) (columns j h) ∙ sym (column-append src j channels done count)
 
--- ---- the sizes of the next block
+-- ---- the sizes of the next stretch
 
--- a block of so many places takes `count` frames after those done
+-- a stretch of so many places takes `count` frames after those done
 pub record Step (places channels frames samples done count : ℕ) : Type 0 where
-  pub block-fits : count * channels ≤ places
-  pub block-ends : done + count ≤ frames
+  pub stretch-fits : count * channels ≤ places
+  pub stretch-ends : done + count ≤ frames
   pub samples-end : done * channels + count * channels ≤ samples
   pub forward : 0 < count
 
--- as many frames as a block has places for, or those that are left
+-- as many frames as a stretch has places for, or those that are left
 pub step-of : {places channels frames samples done count most : ℕ} → 0 < most → most * channels ≤ places → frames * channels ≡ samples → done < frames → count ≡ min (frames - done) most
     → Step places channels frames samples done count
 step-of {places} {channels} {frames} {samples} {done} {count} {most} some fits all left e =
     let low : count ≤ most = omega (arith, min-le-right (frames - done) most) in
     let ends : done + count ≤ frames = omega (arith, min-le-left (frames - done) most) in
     record {
-      block-fits = omega (arith, mul-le-mul-right channels low);
-      block-ends = ends;
+      stretch-fits = omega (arith, mul-le-mul-right channels low);
+      stretch-ends = ends;
       samples-end = omega (arith, mul-le-mul-right channels ends, add-mul done count channels);
       forward = omega arith;
     }
 
--- a block that has a place for each channel has some frames
+-- a stretch that has a place for each channel has some frames
 pub some-frames : (places channels : ℕ) → 0 < channels → channels ≤ places → 0 < places / channels
 some-frames places channels h few =
     ⊎-elim (λ (z : places / channels ≡ 0). absurd (lt-irrefl 0 (omega (arith, div-add-mod' places channels, ap (λ (x : ℕ). x * channels) z, zero-mul channels, mod-lt places h))))

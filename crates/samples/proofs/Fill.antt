@@ -1,5 +1,5 @@
--- Filling a block, of whatever kind: what is still to be stored, from place i on, gives what all of it gives from place 0.
--- A turn stores the sample at place i, which heads what is left; past the end of the block or of the samples nothing is left to store. Assumes nothing.
+-- Filling a stretch, of whatever kind: what is still to be stored, from place i on, gives what all of it gives from place 0.
+-- A turn stores the sample at place i, which heads what is left; past the end of the stretch or of the samples nothing is left to store. Assumes nothing.
 use mathlib.Core.Path.{_≡_, refl, sym, ap, _∙_}
 use mathlib.Core.List.{List, [], _∷_, map}
 use mathlib.Core.Logic.{_⊎_, inl, inr, ⊎-elim}
@@ -11,37 +11,37 @@ use lib.ListN.{length, getD, set, drop, length-set, drop-of-length-le}
 use lib.Seq.{sets, set-out, drop-cons}
 use lib.Ieee.{Float}
 
-pub past-end : (vs block : List Float) (i : ℕ) → length block ≤ i → sets block i vs ≡ block
-past-end [] block i h = refl
-past-end (v ∷ vs) block i h = rw (set-out block i v h) (past-end vs block (suc i) (omega arith))
+pub past-end : (vs stretch : List Float) (i : ℕ) → length stretch ≤ i → sets stretch i vs ≡ stretch
+past-end [] stretch i h = refl
+past-end (v ∷ vs) stretch i h = rw (set-out stretch i v h) (past-end vs stretch (suc i) (omega arith))
 
--- what the block comes to when the samples from place i on are stored as well
+-- what the stretch comes to when the samples from place i on are stored as well
 abbrev pub filled : {A : Type 0} → (A → Float) → List A → List Float → ℕ → List Float
-filled f from block i = sets block i (map f (drop i from))
+filled f from stretch i = sets stretch i (map f (drop i from))
 
--- the block as it stands at place i, on its way from `block₀`
-pub record Filling {A : Type 0} (f : A → Float) (from : List A) (block₀ block : List Float) (i : ℕ) : Type 0 where
-  pub same : length block ≡ length block₀
-  pub rest : filled f from block i ≡ sets block₀ 0 (map f from)
+-- the stretch as it stands at place i, on its way from `stretch₀`
+pub record Filling {A : Type 0} (f : A → Float) (from : List A) (stretch₀ stretch : List Float) (i : ℕ) : Type 0 where
+  pub same : length stretch ≡ length stretch₀
+  pub rest : filled f from stretch i ≡ sets stretch₀ 0 (map f from)
 
-module _ {A : Type 0} (f : A → Float) (from : List A) (block₀ block : List Float) (i : ℕ) where
-  pub turn : (d : A) (x : Float) → i < length from → x ≡ f (getD from i d) → Filling f from block₀ block i → Filling f from block₀ (set block i x) (i + 1)
+module _ {A : Type 0} (f : A → Float) (from : List A) (stretch₀ stretch : List Float) (i : ℕ) where
+  pub turn : (d : A) (x : Float) → i < length from → x ≡ f (getD from i d) → Filling f from stretch₀ stretch i → Filling f from stretch₀ (set stretch i x) (i + 1)
   turn d x h e now =
       record {
-        same = length-set block i x ∙ now .same;
+        same = length-set stretch i x ∙ now .same;
         rest =
-            ap (λ (n : ℕ). sets (set block i x) n (map f (drop n from))) (add-one i)
-            ∙ ap (λ (y : Float). sets (set block i y) (suc i) (map f (drop (suc i) from))) e
-            ∙ ap (λ (l : List A). sets block i (map f l)) (sym (drop-cons from i d h))
+            ap (λ (n : ℕ). sets (set stretch i x) n (map f (drop n from))) (add-one i)
+            ∙ ap (λ (y : Float). sets (set stretch i y) (suc i) (map f (drop (suc i) from))) e
+            ∙ ap (λ (l : List A). sets stretch i (map f l)) (sym (drop-cons from i d h))
             ∙ now .rest;
       }
 
-  pub ends : length block₀ ≤ i ⊎ length from ≤ i → Filling f from block₀ block i → block ≡ sets block₀ 0 (map f from)
-  ends (inl h) now = sym (past-end (map f (drop i from)) block i (le-trans (le-of-eq (now .same)) h)) ∙ now .rest
-  ends (inr h) now = ap (λ (l : List A). sets block i (map f l)) (sym (drop-of-length-le from h)) ∙ now .rest
+  pub ends : length stretch₀ ≤ i ⊎ length from ≤ i → Filling f from stretch₀ stretch i → stretch ≡ sets stretch₀ 0 (map f from)
+  ends (inl h) now = sym (past-end (map f (drop i from)) stretch i (le-trans (le-of-eq (now .same)) h)) ∙ now .rest
+  ends (inr h) now = ap (λ (l : List A). sets stretch i (map f l)) (sym (drop-of-length-le from h)) ∙ now .rest
 
-pub starts : {A : Type 0} (f : A → Float) (from : List A) (block : List Float) → Filling f from block block 0
-starts f from block = record { same = refl; rest = refl }
+pub starts : {A : Type 0} (f : A → Float) (from : List A) (stretch : List Float) → Filling f from stretch stretch 0
+starts f from stretch = record { same = refl; rest = refl }
 
 -- the loop stops at the shorter of the two lengths
 pub at-shorter : (a b i n : ℕ) → n ≡ min a b → n ≤ i → a ≤ i ⊎ b ≤ i

@@ -1,15 +1,15 @@
--- What is left of a block as a channel's frames are gone through: each frame's place lies within it. Assumes nothing.
+-- What is left of a stretch as a channel's frames are gone through: each frame's place lies within it. Assumes nothing.
 use Prim.Native.Nat.{ℕ, suc, _+_, _*_, _-_, _≤_, _<_}
 use native.Mathlib.Nat.{suc-mul}
 use native.Mathlib.Omega.{arith}
 use mathlib.Core.Path.{_≡_, ap, _∙_}
-use Rattle.samples.specs.Blocks.{Reach}
+use Rattle.samples.specs.Stretches.{Reach}
 use Rattle.samples.specs.Frames.{mostChannels}
 
 pub one-less : (n : ℕ) → 0 < n → n ≡ suc (n - 1)
 one-less n h = omega arith
 
--- ---- what is left of a block
+-- ---- what is left of a stretch
 
 pub reach-start : (k channels count size : ℕ) → k < channels → channels ≤ mostChannels → count * channels ≤ size → Reach k channels count size
 reach-start k channels count size h few e = record { few = few; within = omega arith }

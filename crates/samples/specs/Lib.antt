@@ -2,4 +2,4 @@ pub mod Sample
 pub mod Kinds
 pub mod Frames
 pub mod Source
-pub mod Blocks
+pub mod Stretches

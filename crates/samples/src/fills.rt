@@ -1,4 +1,4 @@
-// Blocks filled with samples as floats.
+// Stretches filled with samples as floats.
 ghost use mathlib.Core.Path.{_≡_};
 ghost use Prim.Native.Nat.{min};
 ghost use mathlib.Core.List.{map};
@@ -12,36 +12,36 @@ pub fn shorter(a: usize, b: usize) -> usize
     if a < b { a } else { b }
 }
 
-// The samples as floats in the block's first places, as many as both have. Its other places stay.
-pub(crate) fn fill_f64_i16(block: &mut [f64], from: &[i16])
-    ensures { λ _. ⌜ now (block .exit) ≡ sets (now (block .entry)) 0 (map sampleOf16 (now (from .entry))) ⌝ }
+// The samples as floats in the stretch's first places, as many as both have. Its other places stay.
+pub(crate) fn fill_f64_i16(stretch: &mut [f64], from: &[i16])
+    ensures { λ _. ⌜ now (stretch .exit) ≡ sets (now (stretch .entry)) 0 (map sampleOf16 (now (from .entry))) ⌝ }
 {
-    let n = shorter(block.len(), from.len());
+    let n = shorter(stretch.len(), from.len());
     let mut i = 0;
     while i < n {
-        block[i] = crate::i16_to_f64(from[i]);
+        stretch[i] = crate::i16_to_f64(from[i]);
         i += 1;
     }
 }
 
-pub(crate) fn fill_f64_f32(block: &mut [f64], from: &[f32])
-    ensures { λ _. ⌜ now (block .exit) ≡ sets (now (block .entry)) 0 (map sampleOfF32 (now (from .entry))) ⌝ }
+pub(crate) fn fill_f64_f32(stretch: &mut [f64], from: &[f32])
+    ensures { λ _. ⌜ now (stretch .exit) ≡ sets (now (stretch .entry)) 0 (map sampleOfF32 (now (from .entry))) ⌝ }
 {
-    let n = shorter(block.len(), from.len());
+    let n = shorter(stretch.len(), from.len());
     let mut i = 0;
     while i < n {
-        block[i] = crate::f32_to_f64(from[i]);
+        stretch[i] = crate::f32_to_f64(from[i]);
         i += 1;
     }
 }
 
-pub fn fill_f32_i16(block: &mut [f32], from: &[i16])
-    ensures { λ _. ⌜ now (block .exit) ≡ sets (now (block .entry)) 0 (map sampleOf16 (now (from .entry))) ⌝ }
+pub fn fill_f32_i16(stretch: &mut [f32], from: &[i16])
+    ensures { λ _. ⌜ now (stretch .exit) ≡ sets (now (stretch .entry)) 0 (map sampleOf16 (now (from .entry))) ⌝ }
 {
-    let n = shorter(block.len(), from.len());
+    let n = shorter(stretch.len(), from.len());
     let mut i = 0;
     while i < n {
-        block[i] = crate::i16_to_f32(from[i]);
+        stretch[i] = crate::i16_to_f32(from[i]);
         i += 1;
     }
 }

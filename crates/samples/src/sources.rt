@@ -1,4 +1,4 @@
-// A call's samples, of whatever kind, taken as floats block by block.
+// A call's samples, of whatever kind, taken as floats stretch by stretch.
 ghost use mathlib.Core.Path.{_≡_};
 ghost use lib.ListN.{length, drop};
 ghost use lib.Seq.{sets};
@@ -14,21 +14,21 @@ pub fn size_of(ints: &[i16], floats: &[f32]) -> usize
     ints.len()
 }
 
-// The samples from place `at` on, in the block's first places, as many as both have. Its other places stay.
-pub fn fill(block: &mut [f64], ints: &[i16], floats: &[f32], at: usize)
-    ensures { λ _. ⌜ now (block .exit) ≡ sets (now (block .entry)) 0 (drop at (sourceOf (now (ints .entry)) (now (floats .entry)))) ⌝ }
+// The samples from place `at` on, in the stretch's first places, as many as both have. Its other places stay.
+pub fn fill(stretch: &mut [f64], ints: &[i16], floats: &[f32], at: usize)
+    ensures { λ _. ⌜ now (stretch .exit) ≡ sets (now (stretch .entry)) 0 (drop at (sourceOf (now (ints .entry)) (now (floats .entry)))) ⌝ }
 {
     if ints.len() == 0 {
         if floats.len() <= at {
             return;
         }
-        crate::fills::fill_f64_f32(block, &floats[at..]);
+        crate::fills::fill_f64_f32(stretch, &floats[at..]);
         return;
     }
     if ints.len() <= at {
         return;
     }
-    crate::fills::fill_f64_i16(block, &ints[at..]);
+    crate::fills::fill_f64_i16(stretch, &ints[at..]);
 }
 
 // The places of a run of samples on their way to a seed call's weighting. At eight channels they are 16 frames.

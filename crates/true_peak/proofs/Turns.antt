@@ -1,5 +1,5 @@
--- A call block by block: the samples left, from the state as it is, give what all of them give.
--- A block's samples head those that are left, and a call may be cut between any two frames. Assumes nothing.
+-- A call batch by batch: the samples left, from the state as it is, give what all of them give.
+-- A batch's samples head those that are left, and a call may be cut between any two frames. Assumes nothing.
 use Prim.Native.Nat.{ℕ, _+_, _-_, _*_, _/_, _%_, _≤_, _<_}
 use native.Mathlib.Nat.{mul-mod-left, add-mul, zero-div, div-add-mod', div-le-self}
 use native.Mathlib.Omega.{arith}
@@ -23,7 +23,7 @@ use Rattle.samples.proofs.Chosen.{rest-from}
 use Rattle.true_peak_interp.specs.Interp.{Kind, upsampled, noTruePeak, kindOf}
 use Rattle.true_peak_state.specs.declared.TruePeak.{TruePeak}
 use Rattle.true_peak_state.specs.Channel.{Channel, heard}
-use Rattle.true_peak_state.specs.TruePeak.{Block, channelOf, channelSamples, measured, heardBy}
+use Rattle.true_peak_state.specs.TruePeak.{Heard, channelOf, channelSamples, measured, heardBy}
 use Rattle.true_peak.specs.TruePeak.{processed}
 use Rattle.true_peak_state.proofs.Independence.{Sized, either, measured-sized, own-channel, other-channel, same-state}
 use Rattle.true_peak_state.proofs.Cuts.{cut}
@@ -42,7 +42,7 @@ heard-none noTruePeak ch = refl
 
 pub none : (k : Kind) (channels : ℕ) (t : TruePeak) → Sized t → channels ≤ mostChannels → measured k (record { channels = channels; samples = [] }) t ≡ t
 none k channels t s few =
-    let b : Block = record { channels = channels; samples = [] } in
+    let b : Heard = record { channels = channels; samples = [] } in
     same-state (measured k b t) t (measured-sized b t s few k) s
     (λ c h. elim (either c channels) [
       | inl l ↦ own-channel b t s few k c l ∙ ap (heardBy k (channelOf t c)) (no-samples channels c) ∙ heard-none k (channelOf t c)
@@ -54,7 +54,7 @@ none k channels t s few =
 pub whole : (channels count : ℕ) → 0 < channels → channels ≤ mostChannels → numberOf (frameRows channels (count * channels)) ≡ 0
 whole channels count some few = frames-pass channels (count * channels) some few (mul-mod-left count channels)
 
--- ---- the next block
+-- ---- the next batch
 
 module _ (k : Kind) (channels : ℕ) (some : 0 < channels) (few : channels ≤ mostChannels) (src : List Float) (done count : ℕ) (ends : done * channels + count * channels ≤ length src) where
   size : length (take (count * channels) (drop (done * channels) src)) ≡ count * channels
@@ -89,7 +89,7 @@ last k channels few src over h w t s inv =
     ∙ ap (λ (l : List Float). measured k (record { channels = channels; samples = l }) w) (sym (drop-of-length-le src h))
     ∙ inv
 
--- ---- the frames of a block
+-- ---- the frames of a batch
 
 pub runs-fit : (channels : ℕ) → places / (128 * channels) * 128 * channels ≤ places
 runs-fit channels = omega (arith, div-add-mod' places (128 * channels))
@@ -100,23 +100,23 @@ few-runs channels = div-le-self places (128 * channels)
 pub some-runs : (channels : ℕ) → 0 < channels → channels ≤ mostChannels → 0 < places / (128 * channels)
 some-runs channels h few = some-frames places (128 * channels) (omega arith) (omega arith)
 
--- ---- a block: its first places hold the samples, and a call that passes goes
+-- ---- a batch: its first places hold the samples, and a call that passes goes
 
-first : (n : ℕ) (xs block : List Float) → n ≤ length xs → n ≤ length block → take n (sets block 0 xs) ≡ take n xs
-first n xs block h k =
-    let e = length-take-le n (sets block 0 xs) (omega (arith, length-sets block 0 xs)) in
-    ext-getD nan (take n (sets block 0 xs)) (take n xs) (e ∙ sym (length-take-le n xs h))
+first : (n : ℕ) (xs batch : List Float) → n ≤ length xs → n ≤ length batch → take n (sets batch 0 xs) ≡ take n xs
+first n xs batch h k =
+    let e = length-take-le n (sets batch 0 xs) (omega (arith, length-sets batch 0 xs)) in
+    ext-getD nan (take n (sets batch 0 xs)) (take n xs) (e ∙ sym (length-take-le n xs h))
     (λ i q. (
     let r : i < n = omega (arith, e) in
     let z : i ≡ 0 + i = omega arith in
-    getD-take n (sets block 0 xs) i nan r
-    ∙ ap (λ (j : ℕ). getD (sets block 0 xs) j nan) z
-    ∙ at-within xs block 0 i nan (omega arith) (omega arith)
+    getD-take n (sets batch 0 xs) i nan r
+    ∙ ap (λ (j : ℕ). getD (sets batch 0 xs) j nan) z
+    ∙ at-within xs batch 0 i nan (omega arith) (omega arith)
     ∙ sym (getD-take n xs i nan r)))
 
-pub block-holds : (ints : List ℤ) (from size : ℕ) (before block : List Float) → block ≡ sets before 0 (map sampleOf16 (take (length ints - from) (drop from ints))) → from + size ≤ length ints → size ≤ length before
-    → take size block ≡ take size (drop from (samplesOf16 ints))
-block-holds ints from size before block e ends fits =
+pub batch-holds : (ints : List ℤ) (from size : ℕ) (before batch : List Float) → batch ≡ sets before 0 (map sampleOf16 (take (length ints - from) (drop from ints))) → from + size ≤ length ints → size ≤ length before
+    → take size batch ≡ take size (drop from (samplesOf16 ints))
+batch-holds ints from size before batch e ends fits =
     ap (take size) (e ∙ rest-from sampleOf16 ints {src = samplesOf16 ints} refl before from)
     ∙ first size (drop from (samplesOf16 ints)) before (omega (arith, length-drop from (samplesOf16 ints), length-map ints sampleOf16)) fits
 

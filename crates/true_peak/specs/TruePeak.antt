@@ -7,19 +7,19 @@ use Rattle.base_refusals.specs.Rows.{Row, byRows}
 use Rattle.filter_checks.specs.Calls.{frameRows}
 use Rattle.true_peak_interp.specs.Interp.{kindOf}
 use Rattle.true_peak_state.specs.declared.TruePeak.{TruePeak}
-use Rattle.true_peak_state.specs.TruePeak.{Block, measured}
+use Rattle.true_peak_state.specs.TruePeak.{Heard, measured}
 
 -- CHANNELS and SAMPLES
-abbrev pub peakRows : Block → List Row
+abbrev pub peakRows : Heard → List Row
 peakRows b = frameRows (b .channels) (length (b .samples))
 
 -- what a call comes to that would leave a state
-abbrev pub unlessRefused : Block → TruePeak → Outcome TruePeak NoValues
+abbrev pub unlessRefused : Heard → TruePeak → Outcome TruePeak NoValues
 unlessRefused b t = byRows (peakRows b) (went t done)
 
-abbrev pub processed : ℕ → Block → TruePeak → Outcome TruePeak NoValues
+abbrev pub processed : ℕ → Heard → TruePeak → Outcome TruePeak NoValues
 processed rate b t = unlessRefused b (measured (kindOf rate) b t)
 
 -- `seed` moves the memory and writes no peak
-abbrev pub seeded : ℕ → Block → TruePeak → Outcome TruePeak NoValues
+abbrev pub seeded : ℕ → Heard → TruePeak → Outcome TruePeak NoValues
 seeded rate b t = unlessRefused b (record { memory = measured (kindOf rate) b t .memory; peaks = t .peaks })

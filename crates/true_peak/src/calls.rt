@@ -1,4 +1,4 @@
-// The true peak of a call over samples of whatever kind, block by block: integers become f32, and floats are heard where they stand.
+// The true peak of a call over samples of whatever kind, batch by batch: integers become f32, and floats are heard where they stand.
 ghost use mathlib.Core.Path.{_≡_};
 ghost use Prim.Native.Nat.{_+_, _*_, _<_, _≤_};
 ghost use lib.ListN.{length, take, drop};
@@ -18,20 +18,20 @@ use crate::Measured;
 use base_refusals::Answer;
 use true_peak_state::TruePeak;
 
-// The places of a block, and the frames that the interpolator takes at a time: a block is whole runs of them.
-const BLOCK: usize = 4096;
+// The places of a batch, and the frames that the interpolator takes at a time: a batch is whole runs of them.
+const BATCH: usize = 4096;
 
 const RUN: usize = 128;
 
-// How many frames a block takes.
+// How many frames a batch takes.
 fn most(channels: usize) -> usize
     requires { ⌜ (0 < channels) × (channels ≤ mostChannels) ⌝ }
     ensures { λ r. ⌜ (0 < r) × (r * channels ≤ places) ⌝ }
 {
-    BLOCK / (RUN * channels) * RUN
+    BATCH / (RUN * channels) * RUN
 }
 
-// The state of these values: cutting a call into blocks counts on each channel's places.
+// The state of these values: cutting a call into batches counts on each channel's places.
 fn state_of(memory: [f32; 184], peaks: [f32; 8]) -> TruePeak
     ensures { λ r. ⌜ r ≡ record { memory = memory; peaks = peaks } ⌝ }
     ensures { λ _. ⌜ (length memory ≡ mostChannels * past) × (length peaks ≡ mostChannels) ⌝ }
@@ -42,7 +42,7 @@ fn state_of(memory: [f32; 184], peaks: [f32; 8]) -> TruePeak
     }
 }
 
-// So many integers from place `from` on, by way of a block.
+// So many integers from place `from` on, by way of a batch.
 fn hear_ints(
     rate: u32,
     t: TruePeak,
@@ -56,9 +56,9 @@ fn hear_ints(
     requires { ⌜ size ≤ places ⌝ }
     ensures { λ r. ⌜ r ≡ measured (kindOf rate) (record { channels = channels; samples = take size (drop from (samplesOf16 (now (ints .entry)))) }) t ⌝ }
 {
-    let mut block: [f32; BLOCK] = [0.0; BLOCK];
-    samples::fills::fill_f32_i16(&mut block, &ints[from..]);
-    let m = crate::process(rate, t, channels, &block[..size]);
+    let mut batch: [f32; BATCH] = [0.0; BATCH];
+    samples::fills::fill_f32_i16(&mut batch, &ints[from..]);
+    let m = crate::process(rate, t, channels, &batch[..size]);
     m.state
 }
 
@@ -85,7 +85,7 @@ fn hear(
     hear_ints(rate, t, channels, ints, from, size)
 }
 
-// The state after all samples, block by block, floats too: each channel goes over a block by itself, and a block stays near the processor.
+// The state after all samples, batch by batch, floats too: each channel goes over a batch by itself, and a batch stays near the processor.
 fn measure(rate: u32, t: TruePeak, channels: usize, ints: &[i16], floats: &[f32]) -> TruePeak
     requires { ⌜ numberOf (frameRows channels (length (sourceOf (now ints) (now floats)))) ≡ 0 ⌝ }
     ensures { λ r. ⌜ r ≡ measured (kindOf rate) (record { channels = channels; samples = sourceOf (now (ints .entry)) (now (floats .entry)) }) t ⌝ }

@@ -11,7 +11,7 @@ use lib.Ieee.{Float}
 use Rattle.true_peak_interp.specs.declared.Interp.{Interp}
 use Rattle.true_peak_state.specs.declared.TruePeak.{TruePeak}
 use Rattle.true_peak_state.specs.Channel.{Channel, heard, past}
-use Rattle.true_peak_state.specs.TruePeak.{Block, channelOf, withChannel, channelSamples, channelsFrom}
+use Rattle.true_peak_state.specs.TruePeak.{Heard, channelOf, withChannel, channelSamples, channelsFrom}
 
 -- a channel's memory and peak put in their places
 pub put : (t : TruePeak) (c : ℕ) (ch : Channel) (memory : List Float) (peak : Float) → peak ≡ ch .peak → memory ≡ sets (t .memory) (c * past) (ch .history)
@@ -20,10 +20,10 @@ put t c ch memory peak e f =
     ap (λ (p : Float). record { memory = memory; peaks = set (t .peaks) c p }) e ∙ ap (λ (m : List Float). record { memory = m; peaks = set (t .peaks) c (ch .peak) }) f
 
 -- ---- one channel more
-pub channels-start : (i : Interp) (b : Block) (n : ℕ) (t : TruePeak) → channelsFrom i b 0 (n - 0) t ≡ channelsFrom i b 0 n t
+pub channels-start : (i : Interp) (b : Heard) (n : ℕ) (t : TruePeak) → channelsFrom i b 0 (n - 0) t ≡ channelsFrom i b 0 n t
 channels-start i b n t = let e : n - 0 ≡ n = omega arith in ap (λ (k : ℕ). channelsFrom i b 0 k t) e
 
-pub channels-turn : (i : Interp) (b : Block) (c n : ℕ) (t new : TruePeak) → c < n → new ≡ withChannel t c (heard i (channelOf t c) (channelSamples b c))
+pub channels-turn : (i : Interp) (b : Heard) (c n : ℕ) (t new : TruePeak) → c < n → new ≡ withChannel t c (heard i (channelOf t c) (channelSamples b c))
     → channelsFrom i b (c + 1) (n - (c + 1)) new ≡ channelsFrom i b c (n - c) t
 unfolding channelsFrom
 channels-turn i b c n t new h e =
@@ -32,6 +32,6 @@ channels-turn i b c n t new h e =
     ∙ ap (channelsFrom i b (suc c) (n - (c + 1))) e
     ∙ ap (λ (k : ℕ). channelsFrom i b c k t) (sym f)
 
-pub channels-end : (i : Interp) (b : Block) (c n : ℕ) (t : TruePeak) → n ≤ c → t ≡ channelsFrom i b c (n - c) t
+pub channels-end : (i : Interp) (b : Heard) (c n : ℕ) (t : TruePeak) → n ≤ c → t ≡ channelsFrom i b c (n - c) t
 unfolding channelsFrom
 channels-end i b c n t h = let e : 0 ≡ n - c = omega arith in ap (λ (k : ℕ). channelsFrom i b c k t) e

@@ -15,7 +15,7 @@ use Rattle.true_peak_state.specs.declared.TruePeak.{TruePeak}
 use Rattle.true_peak_state.specs.Channel.{Channel, hear, heard}
 use Rattle.samples.specs.Frames.{silence, column, mostChannels}
 use Rattle.samples.proofs.Columns.{column-append}
-use Rattle.true_peak_state.specs.TruePeak.{Block, channelOf, channelSamples, measured, heardBy}
+use Rattle.true_peak_state.specs.TruePeak.{Heard, channelOf, channelSamples, measured, heardBy}
 use Rattle.true_peak_state.proofs.Independence.{Sized, either, measured-sized, own-channel, other-channel, same-state}
 
 pub heard-append : (i : Interp) (ch : Channel) (xs ys : List Float) → heard i ch (xs ++ ys) ≡ heard i (heard i ch xs) ys
@@ -44,8 +44,8 @@ column-right xs ys at step (suc n) from e =
     ∙ ap (λ (r : List Float). getD ys at silence ∷ r) (column-right xs ys (at + step) step n (from + step) (omega arith))
 
 module _ (channels : ℕ) (some : 0 < channels) (few : channels ≤ mostChannels) (xs ys : List Float) (whole : length xs % channels ≡ 0) where
-  block : List Float → Block
-  block samples = record { channels = channels; samples = samples }
+  source : List Float → Heard
+  source samples = record { channels = channels; samples = samples }
 
   exact : length xs / channels * channels ≡ length xs
   exact = omega (arith, div-add-mod' (length xs) channels)
@@ -54,8 +54,8 @@ module _ (channels : ℕ) (some : 0 < channels) (few : channels ≤ mostChannels
   frames-add =
       ap (λ (n : ℕ). n / channels) (length-append xs ys ∙ ap (λ (n : ℕ). n + length ys) (sym exact)) ∙ mul-add-div-right some (length xs / channels) (length ys)
 
-  samples-append : (c : ℕ) → c < channels → channelSamples (block (xs ++ ys)) c ≡ channelSamples (block xs) c ++ channelSamples (block ys) c
-  unfolding block
+  samples-append : (c : ℕ) → c < channels → channelSamples (source (xs ++ ys)) c ≡ channelSamples (source xs) c ++ channelSamples (source ys) c
+  unfolding source
   samples-append c h =
       let n = length xs / channels in
       let m = length ys / channels in
@@ -67,26 +67,26 @@ module _ (channels : ℕ) (some : 0 < channels) (few : channels ≤ mostChannels
   pub cut : (k : Kind) (t : TruePeak) → Sized t
       → measured k (record { channels = channels; samples = xs ++ ys }) t
       ≡ measured k (record { channels = channels; samples = ys }) (measured k (record { channels = channels; samples = xs }) t)
-  unfolding block
+  unfolding source
   cut k t s =
-      same-state (measured k (block (xs ++ ys)) t) (measured k (block ys) first) (measured-sized (block (xs ++ ys)) t s few k) (measured-sized (block ys) first sized few k)
+      same-state (measured k (source (xs ++ ys)) t) (measured k (source ys) first) (measured-sized (source (xs ++ ys)) t s few k) (measured-sized (source ys) first sized few k)
       (λ c h. elim (either c channels) [ inl l ↦ heard-twice c l | inr l ↦ untouched c l h ])
     where
       first : TruePeak
-      first = measured k (block xs) t
+      first = measured k (source xs) t
 
       sized : Sized first
-      sized = measured-sized (block xs) t s few k
+      sized = measured-sized (source xs) t s few k
 
-      heard-twice : (c : ℕ) → c < channels → channelOf (measured k (block (xs ++ ys)) t) c ≡ channelOf (measured k (block ys) first) c
+      heard-twice : (c : ℕ) → c < channels → channelOf (measured k (source (xs ++ ys)) t) c ≡ channelOf (measured k (source ys) first) c
       heard-twice c l =
-          own-channel (block (xs ++ ys)) t s few k c l
+          own-channel (source (xs ++ ys)) t s few k c l
           ∙ ap (heardBy k (channelOf t c)) (samples-append c l)
-          ∙ heardBy-append k (channelOf t c) (channelSamples (block xs) c) (channelSamples (block ys) c)
-          ∙ ap (λ (ch : Channel). heardBy k ch (channelSamples (block ys) c)) (sym (own-channel (block xs) t s few k c l))
-          ∙ sym (own-channel (block ys) first sized few k c l)
+          ∙ heardBy-append k (channelOf t c) (channelSamples (source xs) c) (channelSamples (source ys) c)
+          ∙ ap (λ (ch : Channel). heardBy k ch (channelSamples (source ys) c)) (sym (own-channel (source xs) t s few k c l))
+          ∙ sym (own-channel (source ys) first sized few k c l)
 
-      untouched : (c : ℕ) → channels ≤ c → c < mostChannels → channelOf (measured k (block (xs ++ ys)) t) c ≡ channelOf (measured k (block ys) first) c
+      untouched : (c : ℕ) → channels ≤ c → c < mostChannels → channelOf (measured k (source (xs ++ ys)) t) c ≡ channelOf (measured k (source ys) first) c
       untouched c l h =
-          other-channel (block (xs ++ ys)) t s few k c l h
-          ∙ sym (other-channel (block ys) first sized few k c l h ∙ other-channel (block xs) t s few k c l h)
+          other-channel (source (xs ++ ys)) t s few k c l h
+          ∙ sym (other-channel (source ys) first sized few k c l h ∙ other-channel (source xs) t s few k c l h)

@@ -13,7 +13,7 @@ use Rattle.true_peak_interp.specs.declared.Interp.{Interp}
 use Rattle.true_peak_interp.specs.Interp.{Kind, upsampled, noTruePeak}
 use Rattle.true_peak_state.specs.declared.TruePeak.{TruePeak}
 use Rattle.true_peak_state.specs.Channel.{Channel, hear, heard, past}
-use Rattle.true_peak_state.specs.TruePeak.{Block, historyAt, channelOf, withChannel, channelSamples, channelsFrom, measured, heardBy}
+use Rattle.true_peak_state.specs.TruePeak.{Heard, historyAt, channelOf, withChannel, channelSamples, channelsFrom, measured, heardBy}
 use Rattle.samples.proofs.Stored.{at-before, at-within, at-after}
 use Rattle.samples.specs.Frames.{mostChannels}
 
@@ -83,7 +83,7 @@ module _ (t : TruePeak) (s : Sized t) (c : ℕ) (ch : Channel) (long : length (c
       ]
 
 -- ---- n channels from channel c on
-module _ (i : Interp) (b : Block) where
+module _ (i : Interp) (b : Heard) where
   after : TruePeak → ℕ → TruePeak
   after t c = withChannel t c (heard i (channelOf t c) (channelSamples b c))
 
@@ -125,7 +125,7 @@ module _ (i : Interp) (b : Block) where
   ]
 
 -- ---- a call: every channel by itself
-module _ (b : Block) (t : TruePeak) (s : Sized t) (few : b .channels ≤ mostChannels) where
+module _ (b : Heard) (t : TruePeak) (s : Sized t) (few : b .channels ≤ mostChannels) where
   pub measured-sized : (k : Kind) → Sized (measured k b t)
   unfolding measured
   measured-sized (upsampled i) = from-sized i b (b .channels) 0 t s (omega arith)
@@ -142,7 +142,7 @@ module _ (b : Block) (t : TruePeak) (s : Sized t) (few : b .channels ≤ mostCha
   other-channel noTruePeak c h g = refl
 
 -- two calls in which a channel has the same state and the same samples leave it the same, whatever the other channels have
-pub independent : (k : Kind) (b d : Block) (t u : TruePeak) → Sized t → Sized u → b .channels ≤ mostChannels → d .channels ≤ mostChannels
+pub independent : (k : Kind) (b d : Heard) (t u : TruePeak) → Sized t → Sized u → b .channels ≤ mostChannels → d .channels ≤ mostChannels
     → (c : ℕ) → c < b .channels → c < d .channels → channelOf t c ≡ channelOf u c → channelSamples b c ≡ channelSamples d c
     → channelOf (measured k b t) c ≡ channelOf (measured k d u) c
 independent k b d t u s v h g c hc gc e f =

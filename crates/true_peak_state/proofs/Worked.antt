@@ -15,10 +15,10 @@ use Rattle.true_peak_state.specs.declared.TruePeak.{TruePeak}
 use Rattle.base_floats.specs.Largest.{greatest}
 use Rattle.true_peak_state.specs.Channel.{heard}
 use Rattle.samples.specs.Frames.{column}
-use Rattle.true_peak_state.specs.TruePeak.{Block, silent, measured}
+use Rattle.true_peak_state.specs.TruePeak.{Heard, silent, measured}
 
 -- -1.0 and then n zeros, of one channel
-unfoldable pub fullScale : ℕ → Block
+unfoldable pub fullScale : ℕ → Heard
 fullScale n = record { channels = 1; samples = fin true 1 (pos 0) ∷ replicate n plusZero }
 
 -- the first channel's true peak after them
@@ -42,6 +42,6 @@ unfolding peakAt measured heard greatest phasesBy column twofold add mul lt ofBi
 before-96000 = refl
 
 -- "At 192,000: none": whatever the samples, the state stays
-pub at-192000 : (b : Block) (t : TruePeak) → measured (kindOf 192000) b t ≡ t
+pub at-192000 : (b : Heard) (t : TruePeak) → measured (kindOf 192000) b t ≡ t
 unfolding measured
 at-192000 b t = refl

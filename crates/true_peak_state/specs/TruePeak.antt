@@ -22,24 +22,24 @@ abbrev pub withChannel : TruePeak → ℕ → Channel → TruePeak
 withChannel t c ch = record { memory = sets (t .memory) (c * past) (ch .history); peaks = set (t .peaks) c (ch .peak) }
 
 -- a call's samples: how many channels they interleave, and themselves
-pub record Block : Type 0 where
+pub record Heard : Type 0 where
   pub channels : ℕ
   pub samples : List Float
 
-abbrev pub framesOf : Block → ℕ
+abbrev pub framesOf : Heard → ℕ
 framesOf b = length (b .samples) / b .channels
 
 -- the samples of channel c
-abbrev pub channelSamples : Block → ℕ → List Float
+abbrev pub channelSamples : Heard → ℕ → List Float
 channelSamples b c = column (b .samples) c (b .channels) (framesOf b)
 
 -- n channels from channel c on hear their samples; the others stay
-unfoldable pub channelsFrom : Interp → Block → ℕ → ℕ → TruePeak → TruePeak
+unfoldable pub channelsFrom : Interp → Heard → ℕ → ℕ → TruePeak → TruePeak
 channelsFrom i b c zero t = t
 channelsFrom i b c (suc n) t = channelsFrom i b (suc c) n (withChannel t c (heard i (channelOf t c) (channelSamples b c)))
 
 -- "else no true peak and stored peaks stay"
-unfoldable pub measured : Kind → Block → TruePeak → TruePeak
+unfoldable pub measured : Kind → Heard → TruePeak → TruePeak
 unfolding channelsFrom
 measured (upsampled i) b t = channelsFrom i b 0 (b .channels) t
 measured noTruePeak b t = t

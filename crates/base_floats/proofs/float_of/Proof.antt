@@ -15,4 +15,4 @@ unfolding div ofBits
 returns-2 c = sym (past-infinity (c .before .args .pattern) (omega (arith, c .if1 .left)))
 
 pub float-of-spec : {M : Type 1} → statement M
-float-of-spec = tie.close (tie.spec float-from-bits-result (search needs) returns-2)
+float-of-spec = tie.close (tie.spec float-from-bits-result (λ c. search needs) returns-2)

@@ -14,4 +14,4 @@ float-to-bits-result : tie.Need-float-to-bits-result
 float-to-bits-result c = rw (sym (differs (c .before .args .x)) ∙ c .if1 .left) tt
 
 pub pattern-of-spec : {M : Type 1} → statement M
-pattern-of-spec = tie.close (tie.spec returns float-to-bits-result (search needs))
+pattern-of-spec = tie.close (tie.spec returns float-to-bits-result (λ c. search needs))

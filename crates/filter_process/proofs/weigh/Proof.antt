@@ -4,7 +4,7 @@ use borrow.Author.Tests.{not-true, not-false}
 use mathlib.Core.Path.{refl, ap, _∙_}
 use mathlib.Core.List.{List}
 use lib.Ieee.{Float}
-use Rattle.filter_recurrence.specs.Channels.{callOf}
+use Rattle.filter_recurrence.specs.Channels.{weighingOf}
 use Rattle.filter_weighting.specs.Weighting.{Kept, kept}
 use Rattle.filter.proofs.Lent.{lent-f64}
 use Rattle.filter_process.proofs.weigh.Statement.{statement}
@@ -19,7 +19,7 @@ returns-2 c =
     let q = w .before .before .before in
     let a = q .before .before .before .before .args in
     let e = w .process-lent .ensures in
-    let same = ap (λ (x : List Float). kept (callOf (a .c) (record { values = a .state .now }) (a .sizes .channels) x (a .map .now)) (a .dest .now) (a .sizes .start)) (lent-f64 (a .ints .now) (a .floats .now)) in
+    let same = ap (λ (x : List Float). kept (weighingOf (a .c) (record { values = a .state .now }) (a .sizes .channels) x (a .map .now)) (a .dest .now) (a .sizes .start)) (lent-f64 (a .ints .now) (a .floats .now)) in
     rw (not-false (a .on) (q .if1 .left)) (e .1 ∙ ap (λ (k : Kept). k .state .values) same, e .2 ∙ ap (λ (k : Kept). k .dest) same)
 
 pub weigh-spec : {M : Type 1} → statement M

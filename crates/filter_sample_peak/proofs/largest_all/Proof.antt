@@ -8,7 +8,7 @@ use lib.ListN.{length, getD}
 use lib.Ieee.{Float, nan}
 use lib.Ieee.{lt, ofBits}
 use Rattle.samples.specs.Frames.{column}
-use Rattle.samples.specs.Blocks.{blockPlaces}
+use Rattle.samples.specs.Stretches.{stretchPlaces}
 use Rattle.samples.specs.Source.{sourceOf}
 use Rattle.base_floats.specs.Entry.{plusZero}
 use Rattle.base_floats.specs.Largest.{largest}
@@ -22,7 +22,7 @@ use Rattle.filter_sample_peak.proofs.largest_all.Tie as tie
 abbrev Inv-loop : tie.InvT-loop
 Inv-loop channels frames ints floats stretch₀ most tops₀ done₀ stretch tops done =
     (done ≤ frames)
-    × ((length stretch ≡ blockPlaces)
+    × ((length stretch ≡ stretchPlaces)
     × ((length (tops .values) ≡ 8)
     × ((k : ℕ) → k < channels → getD (tops .values) k nan ≡ largest plusZero (column (sourceOf ints floats) k channels done))))
 
@@ -38,13 +38,13 @@ loop-holds c = let s = c .before in (omega arith, (refl, (refl, λ k h. start-to
 
 -- the frames of the stretch
 sizes : (c : tie.After-shorter Inv-loop μ-loop) → let s = c .before .before .before .before in
-    Step blockPlaces (s .args .channels) (s .args .frames) (length (sourceOf (s .args .ints .now) (s .args .floats .now))) (c .before .before .loop .done) (c .shorter .result)
+    Step stretchPlaces (s .args .channels) (s .args .frames) (length (sourceOf (s .args .ints .now) (s .args .floats .now))) (c .before .before .loop .done) (c .shorter .result)
 sizes c = let s = c .before .before .before .before in step (omega arith) (s .pre) (c .before .loop-test .taken) (c .shorter .ensures)
 
 mul-fill : tie.Need-mul-fill Inv-loop μ-loop
 mul-fill c = omega (arith, sizes (c .before) .samples-end, c .before .before .before .before .before .pre .small)
 
-size : (c : tie.After-fill Inv-loop μ-loop) → length (c .fill .last .0) ≡ blockPlaces
+size : (c : tie.After-fill Inv-loop μ-loop) → length (c .fill .last .0) ≡ stretchPlaces
 size c = c .fill .kept .0 ∙ c .before .before .before .before .loop .inv .1 .0
 
 next : (c : tie.After-fill Inv-loop μ-loop) → let q = c .before .before .before in let s = q .before .before .before in
@@ -52,7 +52,7 @@ next : (c : tie.After-fill Inv-loop μ-loop) → let q = c .before .before .befo
 next c =
     let n = sizes (c .before .before) in
     let q = c .before .before .before in
-    record { agrees = filled _ (q .before .loop .stretch) _ _ _ (c .fill .ensures) (n .samples-end) (omega (arith, n .block-fits, q .before .loop .inv .1 .0)) }
+    record { agrees = filled _ (q .before .loop .stretch) _ _ _ (c .fill .ensures) (n .samples-end) (omega (arith, n .stretch-fits, q .before .loop .inv .1 .0)) }
 
 slice-aggregate-peak-stretch : tie.Need-slice-aggregate-peak-stretch Inv-loop μ-loop
 slice-aggregate-peak-stretch c = sym (size (c .before .before))
@@ -65,13 +65,13 @@ peak-stretch-requires c κs =
     let l = q .before .loop in (
       (s .pre .some, s .pre .few),
       (
-        omega (arith, size f, sizes (f .before .before) .block-fits),
+        omega (arith, size f, sizes (f .before .before) .stretch-fits),
         λ k h. ap (λ (x : Float). lt x plusZero) (l .inv .1 .1 .1 k h) ∙ largest-high plusZero (column (sourceOf (s .args .ints .now) (s .args .floats .now)) k (s .args .channels) (l .done)) zero-high,
       ),
     )
 
 add-done : tie.Need-add-done Inv-loop μ-loop
-add-done c = let h = c .before .before .before .before .before in omega (arith, sizes h .block-ends, h .before .before .before .before .fits)
+add-done c = let h = c .before .before .before .before .before in omega (arith, sizes h .stretch-ends, h .before .before .before .before .fits)
 
 loop-less : tie.Need-loop-less Inv-loop μ-loop
 loop-less c = let h = c .before .before .before .before .before in omega (arith, sizes h .forward, h .before .loop-test .taken)
@@ -85,7 +85,7 @@ loop-again c =
     let s = q .before .before .before in
     let a = s .args in
     let change = peaks (f .fill .last .0) (a .channels) (h .shorter .result) in (
-      sizes h .block-ends,
+      sizes h .stretch-ends,
       (
         size f,
         (

@@ -6,7 +6,7 @@ use mathlib.Core.List.{List}
 use lib.Ieee.{Float}
 use Rattle.base_refusals.specs.Outcome.{keptBy}
 use Rattle.filter_recurrence.specs.declared.states.State.{State}
-use Rattle.filter_recurrence.specs.Channels.{callOf}
+use Rattle.filter_recurrence.specs.Channels.{weighingOf}
 use Rattle.filter_weighting.specs.Seeding.{moved}
 use Rattle.filter.proofs.Lent.{lent-f64}
 use Rattle.filter_seed.proofs.advance.Statement.{statement}
@@ -22,7 +22,7 @@ returns-2 c =
     let stored : State = record { values = a .state .now } in
     rw (not-false (a .on) (q .if1 .left))
     (ap (λ (s : State). s .values) (c .before .seed .ensures .1)
-    ∙ ap (λ (x : List Float). keptBy stored (moved (callOf (record { a = a .a .now; b = a .b .now }) stored (a .channels) x (a .map .now))) .values) (lent-f64 (a .ints .now) (a .floats .now)))
+    ∙ ap (λ (x : List Float). keptBy stored (moved (weighingOf (record { a = a .a .now; b = a .b .now }) stored (a .channels) x (a .map .now))) .values) (lent-f64 (a .ints .now) (a .floats .now)))
 
 pub advance-spec : {M : Type 1} → statement M
 advance-spec = tie.close (tie.spec returns (λ c κs. search needs) returns-2)

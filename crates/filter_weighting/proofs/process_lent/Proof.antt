@@ -14,7 +14,7 @@ use Rattle.filter_checks.specs.Calls.{sizes, processRows}
 use Rattle.filter_checks.proofs.Checking.{Processes, processes}
 use Rattle.samples.specs.Source.{sourceOf}
 use Rattle.samples.proofs.Cutting.{all-frames}
-use Rattle.filter_recurrence.specs.Channels.{Call, callOf, stateAfter}
+use Rattle.filter_recurrence.specs.Channels.{Weighing, weighingOf, stateAfter}
 use Rattle.filter_recurrence.proofs.Runs.{state-is}
 use Rattle.filter_weighting.specs.Weighting.{Kept, destAfter, weighingRows, weighed}
 use Rattle.filter_weighting.proofs.Destinations.{dest-is}
@@ -22,8 +22,8 @@ use Rattle.filter_weighting.proofs.process_lent.Statement.{statement}
 use Rattle.filter_weighting.proofs.process_lent.Tie as tie
 
 -- the call of the definitions
-abbrev call : tie.Start → Call
-call s = let a = s .args in callOf (a .c) (record { values = a .state .now }) (a .channels) (sourceOf (a .ints .now) (a .floats .now)) (a .map .now)
+abbrev call : tie.Start → Weighing
+call s = let a = s .args in weighingOf (a .c) (record { values = a .state .now }) (a .channels) (sourceOf (a .ints .now) (a .floats .now)) (a .map .now)
 
 abbrev rows : tie.Start → List Row
 rows s = weighingRows (call s) (s .args .dest .now) (s .args .start)

@@ -99,13 +99,13 @@ all-gated-spec =
     (tie.spec
     Inv-loop
     μ-loop
-    (search needs)
+    (λ c κs. search needs)
     loop-holds
     mul-entry
     array-copy-out-entry
     history-gated-requires
     add-blocks
     add-i
-    (search needs)
+    (λ c. search needs)
     loop-again
     returns)

@@ -28,4 +28,4 @@ returns-4 c =
     rw (ne-eqb (a .all .count) 0 (z .if1 .left), sym (n .before .is-nan .ensures) ∙ n .if2 .left, ne-eqb (a .left .count) 0 (c .if3 .left))
 
 pub answer-spec : {M : Type 1} → statement M
-answer-spec = tie.close (tie.spec returns (search needs) returns-2 returns-3 returns-4)
+answer-spec = tie.close (tie.spec returns (λ c κs. search needs) returns-2 returns-3 returns-4)

@@ -55,11 +55,11 @@ pub gate-of-history-spec : {M : Type 1} → statement M
 gate-of-history-spec =
     tie.close
     (tie.spec
-    (search needs)
-    (search needs)
+    (λ c κs. search needs)
+    (λ c κs. search needs)
     returns
-    (search needs)
-    (search needs)
+    (λ c κs. search needs)
+    (λ c κs. search needs)
     history-gated-requires
-    (search needs)
+    (λ c κs. search needs)
     returns-2)

@@ -54,9 +54,9 @@ pub history-gated-spec : {M : Type 1} → statement M
 history-gated-spec =
     tie.close
     (tie.spec
-    (search needs)
+    (λ c. search needs)
     from-bin-requires
-    (search needs)
-    (search needs)
+    (λ c. search needs)
+    (λ c κs. search needs)
     returns
     returns-2)

@@ -77,12 +77,12 @@ loudness-range-spec =
     tie.close
     (tie.spec
     returns
-    (search needs)
-    (search needs)
+    (λ c κs. search needs)
+    (λ c κs. search needs)
     returns-2
-    (search needs)
-    (search needs)
+    (λ c κs. search needs)
+    (λ c. search needs)
     returns-3
-    (search needs)
+    (λ c κs. search needs)
     returns-4
     returns-5)

@@ -17,4 +17,4 @@ returns-2 : tie.Need-returns-2
 returns-2 c = λ (counters : List ℕ) (energies : List Float). sym (ap (λ (s : Shape). queuesBy (shapeShows counters energies s)) (c .enum-told2 .given .1))
 
 pub queues-by-spec : {M : Type 1} → statement M
-queues-by-spec = tie.close (tie.spec (search needs) (search needs) returns returns-2)
+queues-by-spec = tie.close (tie.spec (λ c. search needs) (λ c. search needs) returns returns-2)

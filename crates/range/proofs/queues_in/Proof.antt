@@ -49,11 +49,11 @@ queues-in-spec =
     Inv-loop
     μ-loop
     loop-holds
-    (search needs)
-    (search needs)
-    (search needs)
+    (λ c. search needs)
+    (λ c. search needs)
+    (λ c κs. search needs)
     add-queues
-    (search needs)
-    (search needs)
+    (λ c. search needs)
+    (λ c. search needs)
     loop-again
     returns)

@@ -71,14 +71,14 @@ pub add-history-spec : {M : Type 1} → statement M
 add-history-spec =
     tie.close
     (tie.spec
-    (search needs)
+    (λ c. search needs)
     add-end
     mul-add-counters
     sub-add-counters
     part-add-counters-start
     part-add-counters-end
     add-counters-requires
-    (search needs)
-    (search needs)
+    (λ c. search needs)
+    (λ c. search needs)
     returns
     returns-2)

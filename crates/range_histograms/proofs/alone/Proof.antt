@@ -37,8 +37,8 @@ pub alone-spec : {M : Type 1} → statement M
 alone-spec =
     tie.close
     (tie.spec
-    (search needs)
-    (search needs)
-    (search needs)
+    (λ c. search needs)
+    (λ c κs. search needs)
+    (λ c. search needs)
     returns
     returns-2)

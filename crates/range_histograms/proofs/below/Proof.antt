@@ -36,4 +36,4 @@ returns c =
     l .loop .inv .1 ∙ ap (λ (n : ℕ). blocksIn (take n (now (l .before .args .counters)))) {x = l .loop .i} {y = l .before .args .bin} (omega arith)
 
 pub below-spec : {M : Type 1} → statement M
-below-spec = tie.close (tie.spec Inv-loop μ-loop loop-holds (search needs) (search needs) add-blocks (search needs) (search needs) loop-again returns)
+below-spec = tie.close (tie.spec Inv-loop μ-loop loop-holds (λ c. search needs) (λ c. search needs) add-blocks (λ c. search needs) (λ c. search needs) loop-again returns)

@@ -46,4 +46,4 @@ returns-2 c =
 
 pub first-past-spec : {M : Type 1} → statement M
 first-past-spec =
-    tie.close (tie.spec Inv-loop μ-loop loop-holds (search needs) (search needs) add-next returns (search needs) (search needs) loop-again returns-2)
+    tie.close (tie.spec Inv-loop μ-loop loop-holds (λ c. search needs) (λ c. search needs) add-next returns (λ c. search needs) (λ c. search needs) loop-again returns-2)

@@ -87,12 +87,12 @@ pub of-histograms-spec : {M : Type 1} → statement M
 of-histograms-spec =
     tie.close
     (tie.spec
-    (search needs)
+    (λ c κs. search needs)
     returns
-    (search needs)
+    (λ c. search needs)
     alone-requires
     returns-2
-    (search needs)
+    (λ c. search needs)
     add-histories-requires
     slice-aggregate-span-of
     span-of-requires

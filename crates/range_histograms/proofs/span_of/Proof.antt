@@ -48,4 +48,4 @@ returns-2 c =
     (ap (λ (n : ℕ). blocksIn (take n (counters t))) (start-is b))))
 
 pub span-of-spec : {M : Type 1} → statement M
-span-of-spec = tie.close (tie.spec (search needs) returns (search needs) (search needs) ranked-requires returns-2)
+span-of-spec = tie.close (tie.spec (λ c κs. search needs) returns (λ c κs. search needs) (λ c κs. search needs) ranked-requires returns-2)

@@ -66,15 +66,15 @@ sum-up-spec =
     (tie.spec
     Inv-loop
     μ-loop
-    (search needs)
+    (λ c κs. search needs)
     loop-holds
-    (search needs)
-    (search needs)
+    (λ c. search needs)
+    (λ c. search needs)
     float-requires
-    (search needs)
-    (search needs)
+    (λ c. search needs)
+    (λ c. search needs)
     add-count
-    (search needs)
-    (search needs)
+    (λ c. search needs)
+    (λ c. search needs)
     loop-again
     returns)

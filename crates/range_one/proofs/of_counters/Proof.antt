@@ -87,13 +87,13 @@ pub of-counters-spec : {M : Type 1} → statement M
 of-counters-spec =
     tie.close
     (tie.spec
-    (search needs)
-    (search needs)
+    (λ c κs. search needs)
+    (λ c κs. search needs)
     returns
     add-end
     mul-ranked
-    (search needs)
-    (search needs)
+    (λ c. search needs)
+    (λ c. search needs)
     part-ranked-end
     ranked-requires
     returns-2)

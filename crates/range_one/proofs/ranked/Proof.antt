@@ -62,16 +62,16 @@ pub ranked-spec : {M : Type 1} → statement M
 ranked-spec =
     tie.close
     (tie.spec
-    (search needs)
+    (λ c κs. search needs)
     sub-left
     returns
-    (search needs)
-    (search needs)
+    (λ c. search needs)
+    (λ c κs. search needs)
     add-first-past
     first-past-requires
-    (search needs)
-    (search needs)
+    (λ c. search needs)
+    (λ c κs. search needs)
     add-first-past-2
     first-past-requires-2
-    (search needs)
+    (λ c κs. search needs)
     returns-2)

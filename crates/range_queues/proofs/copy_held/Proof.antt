@@ -77,12 +77,12 @@ pub copy-held-spec : {M : Type 1} → statement M
 copy-held-spec =
     tie.close
     (tie.spec
-    (search needs)
+    (λ c κs. search needs)
     sub-middle
     add-middle
     copy-requires
     copy-requires-2
     sub-result
     add-result
-    (search needs)
+    (λ c. search needs)
     returns)

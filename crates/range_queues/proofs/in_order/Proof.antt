@@ -150,9 +150,9 @@ in-order-spec =
     copy-all-requires
     slice-relend-prefix-order
     slice-aggregate-order
-    (search needs)
+    (λ c κs. search needs)
     slice-reshare-prefix-span-in-order
     slice-aggregate-span-in-order
-    (search needs)
+    (λ c κs. search needs)
     same-length
     returns-3)

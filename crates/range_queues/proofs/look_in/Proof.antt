@@ -64,4 +64,4 @@ returns-2 c =
 pub look-in-spec : {M : Type 1} → statement M
 look-in-spec =
     tie.close
-    (tie.spec (search needs) (search needs) look-at-requires look-at-requires-2 returns returns-2)
+    (tie.spec (λ c κs. search needs) (λ c κs. search needs) look-at-requires look-at-requires-2 returns returns-2)

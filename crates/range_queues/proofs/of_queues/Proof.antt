@@ -74,10 +74,10 @@ pub of-queues-spec : {M : Type 1} → statement M
 of-queues-spec =
     tie.close
     (tie.spec
-    (search needs)
+    (λ c κs. search needs)
     returns
     look-requires
     in-order-requires
-    (search needs)
+    (λ c. search needs)
     returns-2
     returns-3)

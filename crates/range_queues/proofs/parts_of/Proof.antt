@@ -13,4 +13,4 @@ returns-2 : tie.Need-returns-2
 returns-2 c = c .parts .ensures ∙ sym (ap (λ (s : Shape). partsAt s (c .before .before .before .before .args .places)) (c .before .before .shape .given .1))
 
 pub parts-of-spec : {M : Type 1} → statement M
-parts-of-spec = tie.close (tie.spec (search needs) (search needs) (search needs) returns returns-2)
+parts-of-spec = tie.close (tie.spec (λ c. search needs) (λ c. search needs) (λ c κs. search needs) returns returns-2)

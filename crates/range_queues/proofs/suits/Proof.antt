@@ -9,4 +9,4 @@ returns-2 : tie.Need-returns-2
 returns-2 c = c .suits .ensures ∙ sym (ap suitsAt (c .before .before .shape .given .1))
 
 pub suits-spec : {M : Type 1} → statement M
-suits-spec = tie.close (tie.spec (search needs) (search needs) (search needs) (search needs) returns-2)
+suits-spec = tie.close (tie.spec (λ c. search needs) (λ c. search needs) (λ c κs. search needs) (λ c. search needs) returns-2)

@@ -7,7 +7,7 @@ use Rattle.base_refusals.proofs.Rows.{stopped, goes}
 use Rattle.filter_checks.proofs.Checking.{frames-fine}
 use Rattle.true_peak_interp.specs.Interp.{kindOf}
 use Rattle.true_peak_state.specs.declared.TruePeak.{TruePeak}
-use Rattle.true_peak_state.specs.TruePeak.{Block, measured}
+use Rattle.true_peak_state.specs.TruePeak.{Heard, measured}
 use Rattle.true_peak.specs.TruePeak.{peakRows}
 use Rattle.true_peak.proofs.process.Statement.{statement}
 use Rattle.true_peak.proofs.process.Tie as tie
@@ -15,7 +15,7 @@ use Rattle.true_peak.proofs.process.Tie as tie
 returns : tie.Need-returns
 returns c =
     let a = c .before .before .before .args in
-    let b : Block = record { channels = a .channels; samples = a .samples .now } in
+    let b : Heard = record { channels = a .channels; samples = a .samples .now } in
     let t : TruePeak = measured (kindOf (a .rate)) b (a .t) in
     let f = stopped (went t done) (peakRows b) (a .t) (c .before .refused-frames .result) (c .before .refused-frames .ensures) (c .if1 .taken) in
     (f .says, f .keeps)
@@ -29,7 +29,7 @@ measure-requires c κs =
 returns-2 : tie.Need-returns-2
 returns-2 c =
     let a = c .before .before .before .before .args in
-    let b : Block = record { channels = a .channels; samples = a .samples .now } in
+    let b : Heard = record { channels = a .channels; samples = a .samples .now } in
     let t : TruePeak = measured (kindOf (a .rate)) b (a .t) in
     let e = goes (went t done) (peakRows b) (sym (c .before .before .refused-frames .ensures) ∙ c .before .if1 .left) in
     (ap saidBy (sym e), c .measure .ensures ∙ ap (keptBy (a .t)) (sym e))

@@ -6,7 +6,7 @@ use lib.Ieee.{nan}
 use lib.ListN.{length, getD}
 use Rattle.samples.specs.Frames.{column}
 use Rattle.base_floats.specs.Largest.{largest}
-use Rattle.samples.specs.Blocks.{Reach}
+use Rattle.samples.specs.Stretches.{Reach}
 use Rattle.samples.proofs.Reaching.{reach-here, reach-next, reach-rest}
 use Rattle.base_floats.proofs.Magnitude.{High, raised-high}
 use Rattle.filter_sample_peak.proofs.Loudest.{turn-largest, none-largest}

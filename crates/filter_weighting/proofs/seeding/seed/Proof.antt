@@ -14,15 +14,15 @@ use Rattle.filter_checks.proofs.Checking.{Seeds, seeds}
 use Rattle.samples.specs.Source.{sourceOf}
 use Rattle.samples.proofs.Cutting.{all-frames}
 use Rattle.filter_recurrence.specs.declared.states.State.{State}
-use Rattle.filter_recurrence.specs.Channels.{Call, callOf, stateAfter}
+use Rattle.filter_recurrence.specs.Channels.{Weighing, weighingOf, stateAfter}
 use Rattle.filter_recurrence.proofs.Runs.{state-is}
 use Rattle.filter_weighting.specs.Seeding.{moved}
 use Rattle.filter_weighting.proofs.seeding.seed.Statement.{statement}
 use Rattle.filter_weighting.proofs.seeding.seed.Tie as tie
 
 -- the call of the definitions
-abbrev call : tie.Start → Call
-call s = let a = s .args in callOf (a .c) (a .s) (a .channels) (sourceOf (a .ints .now) (a .floats .now)) (a .map .now)
+abbrev call : tie.Start → Weighing
+call s = let a = s .args in weighingOf (a .c) (a .s) (a .channels) (sourceOf (a .ints .now) (a .floats .now)) (a .map .now)
 
 abbrev rows : tie.Start → List Row
 rows s = let k = call s in seedRows (k .channels) (length (k .samples)) (k .map)

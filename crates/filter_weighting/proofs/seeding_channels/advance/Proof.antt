@@ -6,7 +6,7 @@ use mathlib.Core.Path.{_≡_, refl, sym, _∙_}
 use lib.Ieee.{nan}
 use lib.ListN.{length}
 use Rattle.samples.specs.Frames.{column}
-use Rattle.samples.specs.Blocks.{Reach}
+use Rattle.samples.specs.Stretches.{Reach}
 use Rattle.filter_recurrence.specs.Recurrence.{after}
 use Rattle.samples.proofs.Reaching.{reach-here, reach-next, reach-rest}
 use Rattle.filter_recurrence.proofs.Moving.{turn-after, none-after}

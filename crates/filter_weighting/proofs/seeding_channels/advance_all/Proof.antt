@@ -5,7 +5,7 @@ use native.Mathlib.Omega.{arith}
 use mathlib.Core.Path.{_≡_, refl, sym, ap, _∙_}
 use lib.ListN.{length}
 use Rattle.samples.specs.Frames.{column}
-use Rattle.samples.specs.Blocks.{runPlaces}
+use Rattle.samples.specs.Stretches.{runPlaces}
 use Rattle.samples.specs.Source.{sourceOf}
 use Rattle.samples.proofs.Cutting.{Next, Step, step, filled}
 use Rattle.filter_recurrence.specs.Recurrence.{after, flushed}
@@ -55,7 +55,7 @@ next : (c : tie.After-fill Inv-loop μ-loop) → let q = c .before .before .befo
 next c =
     let n = sizes (c .before .before) in
     let q = c .before .before .before in
-    record { agrees = filled _ (q .before .loop .run) _ _ _ (c .fill .ensures) (n .samples-end) (omega (arith, n .block-fits, q .before .loop .inv .1 .0)) }
+    record { agrees = filled _ (q .before .loop .run) _ _ _ (c .fill .ensures) (n .samples-end) (omega (arith, n .stretch-fits, q .before .loop .inv .1 .0)) }
 
 slice-aggregate-advance-run : tie.Need-slice-aggregate-advance-run Inv-loop μ-loop
 slice-aggregate-advance-run c = sym (size (c .before .before .before))
@@ -64,12 +64,12 @@ advance-run-requires : tie.Need-advance-run-requires Inv-loop μ-loop
 advance-run-requires c κs =
     let f = c .before .before .before in
     let p = f .before .before .before .before .before .before .before .before .before .pre in
-    ((p .0 .few, p .1), omega (arith, size f, sizes (f .before .before) .block-fits))
+    ((p .0 .few, p .1), omega (arith, size f, sizes (f .before .before) .stretch-fits))
 
 add-done : tie.Need-add-done Inv-loop μ-loop
 add-done c =
     let h = c .before .before .before .before .before .before in
-    omega (arith, sizes h .block-ends, h .before .before .before .before .before .before .before .fits)
+    omega (arith, sizes h .stretch-ends, h .before .before .before .before .before .before .before .fits)
 
 loop-less : tie.Need-loop-less Inv-loop μ-loop
 loop-less c = let h = c .before .before .before .before .before .before in omega (arith, sizes h .forward, h .before .loop-test .taken)
@@ -84,7 +84,7 @@ loop-again c =
     let src = sourceOf (a .ints .now) (a .floats .now) in
     let run = f .fill .last .0 in
     let count = h .shorter .result in (
-      sizes h .block-ends,
+      sizes h .stretch-ends,
       (
         size f,
         c .advance-run .ensures

@@ -24,4 +24,4 @@ returns-2 c =
     )
 
 pub bins-from-spec : {M : Type 1} → statement M
-bins-from-spec = tie.close (tie.spec returns (search needs) (search needs) (search needs) (search needs) returns-2)
+bins-from-spec = tie.close (tie.spec returns (λ c. search needs) (λ c κs. search needs) (λ c. search needs) (λ c κs. search needs) returns-2)

@@ -19,4 +19,4 @@ returns c =
 
 pub started-spec : {M : Type 1} → statement M
 started-spec =
-    tie.close (tie.spec (search needs) from-bin-requires (search needs) (search needs) returns)
+    tie.close (tie.spec (λ c κs. search needs) from-bin-requires (λ c κs. search needs) (λ c κs. search needs) returns)

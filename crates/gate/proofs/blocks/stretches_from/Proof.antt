@@ -45,4 +45,4 @@ returns c =
     (sym (bins-end (now (a .counters)) (l .loop .totals) (l .loop .first) (omega arith)) ∙ l .loop .inv .4, omega (arith, l .loop .inv .2))
 
 pub stretches-from-spec : {M : Type 1} → statement M
-stretches-from-spec = tie.close (tie.spec Inv-loop μ-loop loop-holds (search needs) (search needs) (search needs) loop-again returns)
+stretches-from-spec = tie.close (tie.spec Inv-loop μ-loop loop-holds (λ c κs. search needs) (λ c. search needs) (λ c. search needs) loop-again returns)

@@ -33,4 +33,4 @@ returns-2 c =
     )
 
 pub with-stretch-spec : {M : Type 1} → statement M
-with-stretch-spec = tie.close (tie.spec (search needs) returns (search needs) (search needs) returns-2)
+with-stretch-spec = tie.close (tie.spec (λ c κs. search needs) returns (λ c. search needs) (λ c κs. search needs) returns-2)

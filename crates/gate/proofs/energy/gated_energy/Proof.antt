@@ -15,4 +15,4 @@ returns c =
     c .mean-of .ensures ∙ mean-said (histories (a .entries) (a .count) (now (a .counters)) (now (a .energies))) (said (gated .result)) (gated .ensures)
 
 pub gated-energy-spec : {M : Type 1} → statement M
-gated-energy-spec = tie.close (tie.spec (search needs) (search needs) returns)
+gated-energy-spec = tie.close (tie.spec (λ c κs. search needs) (λ c κs. search needs) returns)

@@ -21,4 +21,4 @@ returns-2 c = sym (ap (λ (gated : Gated). meanSaid (said gated)) (c .before .ga
 pub mean-of-spec : {M : Type 1} → statement M
 mean-of-spec =
     tie.close
-    (tie.spec (search needs) (search needs) (search needs) returns returns-2)
+    (tie.spec (λ c. search needs) (λ c κs. search needs) (λ c. search needs) returns returns-2)

@@ -18,4 +18,4 @@ returns c =
     )
 
 pub kept-from-spec : {M : Type 1} → statement M
-kept-from-spec = tie.close (tie.spec (search needs) (search needs) returns)
+kept-from-spec = tie.close (tie.spec (λ c κs. search needs) (λ c κs. search needs) returns)

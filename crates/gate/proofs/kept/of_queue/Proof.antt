@@ -28,4 +28,4 @@ returns c =
     (older .ensures .0) (c .kept-from2 .ensures .0)
 
 pub of-queue-spec : {M : Type 1} → statement M
-of-queue-spec = tie.close (tie.spec (search needs) kept-from-requires kept-from-requires-2 returns)
+of-queue-spec = tie.close (tie.spec (λ c κs. search needs) kept-from-requires kept-from-requires-2 returns)

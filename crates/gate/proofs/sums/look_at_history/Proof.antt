@@ -62,9 +62,9 @@ pub look-at-history-spec : {M : Type 1} → statement M
 look-at-history-spec =
     tie.close
     (tie.spec
-    (search needs)
+    (λ c. search needs)
     from-bin-requires
-    (search needs)
+    (λ c. search needs)
     look-at-queue-requires
     returns
     returns-2)

@@ -44,4 +44,4 @@ returns-2 c =
 pub look-at-queue-spec : {M : Type 1} → statement M
 look-at-queue-spec =
     tie.close
-    (tie.spec (search needs) (search needs) look-requires look-requires-2 returns returns-2)
+    (tie.spec (λ c κs. search needs) (λ c κs. search needs) look-requires look-requires-2 returns returns-2)

@@ -56,10 +56,10 @@ pub of-history-spec : {M : Type 1} → statement M
 of-history-spec =
     tie.close
     (tie.spec
-    (search needs)
-    (search needs)
+    (λ c κs. search needs)
+    (λ c κs. search needs)
     returns
     look-at-history-requires
     returns-2
-    (search needs)
+    (λ c κs. search needs)
     returns-3)

@@ -123,8 +123,8 @@ of-set-spec =
     (tie.spec
     Inv-loop
     μ-loop
-    (search needs)
-    (search needs)
+    (λ c κs. search needs)
+    (λ c κs. search needs)
     returns
     loop-holds
     mul-entry
@@ -132,8 +132,8 @@ of-set-spec =
     look-at-history-requires
     add-blocks
     add-i
-    (search needs)
+    (λ c. search needs)
     loop-again
-    (search needs)
+    (λ c κs. search needs)
     returns-2
     returns-3)

@@ -26,4 +26,4 @@ returns-3 c =
     rw (c .threshold-of .ensures, ne-eqb (z .before .before .args .totals .count) 0 (z .if1 .left), sym (n .before .is-nan .ensures) ∙ n .if2 .left)
 
 pub level-spec : {M : Type 1} → statement M
-level-spec = tie.close (tie.spec returns (search needs) returns-2 (search needs) returns-3)
+level-spec = tie.close (tie.spec returns (λ c κs. search needs) returns-2 (λ c κs. search needs) returns-3)

@@ -36,4 +36,4 @@ returns-2 c =
     ∙ sym (ap saidBy (goes-on (answers (levelOf (blocks s))) (rows s) (levelRows (blocks s)) (sym (s .of-history .ensures .first) ∙ e .if1 .left)))
 
 pub relative-threshold-spec : {M : Type 1} → statement M
-relative-threshold-spec = tie.close (tie.spec (search needs) (search needs) returns (search needs) returns-2)
+relative-threshold-spec = tie.close (tie.spec (λ c κs. search needs) (λ c κs. search needs) returns (λ c κs. search needs) returns-2)

@@ -14,4 +14,4 @@ returns : tie.Need-returns
 returns c = rw (the-tenth, c .before .nearest-u64-to-f64 .ensures)
 
 pub threshold-of-spec : {M : Type 1} → statement M
-threshold-of-spec = tie.close (tie.spec (search needs) returns)
+threshold-of-spec = tie.close (tie.spec (λ c κs. search needs) returns)

@@ -37,4 +37,4 @@ returns-4 c =
 
 pub outside-spec : {M : Type 1} → statement M
 outside-spec =
-    tie.close (tie.spec (search needs) returns (search needs) returns-2 returns-3 returns-4)
+    tie.close (tie.spec (λ c. search needs) returns (λ c. search needs) returns-2 returns-3 returns-4)

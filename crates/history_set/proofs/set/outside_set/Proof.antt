@@ -18,4 +18,4 @@ returns-2 : tie.Need-returns-2
 returns-2 c = c .any-outside .ensures ∙ sym (not-too-many (given (c .before .before .before .before)) (c .before .if1 .left))
 
 pub outside-set-spec : {M : Type 1} → statement M
-outside-set-spec = tie.close (tie.spec returns (search needs) returns-2)
+outside-set-spec = tie.close (tie.spec returns (λ c κs. search needs) returns-2)

@@ -37,4 +37,4 @@ returns-3 c =
     sym (one-unsound (given (e .before .before .before .before)) (inside e) (sym (c .before .all-sound .ensures) ∙ c .if2 .left))
 
 pub checked-spec : {M : Type 1} → statement M
-checked-spec = tie.close (tie.spec (search needs) returns all-sound-requires returns-2 returns-3)
+checked-spec = tie.close (tie.spec (λ c κs. search needs) returns all-sound-requires returns-2 returns-3)

@@ -45,13 +45,13 @@ pub sound-spec : {M : Type 1} → statement M
 sound-spec =
     tie.close
     (tie.spec
-    (search needs)
-    (search needs)
+    (λ c. search needs)
+    (λ c. search needs)
     add-end
     mul-sound-queue
-    (search needs)
-    (search needs)
+    (λ c. search needs)
+    (λ c. search needs)
     part-sound-queue-end
-    (search needs)
+    (λ c κs. search needs)
     (λ c. search needs)
     returns-2)

@@ -48,4 +48,4 @@ returns-2 c =
 pub sound-queue-spec : {M : Type 1} → statement M
 sound-queue-spec =
     tie.close
-    (tie.spec (search needs) (search needs) none-below-requires none-below-requires-2 returns returns-2)
+    (tie.spec (λ c κs. search needs) (λ c κs. search needs) none-below-requires none-below-requires-2 returns returns-2)

@@ -62,15 +62,15 @@ pub span-in-order-spec : {M : Type 1} → statement M
 span-in-order-spec =
     tie.close
     (tie.spec
-    (search needs)
-    (search needs)
-    (search needs)
+    (λ c κs. search needs)
+    (λ c κs. search needs)
+    (λ c κs. search needs)
     sub-left
     returns
-    (search needs)
-    (search needs)
+    (λ c. search needs)
+    (λ c κs. search needs)
     add-low
-    (search needs)
+    (λ c κs. search needs)
     add-high
     mul-t13
     shared-slice-read-t10

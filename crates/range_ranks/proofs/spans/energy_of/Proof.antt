@@ -16,4 +16,4 @@ unfolding div ofBits
 returns-2 c = sym (energy-past (c .before .args .bin) (search needs))
 
 pub energy-of-spec : {M : Type 1} → statement M
-energy-of-spec = tie.close (tie.spec (search needs) (search needs) returns returns-2)
+energy-of-spec = tie.close (tie.spec (λ c. search needs) (λ c. search needs) returns returns-2)

@@ -7,4 +7,4 @@ returns : tie.Need-returns
 returns c = rw (c .before .nearest-u64-to-f64 .ensures, c .before .before .gate-share .ensures)
 
 pub gate-energy-spec : {M : Type 1} → statement M
-gate-energy-spec = tie.close (tie.spec (search needs) (search needs) returns)
+gate-energy-spec = tie.close (tie.spec (λ c κs. search needs) (λ c κs. search needs) returns)

@@ -9,24 +9,24 @@ use Rattle.samples.proofs.sources.fill.Tie as tie
 returns : tie.Need-returns
 returns c =
     let a = c .before .before .before .before .args in
-    sym (none-from sampleOfF32 (a .floats .now) (source-floats (a .ints .now) (a .floats .now) (c .before .if1 .taken)) (a .block .now) (a .at) (c .if2 .taken))
+    sym (none-from sampleOfF32 (a .floats .now) (source-floats (a .ints .now) (a .floats .now) (c .before .if1 .taken)) (a .stretch .now) (a .at) (c .if2 .taken))
 
 returns-2 : tie.Need-returns-2
 returns-2 c =
     let a = c .before .before .before .before .before .before .before .before .before .args in
     c .before .before .fill-f64-f32 .ensures
-    ∙ rest-from sampleOfF32 (a .floats .now) (source-floats (a .ints .now) (a .floats .now) (c .before .before .before .before .before .before .if1 .taken)) (a .block .now) (a .at)
+    ∙ rest-from sampleOfF32 (a .floats .now) (source-floats (a .ints .now) (a .floats .now) (c .before .before .before .before .before .before .if1 .taken)) (a .stretch .now) (a .at)
 
 returns-3 : tie.Need-returns-3
 returns-3 c =
     let a = c .before .before .before .before .args in
-    sym (none-from sampleOf16 (a .ints .now) (source-ints (a .ints .now) (a .floats .now) (c .before .if1 .left)) (a .block .now) (a .at) (c .if3 .taken))
+    sym (none-from sampleOf16 (a .ints .now) (source-ints (a .ints .now) (a .floats .now) (c .before .if1 .left)) (a .stretch .now) (a .at) (c .if3 .taken))
 
 returns-4 : tie.Need-returns-4
 returns-4 c =
     let a = c .before .before .before .before .before .before .before .before .before .args in
     c .before .before .fill-f64-i16 .ensures
-    ∙ rest-from sampleOf16 (a .ints .now) (source-ints (a .ints .now) (a .floats .now) (c .before .before .before .before .before .before .if1 .left)) (a .block .now) (a .at)
+    ∙ rest-from sampleOf16 (a .ints .now) (source-ints (a .ints .now) (a .floats .now) (c .before .before .before .before .before .before .if1 .left)) (a .stretch .now) (a .at)
 
 pub fill-spec : {M : Type 1} → statement M
 fill-spec =

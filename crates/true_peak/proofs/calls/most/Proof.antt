@@ -1,4 +1,4 @@
--- `calls::most` meets its contract: at eight channels a run takes half a block. Assumes nothing.
+-- `calls::most` meets its contract: at eight channels a run takes half a batch. Assumes nothing.
 use borrow.Author.Needs.{needs}
 use native.Mathlib.Omega.{arith}
 use Rattle.true_peak.proofs.Turns.{some-runs, few-runs, runs-fit}
