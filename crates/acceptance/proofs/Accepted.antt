@@ -4,6 +4,7 @@ use Rattle.acceptance_signals.proofs.Signals.{signal-calls}
 use Rattle.acceptance_records.proofs.Records.{record-calls}
 use Rattle.acceptance_records.proofs.Report.{report-refused, report-tells}
 use Rattle.acceptance_interface.proofs.Interface.{interface}
+use Rattle.acceptance_scale.proofs.Scale.{on-scale}
 use Rattle.acceptance_meaning.proofs.Gate.{gate-is-bs1770's}
 use Rattle.acceptance_meaning.proofs.Range.{range-is-tech3342's}
 use Rattle.acceptance_meaning.proofs.Ranks.{ranks-are-the-rust's}
@@ -20,6 +21,7 @@ accepted = record {
   records = record-calls;
   report = report-refused;
   interface = interface;
+  scale = on-scale;
   gate = gate-is-bs1770's;
   range = range-is-tech3342's;
   ranks = ranks-are-the-rust's;

@@ -5,6 +5,7 @@ use Rattle.acceptance_signals.specs.Signals.{SignalCalls}
 use Rattle.acceptance_records.specs.Records.{RecordCalls}
 use Rattle.acceptance_records.specs.Report.{ReportRefused, ReportTells}
 use Rattle.acceptance_interface.specs.Interface.{Interface}
+use Rattle.acceptance_scale.specs.Scale.{OnScale}
 use Rattle.acceptance_meaning.specs.Gate.{GateIsBs1770}
 use Rattle.acceptance_meaning.specs.Range.{RangeIsTech3342}
 use Rattle.acceptance_meaning.specs.Ranks.{RanksAreTheRusts}
@@ -21,7 +22,8 @@ pub record Accepted : Type 0 where
   pub records : RecordCalls
   pub report : ReportRefused
   pub interface : Interface
-  -- demand 2: gate and range mean what BS.1770 and Tech 3342 say, and the ranks are the Rust's
+  -- demand 2: the tables stand on BS.1770's scale, gate and range mean what BS.1770 and Tech 3342 say, and the ranks are the Rust's
+  pub scale : OnScale
   pub gate : GateIsBs1770
   pub range : RangeIsTech3342
   pub ranks : RanksAreTheRusts
