@@ -85,19 +85,19 @@ mul-hear : tie.Need-mul-hear Inv-loop μ-loop
 mul-hear c = omega (arith, sizes c .samples-end, small (c .before .before .before .before .before .before .before .before .before))
 
 mul-hear-2 : tie.Need-mul-hear-2 Inv-loop μ-loop
-mul-hear-2 c = omega (arith, sizes c .batch-fits)
+mul-hear-2 c = omega (arith, sizes c .stretch-fits)
 
 hear-requires : tie.Need-hear-requires Inv-loop μ-loop
 hear-requires c κs =
     let s = c .before .before .before .before .before .before .before .before .before in
-    (whole (s .args .channels) (c .shorter .result) (ok s .some) (ok s .few), (sizes c .samples-end, sizes c .batch-fits))
+    (whole (s .args .channels) (c .shorter .result) (ok s .some) (ok s .few), (sizes c .samples-end, sizes c .stretch-fits))
 
 add-done : tie.Need-add-done Inv-loop μ-loop
 add-done c =
     let h = c .before in
     let q = h .before .before .before .before .before .before .before in
     let s = q .before .before in
-    omega (arith, sizes h .batch-ends, div-le-self (q .size-of .result) (s .args .channels), q .size-of .ensures, small s)
+    omega (arith, sizes h .stretch-ends, div-le-self (q .size-of .result) (s .args .channels), q .size-of .ensures, small s)
 
 loop-less : tie.Need-loop-less Inv-loop μ-loop
 loop-less c = let h = c .before in omega (arith, sizes h .forward, h .before .loop-test .taken)
@@ -110,7 +110,7 @@ loop-again c =
     let a = s .args in
     let n = sizes h .samples-end in
     let i = l .inv .1 in (
-      sizes h .batch-ends,
+      sizes h .stretch-ends,
       (
         turn-sized (kindOf (a .rate)) (a .channels) (ok s .some) (ok s .few) (src s) (l .done) (h .shorter .result) n (l .w) _ (i .0) (c .hear .ensures),
         turn (kindOf (a .rate)) (a .channels) (ok s .some) (ok s .few) (src s) (l .done) (h .shorter .result) n (l .w) _ (h .before .before .before .state-of .result) (i .0) (c .hear .ensures) (i .1),
