@@ -26,7 +26,7 @@ use Rattle.acceptance_outcomes.specs.Fixed.{Fixed}
 abbrev pub rowsOver : (Call → List Row) → ℕ → Call → List Row
 rowsOver rows channels call = cond (eqb channels (call .filter .channels)) (rows call) []
 
--- The rows stand in crate `calls`, each below its sentence of 01: CHANNELS and SAMPLES for the true peak, MAP after them for `seed`, and DEST, with loudness on, after those for `process`.
+-- The rows stand in crate `filter_checks`, each below its sentence of 01: CHANNELS and SAMPLES for the true peak, MAP after them for `seed`, and DEST, with loudness on, after those for `process`.
 pub record SignalCalls : Type 0 where
   pub process : (call : Call) → RefusedBy (processRows call) (processed call)
   pub seed : (call : Call) → RefusedBy (seedRows call) (seeded call)

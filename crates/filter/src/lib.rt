@@ -1,4 +1,4 @@
-// The filter of a measurement: what it keeps between its calls, at rest and afterwards. Crates `filter_process` and `filter_seed` have its calls, `filter_peaks` what is read of it.
+// The filter of a measurement: what it keeps between its calls, at rest and afterwards. Crates `filter_process` and `filter_seed` have its calls, `peaks` what is read of it.
 ghost use mathlib.Core.Path.{_≡_};
 ghost use Rattle.true_peak_state.specs.TruePeak.{silent};
 ghost use Rattle.filter.specs.Filter.{atRest, noPeaks, resting, moved};

@@ -1,4 +1,4 @@
-// What refuses a set of histories: after SET, which `history` asks, STORE, entry by entry. A store is sound where it suits its queue and holds no energy below boundary 0.
+// What refuses a set of histories: after SET, which `set` asks, STORE, entry by entry. A store is sound where it suits its queue and holds no energy below boundary 0.
 use crate::set::Entry;
 use crate::set::MOST;
 use crate::set::Shape;

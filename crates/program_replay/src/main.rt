@@ -1,6 +1,6 @@
 // Replays the oracle's answers on bins, histories and questions, kept as a list on standard input, and prints for each operation how many are the same.
 // The list is sections until its end. A section: u32 operation, u32 number of cases, u32 bytes a case, the operation's name in 20 bytes, then the cases.
-// All numbers low byte first. The loop over sections and cases is the same in `replay_filter` and `replay_records`.
+// All numbers low byte first. The loop over sections and cases is the same in `program_replay_filter` and `program_replay_records`.
 mod histories;
 mod questions;
 

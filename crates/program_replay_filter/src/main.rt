@@ -1,5 +1,5 @@
 // Replays the oracle's answers on the filter, kept as a list on standard input, and prints for each operation how many are the same.
-// The list has the form that `replay` says.
+// The list has the form that `program_replay` says.
 mod filters;
 
 use libc::STDIN_FILENO;

@@ -1,5 +1,5 @@
 // Replays the answers of a reader and writer of records from document 01 alone, kept as a list on standard input, and prints for each operation how many
-// are the same. The list has the form that `replay` says.
+// are the same. The list has the form that `program_replay` says.
 mod histograms;
 mod queues;
 

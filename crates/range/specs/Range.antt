@@ -1,5 +1,5 @@
 -- The range over a set of histories (01, step 9): "No histories or no blocks: Nothing. Histograms: counters added bin by bin; queues: all held energies in
--- rising order." What it comes to over histograms stands in `histogram_range`, over queues in `queue_range` and `rising_range`.
+-- rising order." What it comes to over histograms stands in `range_histograms`, over queues in `range_queues`.
 use Prim.Native.Nat.{ℕ, _+_}
 use mathlib.Core.Bool.{Bool, not, _&&_, cond}
 use mathlib.Core.List.{List, [], _∷_, _++_}

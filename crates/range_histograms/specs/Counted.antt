@@ -1,4 +1,4 @@
--- The range over histograms (01, step 9): "counters added bin by bin". What it is of the added counters stands in `block_range`.
+-- The range over histograms (01, step 9): "counters added bin by bin". What it is of the added counters stands in `range_one`.
 use Prim.Native.Nat.{ℕ, _*_}
 use mathlib.Core.List.{List, [], _∷_}
 use Rattle.base_refusals.specs.Outcome.{Question, answers}
