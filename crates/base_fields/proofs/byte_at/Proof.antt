@@ -14,4 +14,4 @@ returns-2 : tie.Need-returns-2
 returns-2 c = sym (List·getD-eq-default (now (c .before .args .bytes)) 0 {n = c .before .args .at} (c .if1 .left))
 
 pub byte-at-spec : {M : Type 1} → statement M
-byte-at-spec = tie.close (tie.spec (search needs) cast-result (search needs) returns-2)
+byte-at-spec = tie.close (tie.spec (λ c. search needs) cast-result (λ c. search needs) returns-2)

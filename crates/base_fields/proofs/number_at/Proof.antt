@@ -78,5 +78,5 @@ returns-2 c =
 pub number-at-spec : {M : Type 1} → statement M
 number-at-spec =
     tie.close
-    (tie.spec Inv-loop μ-loop returns (search needs) loop-holds (search needs) add-byte-at (search needs) mul-number add-number
-    (search needs) loop-again returns-2)
+    (tie.spec Inv-loop μ-loop returns (λ c. search needs) loop-holds (λ c. search needs) add-byte-at (λ c. search needs) mul-number add-number
+    (λ c. search needs) loop-again returns-2)

@@ -15,4 +15,4 @@ returns c =
     c .before .before .put-low .ensures ∙ ap (λ (o : Order). bytesOf o (length (now (a .field))) (a .number)) (sym (low-first (a .order)))
 
 pub put-number-spec : {M : Type 1} → statement M
-put-number-spec = tie.close (tie.spec (search needs) (search needs) returns)
+put-number-spec = tie.close (tie.spec (λ c. search needs) (λ c. search needs) returns)

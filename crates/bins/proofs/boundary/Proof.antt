@@ -16,4 +16,4 @@ unfolding div ofBits
 returns-2 c = sym (boundary-past (c .before .args .i) (search needs))
 
 pub boundary-spec : {M : Type 1} → statement M
-boundary-spec = tie.close (tie.spec (search needs) (search needs) (search needs) returns returns-2)
+boundary-spec = tie.close (tie.spec (λ c. search needs) (λ c. search needs) (λ c. search needs) returns returns-2)

@@ -24,4 +24,4 @@ returns-2 c =
     (ap said (sym (c .before .number .given .1)) ∙ c .before .before .before .reading .ensures)
 
 pub xel-reading-spec : {M : Type 1} → statement M
-xel-reading-spec = tie.close (tie.spec (search needs) (search needs) (search needs) returns returns-2)
+xel-reading-spec = tie.close (tie.spec (λ c. search needs) (λ c. search needs) (λ c. search needs) returns returns-2)

@@ -31,4 +31,4 @@ returns-2 c =
     ∙ ap (λ (entries : List Entry). saidBy (gatedEnergyOf (histories entries (length (now (a .entries)) / numbersAnEntry) (now (a .counters)) (now (a .energies))))) (c .before .entries-of .ensures)
 
 pub gated-energy-of-spec : {M : Type 1} → statement M
-gated-energy-of-spec = tie.close (tie.spec (search needs) (search needs) returns (search needs) (search needs) returns-2)
+gated-energy-of-spec = tie.close (tie.spec (λ c. search needs) (λ c. search needs) returns (λ c. search needs) (λ c. search needs) returns-2)

@@ -40,4 +40,4 @@ returns-3 c =
     no-totals-told question (now (a .blocks)) (now (a .sum)) (given .0 .0) (ap said (sym (given .1)) ∙ asked-says (c .before .before .before))
 
 pub xel-gate-spec : {M : Type 1} → statement M
-xel-gate-spec = tie.close (tie.spec returns (search needs) (search needs) (search needs) returns-2 returns-3)
+xel-gate-spec = tie.close (tie.spec returns (λ c. search needs) (λ c. search needs) (λ c. search needs) returns-2 returns-3)

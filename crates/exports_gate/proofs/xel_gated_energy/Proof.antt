@@ -39,4 +39,4 @@ returns-3 c =
     (ap said (sym (given .1)) ∙ asked-says (c .before .before .before))
 
 pub xel-gated-energy-spec : {M : Type 1} → statement M
-xel-gated-energy-spec = tie.close (tie.spec returns (search needs) (search needs) (search needs) returns-2 returns-3)
+xel-gated-energy-spec = tie.close (tie.spec returns (λ c. search needs) (λ c. search needs) (λ c. search needs) returns-2 returns-3)

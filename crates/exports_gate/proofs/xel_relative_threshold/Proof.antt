@@ -51,4 +51,4 @@ returns-4 c =
 pub xel-relative-threshold-spec : {M : Type 1} → statement M
 xel-relative-threshold-spec =
     tie.close
-    (tie.spec returns (search needs) (search needs) (search needs) (search needs) (search needs) returns-2 returns-3 returns-4)
+    (tie.spec returns (λ c. search needs) (λ c. search needs) (λ c. search needs) (λ c. search needs) (λ c. search needs) returns-2 returns-3 returns-4)

@@ -14,4 +14,4 @@ returns c =
     (c .number-of .ensures ∙ answer-told (addTo (now (at-start .counters)) (at-start .energy)) (call .result) (call .ensures .0), call .ensures .1)
 
 pub xel-histogram-add-spec : {M : Type 1} → statement M
-xel-histogram-add-spec = tie.close (tie.spec (search needs) (search needs) (search needs) returns)
+xel-histogram-add-spec = tie.close (tie.spec (λ c. search needs) (λ c. search needs) (λ c. search needs) returns)

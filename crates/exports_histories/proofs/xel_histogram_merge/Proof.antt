@@ -14,4 +14,4 @@ returns c =
     (c .number-of .ensures ∙ answer-told (mergeInto (now (at-start .into)) (now (at-start .from))) (call .result) (call .ensures .0), call .ensures .1)
 
 pub xel-histogram-merge-spec : {M : Type 1} → statement M
-xel-histogram-merge-spec = tie.close (tie.spec (search needs) (search needs) (search needs) returns)
+xel-histogram-merge-spec = tie.close (tie.spec (λ c. search needs) (λ c. search needs) (λ c. search needs) returns)

@@ -14,4 +14,4 @@ returns c =
     (c .number-of .ensures ∙ answer-told (cleared (now (at-start .counters))) (call .result) (call .ensures .0), call .ensures .1)
 
 pub xel-histogram-reset-spec : {M : Type 1} → statement M
-xel-histogram-reset-spec = tie.close (tie.spec (search needs) (search needs) (search needs) returns)
+xel-histogram-reset-spec = tie.close (tie.spec (λ c. search needs) (λ c. search needs) (λ c. search needs) returns)

@@ -50,4 +50,4 @@ returns-2 c =
 pub xel-queue-add-spec : {M : Type 1} → statement M
 xel-queue-add-spec =
     tie.close
-    (tie.spec (search needs) (search needs) (search needs) (search needs) returns (search needs) returns-2)
+    (tie.spec (λ c. search needs) (λ c. search needs) (λ c. search needs) (λ c. search needs) returns (λ c. search needs) returns-2)

@@ -43,4 +43,4 @@ returns-3 c =
     (call .of-set .ensures .0 ∙ ap saidBy same, call .of-set .ensures .1 ∙ ap (keptBy (now (a .args .work))) same)
 
 pub asked-spec : {M : Type 1} → statement M
-asked-spec = tie.close (tie.spec (search needs) (search needs) returns returns-2 (search needs) (search needs) returns-3)
+asked-spec = tie.close (tie.spec (λ c. search needs) (λ c. search needs) returns returns-2 (λ c. search needs) (λ c. search needs) returns-3)

@@ -20,4 +20,4 @@ returns-3 : tie.Need-returns-3
 returns-3 c = let a = c .before .before .before .before .args in rw (le-ltb (length (now (a .counters))) (a .start + bins) (omega arith)) (c .of-counters .ensures)
 
 pub of-histogram-spec : {M : Type 1} → statement M
-of-histogram-spec = tie.close (tie.spec returns (search needs) returns-2 (search needs) returns-3)
+of-histogram-spec = tie.close (tie.spec returns (λ c. search needs) returns-2 (λ c. search needs) returns-3)

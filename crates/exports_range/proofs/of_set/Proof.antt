@@ -24,4 +24,4 @@ returns c =
     (call .loudness-range .ensures .0 ∙ ap saidBy same, call .loudness-range .ensures .1 ∙ ap (keptBy (now (a .work))) same)
 
 pub of-set-spec : {M : Type 1} → statement M
-of-set-spec = tie.close (tie.spec (search needs) (search needs) (search needs) returns)
+of-set-spec = tie.close (tie.spec (λ c. search needs) (λ c. search needs) (λ c. search needs) returns)

@@ -45,5 +45,5 @@ returns-4 c =
 pub xel-loudness-range-spec : {M : Type 1} → statement M
 xel-loudness-range-spec =
     tie.close
-    (tie.spec (search needs) (search needs) (search needs) (search needs) (search needs) (search needs) returns (search needs)
-    returns-2 (search needs) returns-3 (search needs) returns-4)
+    (tie.spec (λ c. search needs) (λ c. search needs) (λ c. search needs) (λ c. search needs) (λ c. search needs) (λ c. search needs) returns (λ c. search needs)
+    returns-2 (λ c. search needs) returns-3 (λ c. search needs) returns-4)

@@ -14,4 +14,4 @@ returns c =
     (c .number-of .ensures ∙ answer-told (readHistogram (now (given .bytes)) (now (given .counters))) (call .result) (call .ensures .0), call .ensures .1)
 
 pub xel-histogram-read-spec : {M : Type 1} → statement M
-xel-histogram-read-spec = tie.close (tie.spec (search needs) (search needs) (search needs) returns)
+xel-histogram-read-spec = tie.close (tie.spec (λ c. search needs) (λ c. search needs) (λ c. search needs) returns)

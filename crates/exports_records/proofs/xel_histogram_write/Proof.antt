@@ -27,4 +27,4 @@ returns-2 c =
 pub xel-histogram-write-spec : {M : Type 1} → statement M
 xel-histogram-write-spec =
     tie.close
-    (tie.spec (search needs) (search needs) (search needs) (search needs) returns (search needs) returns-2)
+    (tie.spec (λ c. search needs) (λ c. search needs) (λ c. search needs) (λ c. search needs) returns (λ c. search needs) returns-2)

@@ -29,4 +29,4 @@ returns-2 c =
 pub xel-queue-read-spec : {M : Type 1} → statement M
 xel-queue-read-spec =
     tie.close
-    (tie.spec (search needs) (search needs) (search needs) (search needs) returns (search needs) returns-2)
+    (tie.spec (λ c. search needs) (λ c. search needs) (λ c. search needs) (λ c. search needs) returns (λ c. search needs) returns-2)

@@ -28,4 +28,4 @@ returns-2 c =
 pub xel-queue-write-spec : {M : Type 1} → statement M
 xel-queue-write-spec =
     tie.close
-    (tie.spec (search needs) (search needs) (search needs) (search needs) returns (search needs) returns-2)
+    (tie.spec (λ c. search needs) (λ c. search needs) (λ c. search needs) (λ c. search needs) returns (λ c. search needs) returns-2)

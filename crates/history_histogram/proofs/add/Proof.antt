@@ -66,5 +66,5 @@ returns-4 c =
 pub add-spec : {M : Type 1} → statement M
 add-spec =
     tie.close
-    (tie.spec returns (search needs) returns-2 (search needs) mul-count slice-read-count returns-3 add-counters mul-counters
-    slice-write-counters (search needs) returns-4)
+    (tie.spec returns (λ c. search needs) returns-2 (λ c. search needs) mul-count slice-read-count returns-3 add-counters mul-counters
+    slice-write-counters (λ c. search needs) returns-4)

@@ -14,4 +14,4 @@ returns-2 c =
     rw (clear-went _ (k .before .before .if1 .left)) (refl, k .clear .ensures)
 
 pub reset-spec : {M : Type 1} → statement M
-reset-spec = tie.close (tie.spec returns (search needs) (search needs) returns-2)
+reset-spec = tie.close (tie.spec returns (λ c. search needs) (λ c. search needs) returns-2)

@@ -12,4 +12,4 @@ pub exchange-spec : {M : Type 1} → statement M
 exchange-spec =
     tie.close
     (tie.spec (λ c. omega arith) (λ c. omega arith) (λ c. omega arith) (λ c. omega arith) (λ c. omega arith) (λ c. omega arith)
-    (λ c. omega arith) (λ c. omega arith) (λ c. omega arith) slice-write-part-2 (search needs) (search needs))
+    (λ c. omega arith) (λ c. omega arith) (λ c. omega arith) slice-write-part-2 (λ c. search needs) (λ c. search needs))

@@ -26,4 +26,4 @@ exchange-two-spec =
     (tie.spec (λ c. omega arith) (λ c. omega arith) (λ c. omega arith) (λ c. omega arith) (λ c. omega arith) (λ c. omega arith)
     (λ c. omega arith) (λ c. omega arith) (λ c. omega arith) (λ c. omega arith) (λ c. omega arith) (λ c. omega arith)
     (λ c. omega arith) (λ c. omega arith) (λ c. omega arith) (λ c. omega arith) slice-write-part-2 (λ c. omega arith)
-    slice-write-part-3 (λ c. omega arith) (λ c. omega arith) slice-write-part-4 (search needs) returns)
+    slice-write-part-3 (λ c. omega arith) (λ c. omega arith) slice-write-part-4 (λ c. search needs) returns)

@@ -23,5 +23,5 @@ returns-2 c =
 pub order-spec : {M : Type 1} → statement M
 order-spec =
     tie.close
-    (tie.spec (search needs) (search needs) returns (search needs) (search needs) (search needs) returns-2 (search needs)
-    (search needs) (λ c. search needs))
+    (tie.spec (λ c. search needs) (λ c. search needs) returns (λ c. search needs) (λ c. search needs) (λ c. search needs) returns-2 (λ c. search needs)
+    (λ c. search needs) (λ c. search needs))

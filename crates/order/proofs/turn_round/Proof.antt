@@ -49,5 +49,5 @@ returns-2 c =
 pub turn-round-spec : {M : Type 1} → statement M
 turn-round-spec =
     tie.close
-    (tie.spec Inv-loop μ-loop loop-holds (search needs) (search needs) (search needs) (search needs) loop-again same-length
-    returns (search needs) same-length-2 returns-2)
+    (tie.spec Inv-loop μ-loop loop-holds (λ c. search needs) (λ c. search needs) (λ c. search needs) (λ c. search needs) loop-again same-length
+    returns (λ c. search needs) same-length-2 returns-2)

@@ -20,5 +20,5 @@ returns-3 c =
 pub larger-child-spec : {M : Type 1} → statement M
 larger-child-spec =
     tie.close
-    (tie.spec (search needs) (search needs) (search needs) returns (search needs) (search needs) (search needs) (search needs)
+    (tie.spec (λ c. search needs) (λ c. search needs) (λ c. search needs) returns (λ c. search needs) (λ c. search needs) (λ c. search needs) (λ c. search needs)
     returns-2 returns-3)

@@ -24,4 +24,4 @@ returns-2 : tie.Need-returns-2
 returns-2 c = left-alone (c .before .before .before .before .args .energies .now) (sym (c .before .all-above .ensures) ∙ c .if1 .left)
 
 pub order-spec : {M : Type 1} → statement M
-order-spec = tie.close (tie.spec (search needs) heap-sort-requires (search needs) returns (search needs) returns-2)
+order-spec = tie.close (tie.spec (λ c. search needs) heap-sort-requires (λ c. search needs) returns (λ c. search needs) returns-2)

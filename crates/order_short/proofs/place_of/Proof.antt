@@ -50,5 +50,5 @@ returns c = is-place c
 pub place-of-spec : {M : Type 1} → statement M
 place-of-spec =
     tie.close
-    (tie.spec (search needs) (search needs) slice-aggregate-at-most (search needs) (search needs) (search needs) (search needs)
-    (search needs) (search needs) add-result returns)
+    (tie.spec (λ c. search needs) (λ c. search needs) slice-aggregate-at-most (λ c. search needs) (λ c. search needs) (λ c. search needs) (λ c. search needs)
+    (λ c. search needs) (λ c. search needs) add-result returns)

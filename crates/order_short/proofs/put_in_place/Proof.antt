@@ -65,5 +65,5 @@ returns c =
 pub put-in-place-spec : {M : Type 1} → statement M
 put-in-place-spec =
     tie.close
-    (tie.spec Inv-loop μ-loop loop-holds (search needs) (λ c. omega arith) (λ c. omega arith) mul-places slice-write-places
+    (tie.spec Inv-loop μ-loop loop-holds (λ c. search needs) (λ c. omega arith) (λ c. omega arith) mul-places slice-write-places
     (λ c. omega arith) (λ c. omega arith) loop-again same-length returns)

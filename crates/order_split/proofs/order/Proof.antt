@@ -26,4 +26,4 @@ returns-2 c = left-alone (c .before .before .before .before .args .energies .now
 pub order-spec : {M : Type 1} → statement M
 order-spec =
     tie.close
-    (tie.spec (search needs) (search needs) split-sort-requires (search needs) returns (search needs) returns-2)
+    (tie.spec (λ c. search needs) (λ c. search needs) split-sort-requires (λ c. search needs) returns (λ c. search needs) returns-2)

@@ -53,5 +53,5 @@ returns-2 c =
 pub split-spec : {M : Type 1} → statement M
 split-spec =
     tie.close
-    (tie.spec (search needs) (λ c κs. search needs) (search needs) exchange-requires (search needs) (search needs) returns
-    gather-requires-2 (search needs) returns-2)
+    (tie.spec (λ c. search needs) (λ c κs. search needs) (λ c. search needs) exchange-requires (λ c. search needs) (λ c. search needs) returns
+    gather-requires-2 (λ c. search needs) returns-2)

@@ -17,5 +17,5 @@ cast-print-tenths c =
 pub print-reading-spec : {M : Type 1} → statement M
 print-reading-spec =
     tie.close
-    (tie.spec (search needs) (search needs) cast-print-tenths (search needs) (search needs) (search needs) (search needs)
-    (search needs) (search needs) (search needs) (search needs) (search needs))
+    (tie.spec (λ c. search needs) (λ c. search needs) cast-print-tenths (λ c. search needs) (λ c. search needs) (λ c. search needs) (λ c. search needs)
+    (λ c. search needs) (λ c. search needs) (λ c. search needs) (λ c. search needs) (λ c. search needs))

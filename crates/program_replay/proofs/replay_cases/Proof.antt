@@ -13,5 +13,5 @@ abbrev μ-loop : tie.MeasureT-loop
 pub replay-cases-spec : {M : Type 1} → statement M
 replay-cases-spec =
     tie.close
-    (tie.spec Inv-loop μ-loop (search needs) (search needs) (search needs) (search needs) (search needs) (search needs)
-    (search needs))
+    (tie.spec Inv-loop μ-loop (λ c. search needs) (λ c. search needs) (λ c. search needs) (λ c. search needs) (λ c. search needs) (λ c. search needs)
+    (λ c. search needs))

@@ -14,4 +14,4 @@ slice-aggregate-of-record c =
 pub report-first-spec : {M : Type 1} → statement M
 report-first-spec =
     tie.close
-    (tie.spec slice-aggregate-of-record (search needs) (search needs) (search needs) (search needs) (search needs) (search needs))
+    (tie.spec slice-aggregate-of-record (λ c. search needs) (λ c. search needs) (λ c. search needs) (λ c. search needs) (λ c. search needs) (λ c. search needs))

@@ -13,4 +13,4 @@ returns-2 : tie.Need-returns-2
 returns-2 c = sym (ap (λ (k : Kind). canBe k (c .before .before .args .length)) (c .enum-told2 .given .1))
 
 pub can-be-spec : {M : Type 1} → statement M
-can-be-spec = tie.close (tie.spec (search needs) (search needs) returns returns-2)
+can-be-spec = tie.close (tie.spec (λ c. search needs) (λ c. search needs) returns returns-2)

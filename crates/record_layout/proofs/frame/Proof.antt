@@ -74,5 +74,5 @@ returns-5 c =
 pub frame-spec : {M : Type 1} → statement M
 frame-spec =
     tie.close
-    (tie.spec returns (search needs) (search needs) returns-2 (search needs) (search needs) returns-3 (search needs) returns-4
+    (tie.spec returns (λ c. search needs) (λ c. search needs) returns-2 (λ c. search needs) (λ c. search needs) returns-3 (λ c. search needs) returns-4
     returns-5)

@@ -28,5 +28,5 @@ returns-2 c = let a = c .before .before .args in sym (no-head (a .kind) (a .leng
 pub put-head-spec : {M : Type 1} → statement M
 put-head-spec =
     tie.close
-    (tie.spec (search needs) slice-aggregate-put-number (search needs) (search needs) (search needs) (search needs) (search needs)
-    (search needs) (search needs) returns returns-2)
+    (tie.spec (λ c. search needs) slice-aggregate-put-number (λ c. search needs) (λ c. search needs) (λ c. search needs) (λ c. search needs) (λ c. search needs)
+    (λ c. search needs) (λ c. search needs) returns returns-2)

@@ -47,5 +47,5 @@ returns c =
 pub all-finite-spec : {M : Type 1} → statement M
 all-finite-spec =
     tie.close
-    (tie.spec Inv-loop μ-loop loop-holds (search needs) (search needs) (λ c κs. omega arith) (search needs) (search needs)
-    (search needs) loop-again returns)
+    (tie.spec Inv-loop μ-loop loop-holds (λ c. search needs) (λ c. search needs) (λ c κs. omega arith) (λ c. search needs) (λ c. search needs)
+    (λ c. search needs) loop-again returns)

@@ -15,4 +15,4 @@ returns c =
     sym (finite-fit (numbersIn (a .order) 8 (a .count) (drop (a .at) (now (a .bytes)))) (sym (f .all-finite .ensures) ∙ c .if1 .taken))
 
 pub energies-fit-spec : {M : Type 1} → statement M
-energies-fit-spec = tie.close (tie.spec (search needs) returns (search needs) (λ c. search needs))
+energies-fit-spec = tie.close (tie.spec (λ c. search needs) returns (λ c. search needs) (λ c. search needs))

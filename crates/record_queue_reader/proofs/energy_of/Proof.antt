@@ -13,4 +13,4 @@ float-from-bits-result : tie.Need-float-from-bits-result
 float-from-bits-result c = other-number (c .before .args .pattern) (c .before .pre) (c .if1 .left)
 
 pub energy-of-spec : {M : Type 1} → statement M
-energy-of-spec = tie.close (tie.spec returns float-from-bits-result (search needs))
+energy-of-spec = tie.close (tie.spec returns float-from-bits-result (λ c. search needs))

@@ -15,4 +15,4 @@ returns-2 : tie.Need-returns-2
 returns-2 c = sym (not-finite (c .before .args .pattern) (c .if1 .left))
 
 pub finite-fits-spec : {M : Type 1} → statement M
-finite-fits-spec = tie.close (tie.spec float-from-bits-result (search needs) returns returns-2)
+finite-fits-spec = tie.close (tie.spec float-from-bits-result (λ c. search needs) returns returns-2)

@@ -15,4 +15,4 @@ returns c =
     c .double-word .ensures ∙ number-within (a .order) 8 (drop (a .at) (now (a .bytes))) (a .at + 8 - a .at) (omega arith)
 
 pub pattern-at-spec : {M : Type 1} → statement M
-pattern-at-spec = tie.close (tie.spec (search needs) (search needs) (search needs) (search needs) (search needs) returns)
+pattern-at-spec = tie.close (tie.spec (λ c. search needs) (λ c. search needs) (λ c. search needs) (λ c. search needs) (λ c. search needs) returns)

@@ -8,4 +8,4 @@ returns : tie.Need-returns
 returns c = rw (c .finite-fits .ensures) (told-apart (c .before .args .pattern))
 
 pub pattern-fits-spec : {M : Type 1} → statement M
-pattern-fits-spec = tie.close (tie.spec (search needs) returns)
+pattern-fits-spec = tie.close (tie.spec (λ c. search needs) returns)

@@ -139,5 +139,5 @@ returns-5 c =
 pub read-body-spec : {M : Type 1} → statement M
 read-body-spec =
     tie.close
-    (tie.spec (search needs) (search needs) (search needs) returns mul-if2 add-if2 returns-2 energies-fit-requires returns-3
-    returns-4 read-energies-requires (search needs) returns-5)
+    (tie.spec (λ c. search needs) (λ c. search needs) (λ c. search needs) returns mul-if2 add-if2 returns-2 energies-fit-requires returns-3
+    returns-4 read-energies-requires (λ c. search needs) returns-5)

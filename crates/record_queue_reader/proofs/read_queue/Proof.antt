@@ -53,4 +53,4 @@ returns-2 c =
 pub read-queue-spec : {M : Type 1} → statement M
 read-queue-spec =
     tie.close
-    (tie.spec (search needs) (search needs) (search needs) read-body-requires (search needs) (search needs) returns returns-2)
+    (tie.spec (λ c. search needs) (λ c. search needs) (λ c. search needs) read-body-requires (λ c. search needs) (λ c. search needs) returns returns-2)

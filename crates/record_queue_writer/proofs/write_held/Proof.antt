@@ -102,6 +102,6 @@ returns c =
 pub write-held-spec : {M : Type 1} → statement M
 write-held-spec =
     tie.close
-    (tie.spec (search needs) sub-next mul-next add-next mul-write-energies sub-write-energies part-write-energies-start
+    (tie.spec (λ c. search needs) sub-next mul-next add-next mul-write-energies sub-write-energies part-write-energies-start
     part-write-energies-end write-energies-requires mul-write-energies-2 sub-write-energies-2 part-write-energies-start-2
-    part-write-energies-end-2 write-energies-requires-2 (search needs) returns)
+    part-write-energies-end-2 write-energies-requires-2 (λ c. search needs) returns)

@@ -102,5 +102,5 @@ returns-3 c = rw (sym (c .before .sound-queue .ensures) ∙ c .if1 .left) (refl,
 pub write-queue-spec : {M : Type 1} → statement M
 write-queue-spec =
     tie.close
-    (tie.spec (search needs) mul-length add-length returns (search needs) (search needs) (search needs) (search needs)
-    (search needs) write-held-requires (search needs) returns-2 returns-3)
+    (tie.spec (λ c. search needs) mul-length add-length returns (λ c. search needs) (λ c. search needs) (λ c. search needs) (λ c. search needs)
+    (λ c. search needs) write-held-requires (λ c. search needs) returns-2 returns-3)

@@ -47,5 +47,5 @@ returns c =
 pub blocks-in-spec : {M : Type 1} → statement M
 blocks-in-spec =
     tie.close
-    (tie.spec Inv-loop μ-loop loop-holds (search needs) (search needs) (search needs) add-blocks (search needs) (search needs)
+    (tie.spec Inv-loop μ-loop loop-holds (λ c. search needs) (λ c. search needs) (λ c. search needs) add-blocks (λ c. search needs) (λ c. search needs)
     loop-again returns)

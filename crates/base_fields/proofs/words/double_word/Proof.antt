@@ -14,4 +14,4 @@ returns c =
     c .low-double-word .ensures ∙ ap (λ (o : Order). numberIn o widest (now (a .field))) (sym (low-first (a .order)))
 
 pub double-word-spec : {M : Type 1} → statement M
-double-word-spec = tie.close (tie.spec (search needs) returns)
+double-word-spec = tie.close (tie.spec (λ c. search needs) returns)

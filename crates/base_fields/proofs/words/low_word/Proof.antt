@@ -13,4 +13,4 @@ cast-result c =
     record { fits = omega (arith, c .number-at .ensures, small bytes (λ i. omega (arith, start .shared-slice-known .given i)) 0 4) }
 
 pub low-word-spec : {M : Type 1} → statement M
-low-word-spec = tie.close (tie.spec (search needs) cast-result (search needs) (search needs) (search needs))
+low-word-spec = tie.close (tie.spec (λ c. search needs) cast-result (λ c. search needs) (λ c. search needs) (λ c. search needs))

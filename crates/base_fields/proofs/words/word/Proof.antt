@@ -14,4 +14,4 @@ returns c =
     c .low-word .ensures ∙ ap (λ (o : Order). numberIn o wordWidth (now (a .field))) (sym (low-first (a .order)))
 
 pub word-spec : {M : Type 1} → statement M
-word-spec = tie.close (tie.spec (search needs) returns)
+word-spec = tie.close (tie.spec (λ c. search needs) returns)

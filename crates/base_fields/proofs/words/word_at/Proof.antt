@@ -43,5 +43,5 @@ returns c = let a = c .before .before .before .before .args in omega (arith, fou
 pub word-at-spec : {M : Type 1} → statement M
 word-at-spec =
     tie.close
-    (tie.spec (search needs) cast-low (search needs) (search needs) cast-low-2 mul-low add-low-2 (search needs) (search needs)
-    cast-high (search needs) (search needs) cast-high-2 mul-high add-high-3 mul-result add-result returns)
+    (tie.spec (λ c. search needs) cast-low (λ c. search needs) (λ c. search needs) cast-low-2 mul-low add-low-2 (λ c. search needs) (λ c. search needs)
+    cast-high (λ c. search needs) (λ c. search needs) cast-high-2 mul-high add-high-3 mul-result add-result returns)

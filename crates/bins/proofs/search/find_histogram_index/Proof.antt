@@ -57,5 +57,5 @@ returns c = done (joined (c .before .before .before) .0) (c .if2 .taken)
 pub find-histogram-index-spec : {M : Type 1} → statement M
 find-histogram-index-spec =
     tie.close
-    (tie.spec Inv-loop μ-loop (search needs) loop-holds (search needs) mul-if1 array-read-if1 sub-if2 loop-less loop-again
+    (tie.spec Inv-loop μ-loop (λ c. search needs) loop-holds (λ c. search needs) mul-if1 array-read-if1 sub-if2 loop-less loop-again
     returns)

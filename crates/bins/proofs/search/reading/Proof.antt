@@ -57,4 +57,4 @@ returns-4 c =
 pub reading-spec : {M : Type 1} → statement M
 reading-spec =
     tie.close
-    (tie.spec returns (search needs) returns-2 (search needs) returns-3 (search needs) cast-t5 add-t6 returns-4)
+    (tie.spec returns (λ c. search needs) returns-2 (λ c. search needs) returns-3 (λ c. search needs) cast-t5 add-t6 returns-4)

@@ -40,5 +40,5 @@ returns c =
 pub add-all-spec : {M : Type 1} → statement M
 add-all-spec =
     tie.close
-    (tie.spec Inv-loop μ-loop (search needs) (search needs) (search needs) (search needs) (search needs) add-into (search needs)
-    (search needs) (search needs) (search needs) loop-again (search needs) returns)
+    (tie.spec Inv-loop μ-loop (λ c. search needs) (λ c. search needs) (λ c. search needs) (λ c. search needs) (λ c. search needs) add-into (λ c. search needs)
+    (λ c. search needs) (λ c. search needs) (λ c. search needs) loop-again (λ c. search needs) returns)

@@ -35,4 +35,4 @@ returns-4 c =
 pub merge-spec : {M : Type 1} → statement M
 merge-spec =
     tie.close
-    (tie.spec returns returns-2 (search needs) add-all-requires (search needs) returns-3 (search needs) returns-4)
+    (tie.spec returns returns-2 (λ c. search needs) add-all-requires (λ c. search needs) returns-3 (λ c. search needs) returns-4)

@@ -40,4 +40,4 @@ returns-2 c =
     sym (parts-nowhere (a .self) (a .start) (a .places) (sym (c .before .stands .ensures) ∙ c .if1 .left))
 
 pub parts-spec : {M : Type 1} → statement M
-parts-spec = tie.close (tie.spec (search needs) (search needs) add-from add-t9 (search needs) add-t11 returns returns-2)
+parts-spec = tie.close (tie.spec (λ c. search needs) (λ c. search needs) add-from add-t9 (λ c. search needs) add-t11 returns returns-2)

@@ -16,4 +16,4 @@ returns-3 : tie.Need-returns-3
 returns-3 c = let a = c .before .before .before .before .args in c .suits .ensures ∙ sym (inside (a .self) (a .start) (a .places) (omega arith))
 
 pub stands-spec : {M : Type 1} → statement M
-stands-spec = tie.close (tie.spec returns returns-2 (search needs) returns-3)
+stands-spec = tie.close (tie.spec returns returns-2 (λ c. search needs) returns-3)

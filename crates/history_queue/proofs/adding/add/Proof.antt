@@ -98,5 +98,5 @@ returns-4 c =
 pub add-spec : {M : Type 1} → statement M
 add-spec =
     tie.close
-    (tie.spec (search needs) (search needs) returns add-on-ring on-ring-requires mul-store slice-write-store add-t14
-    (search needs) returns-2 mul-store-2 slice-write-store-2 after-requires (search needs) returns-3 returns-4)
+    (tie.spec (λ c. search needs) (λ c. search needs) returns add-on-ring on-ring-requires mul-store slice-write-store add-t14
+    (λ c. search needs) returns-2 mul-store-2 slice-write-store-2 after-requires (λ c. search needs) returns-3 returns-4)

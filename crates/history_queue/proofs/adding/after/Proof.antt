@@ -17,4 +17,4 @@ returns-2 c =
     sym (ap (λ n. n % a .maximum) last ∙ mod-self (a .maximum))
 
 pub after-spec : {M : Type 1} → statement M
-after-spec = tie.close (tie.spec (search needs) returns returns-2)
+after-spec = tie.close (tie.spec (λ c. search needs) returns returns-2)

@@ -14,5 +14,5 @@ slice-aggregate-merge c =
 pub merged-spec : {M : Type 1} → statement M
 merged-spec =
     tie.close
-    (tie.spec (search needs) (search needs) slice-aggregate-merge (search needs) (search needs) (search needs) (search needs)
-    (search needs) (search needs))
+    (tie.spec (λ c. search needs) (λ c. search needs) slice-aggregate-merge (λ c. search needs) (λ c. search needs) (λ c. search needs) (λ c. search needs)
+    (λ c. search needs) (λ c. search needs))

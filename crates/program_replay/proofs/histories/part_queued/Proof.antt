@@ -14,5 +14,5 @@ slice-aggregate-all-queued c =
 pub part-queued-spec : {M : Type 1} → statement M
 part-queued-spec =
     tie.close
-    (tie.spec (search needs) (search needs) (search needs) slice-aggregate-all-queued (search needs) (search needs)
-    (search needs))
+    (tie.spec (λ c. search needs) (λ c. search needs) (λ c. search needs) slice-aggregate-all-queued (λ c. search needs) (λ c. search needs)
+    (λ c. search needs))

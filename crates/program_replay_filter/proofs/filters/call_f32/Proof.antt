@@ -15,5 +15,5 @@ slice-aggregate-heard-f32 c =
 pub call-f32-spec : {M : Type 1} → statement M
 call-f32-spec =
     tie.close
-    (tie.spec (search needs) (search needs) (search needs) (search needs) (search needs) slice-aggregate-heard-f32 (search needs)
-    (search needs) (search needs))
+    (tie.spec (λ c. search needs) (λ c. search needs) (λ c. search needs) (λ c. search needs) (λ c. search needs) slice-aggregate-heard-f32 (λ c. search needs)
+    (λ c. search needs) (λ c. search needs))

@@ -15,5 +15,5 @@ slice-aggregate-heard-i16 c =
 pub call-i16-spec : {M : Type 1} → statement M
 call-i16-spec =
     tie.close
-    (tie.spec (search needs) (search needs) (search needs) (search needs) (search needs) slice-aggregate-heard-i16 (search needs)
-    (search needs) (search needs))
+    (tie.spec (λ c. search needs) (λ c. search needs) (λ c. search needs) (λ c. search needs) (λ c. search needs) slice-aggregate-heard-i16 (λ c. search needs)
+    (λ c. search needs) (λ c. search needs))

@@ -14,5 +14,5 @@ slice-aggregate-call-mapped c =
 pub call-into-spec : {M : Type 1} → statement M
 call-into-spec =
     tie.close
-    (tie.spec (search needs) (search needs) (search needs) slice-aggregate-call-mapped (search needs) (search needs)
-    (search needs))
+    (tie.spec (λ c. search needs) (λ c. search needs) (λ c. search needs) slice-aggregate-call-mapped (λ c. search needs) (λ c. search needs)
+    (λ c. search needs))

@@ -18,5 +18,5 @@ slice-aggregate-call-of-kind c =
 pub call-mapped-spec : {M : Type 1} → statement M
 call-mapped-spec =
     tie.close
-    (tie.spec (search needs) (search needs) (search needs) (search needs) (search needs) (search needs) (search needs)
-    slice-aggregate-call-of-kind (search needs) (search needs) (search needs))
+    (tie.spec (λ c. search needs) (λ c. search needs) (λ c. search needs) (λ c. search needs) (λ c. search needs) (λ c. search needs) (λ c. search needs)
+    slice-aggregate-call-of-kind (λ c. search needs) (λ c. search needs) (λ c. search needs))

@@ -34,4 +34,4 @@ float-from-bits-result-2 : tie.Need-float-from-bits-result-2
 float-from-bits-result-2 c = no-digits (c .before .before .args .pattern) (c .if2 .taken)
 
 pub float-of-spec : {M : Type 1} → statement M
-float-of-spec = tie.close (tie.spec float-from-bits-result (search needs) float-from-bits-result-2 (search needs) (search needs))
+float-of-spec = tie.close (tie.spec float-from-bits-result (λ c. search needs) float-from-bits-result-2 (λ c. search needs) (λ c. search needs))

@@ -14,4 +14,4 @@ slice-aggregate-heard-i16 c =
 pub impulse-part-spec : {M : Type 1} → statement M
 impulse-part-spec =
     tie.close
-    (tie.spec (search needs) (search needs) slice-aggregate-heard-i16 (search needs) (search needs) (search needs) (search needs))
+    (tie.spec (λ c. search needs) (λ c. search needs) slice-aggregate-heard-i16 (λ c. search needs) (λ c. search needs) (λ c. search needs) (λ c. search needs))

@@ -24,4 +24,4 @@ add-result c =
     rw (toZ-pos w16 n (omega arith)) (from-least-fits n (omega arith))
 
 pub short-of-spec : {M : Type 1} → statement M
-short-of-spec = tie.close (tie.spec (search needs) (search needs) (search needs) add-result (search needs) (search needs))
+short-of-spec = tie.close (tie.spec (λ c. search needs) (λ c. search needs) (λ c. search needs) add-result (λ c. search needs) (λ c. search needs))

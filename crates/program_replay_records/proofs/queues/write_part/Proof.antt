@@ -21,5 +21,5 @@ slice-aggregate-record-written-2 c =
 pub write-part-spec : {M : Type 1} → statement M
 write-part-spec =
     tie.close
-    (tie.spec (search needs) (search needs) (search needs) (search needs) slice-aggregate-record-written (search needs)
-    slice-aggregate-record-written-2 (search needs) (search needs) (search needs))
+    (tie.spec (λ c. search needs) (λ c. search needs) (λ c. search needs) (λ c. search needs) slice-aggregate-record-written (λ c. search needs)
+    slice-aggregate-record-written-2 (λ c. search needs) (λ c. search needs) (λ c. search needs))

@@ -11,4 +11,4 @@ returns c =
     k .copy .ensures ∙ r .read-words .ensures
 
 pub read-counters-spec : {M : Type 1} → statement M
-read-counters-spec = tie.close (tie.spec (search needs) (search needs) (search needs) (search needs) (search needs) returns)
+read-counters-spec = tie.close (tie.spec (λ c. search needs) (λ c. search needs) (λ c. search needs) (λ c. search needs) (λ c. search needs) returns)

@@ -58,5 +58,5 @@ returns-3 c =
 pub read-histogram-spec : {M : Type 1} → statement M
 read-histogram-spec =
     tie.close
-    (tie.spec (search needs) (search needs) returns (search needs) read-counters-requires (search needs) (search needs) returns-2
+    (tie.spec (λ c. search needs) (λ c. search needs) returns (λ c. search needs) read-counters-requires (λ c. search needs) (λ c. search needs) returns-2
     returns-3)

@@ -15,4 +15,4 @@ returns c =
     c .word .ensures ∙ number-within (a .order) 4 (drop (a .at) (now (a .bytes))) (a .at + 4 - a .at) (omega arith)
 
 pub word-at-spec : {M : Type 1} → statement M
-word-at-spec = tie.close (tie.spec (search needs) (search needs) (search needs) (search needs) (search needs) returns)
+word-at-spec = tie.close (tie.spec (λ c. search needs) (λ c. search needs) (λ c. search needs) (λ c. search needs) (λ c. search needs) returns)

@@ -22,5 +22,5 @@ returns c = let a = c .args in four-stores (now (a .out)) (a .at) (a .word)
 pub put-low-word-spec : {M : Type 1} → statement M
 put-low-word-spec =
     tie.close
-    (tie.spec (search needs) (search needs) (search needs) (search needs) slice-write-out-2 (search needs) (search needs)
-    slice-write-out-3 (search needs) (search needs) slice-write-out-4 (search needs) returns)
+    (tie.spec (λ c. search needs) (λ c. search needs) (λ c. search needs) (λ c. search needs) slice-write-out-2 (λ c. search needs) (λ c. search needs)
+    slice-write-out-3 (λ c. search needs) (λ c. search needs) slice-write-out-4 (λ c. search needs) returns)

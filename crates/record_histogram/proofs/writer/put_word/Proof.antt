@@ -16,4 +16,4 @@ returns c =
     ∙ ap (λ (order : Order). sets (now (a .out)) (a .at) (bytesOf order 4 (a .word))) (sym (low-first (a .order)))
 
 pub put-word-spec : {M : Type 1} → statement M
-put-word-spec = tie.close (tie.spec (search needs) (search needs) returns)
+put-word-spec = tie.close (tie.spec (λ c. search needs) (λ c. search needs) returns)

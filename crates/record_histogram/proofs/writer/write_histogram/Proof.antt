@@ -65,4 +65,4 @@ returns-3 c =
 pub write-histogram-spec : {M : Type 1} → statement M
 write-histogram-spec =
     tie.close
-    (tie.spec returns returns-2 (search needs) (search needs) write-counters-requires (search needs) returns-3)
+    (tie.spec returns returns-2 (λ c. search needs) (λ c. search needs) write-counters-requires (λ c. search needs) returns-3)
