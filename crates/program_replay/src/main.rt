@@ -1,7 +1,6 @@
-// Replays the oracle's answers on bins, histories and questions, kept as a list on standard input, and prints for each operation how many are the same.
+// Replays the oracle's answers on bins, readings and questions, kept as a list on standard input, and prints for each operation how many are the same.
 // The list is sections until its end. A section: u32 operation, u32 number of cases, u32 bytes a case, the operation's name in 20 bytes, then the cases.
-// All numbers low byte first. The loop over sections and cases is the same in `program_replay_filter` and `program_replay_records`.
-mod histories;
+// All numbers low byte first. The loop over sections and cases is the same in the other programs that replay.
 mod questions;
 
 use bins::search::Level;
@@ -14,12 +13,6 @@ const TABLES: u64 = 1;
 const BINS: u64 = 2;
 
 const READINGS: u64 = 3;
-
-const HISTOGRAM_ADDS: u64 = 4;
-
-const MERGES: u64 = 5;
-
-const QUEUE_ADDS: u64 = 6;
 
 const QUESTIONS: u64 = 7;
 
@@ -96,15 +89,6 @@ fn case_same(operation: u64, case: &[u8]) -> bool {
     }
     if operation == READINGS {
         return reading_same(case);
-    }
-    if operation == HISTOGRAM_ADDS {
-        return histories::adds_same(case);
-    }
-    if operation == MERGES {
-        return histories::merge_same(case);
-    }
-    if operation == QUEUE_ADDS {
-        return histories::queue_same(case);
     }
     if operation == QUESTIONS {
         return questions::answers_same(case);

@@ -81,9 +81,15 @@ fn entries_of(case: &[u8]) -> [Entry; 16] {
 fn fill_counters(case: &[u8], counters: &mut [Count]) {
     let mut at = 42;
     while at < 90 {
-        let count = crate::histories::narrowed(base_fields::number_at(case, at + 2, 4));
-        crate::histories::put(counters, number_at(case, at), count);
+        let count = (base_fields::number_at(case, at + 2, 4) % 4294967296) as Count;
+        put_count(counters, number_at(case, at), count);
         at += 6;
+    }
+}
+
+fn put_count(counters: &mut [Count], bin: usize, count: Count) {
+    if bin < counters.len() {
+        counters[bin] = count;
     }
 }
 
@@ -130,7 +136,23 @@ fn range_same(case: &[u8], counters: &[Count], energies: &[f64]) -> bool {
         energies,
         &mut work,
     );
-    ranged_same(case, range) && crate::histories::patterns_same(case, 318, &work)
+    ranged_same(case, range) && work_same(case, &work)
+}
+
+// Whether the places to work in have the case's patterns.
+fn work_same(case: &[u8], work: &[f64]) -> bool {
+    let mut place = 0;
+    while place < 24 {
+        if place < work.len() {
+            if base_floats::pattern_of(work[place])
+                != base_fields::number_at(case, 318 + 8 * place, 8)
+            {
+                return false;
+            }
+        }
+        place += 1;
+    }
+    true
 }
 
 fn ranged_same(case: &[u8], range: Span) -> bool {

@@ -38,15 +38,7 @@ fn narrow_pattern(case: &[u8], from: usize, count: usize, place: usize) -> u32 {
     if 4096 < place {
         return 0;
     }
-    narrowed(base_fields::number_at(case, from + 4 * place, 4))
-}
-
-// A number that is no pattern of 32 bits stands for none.
-fn narrowed(number: u64) -> u32 {
-    if 4294967295 < number {
-        return 0;
-    }
-    number as u32
+    (base_fields::number_at(case, from + 4 * place, 4) % 4294967296) as u32
 }
 
 // The float that a pattern of 32 bits stands for. Every NaN pattern stands for NaN.
@@ -71,10 +63,6 @@ fn short_of(number: u32) -> i16 {
         return -32768 + (number - 32768) as i16;
     }
     0
-}
-
-fn byte_at(case: &[u8], at: usize) -> u8 {
-    (base_fields::number_at(case, at, 1) % 256) as u8
 }
 
 // The five a and, from the second place on, the five b.
@@ -193,18 +181,16 @@ fn call_into(case: &[u8], dest: &mut [f64]) -> bool {
     call_mapped(case, &mut dest[..places])
 }
 
+// The map's bytes stand in the case.
 fn call_mapped(case: &[u8], dest: &mut [f64]) -> bool {
     let bytes = count_at(case, 14);
     if 4 < bytes {
         return false;
     }
-    let map = [
-        byte_at(case, 68),
-        byte_at(case, 69),
-        byte_at(case, 70),
-        byte_at(case, 71),
-    ];
-    call_of_kind(case, &map[..bytes], dest)
+    if case.len() < 72 {
+        return false;
+    }
+    call_of_kind(case, &case[68..68 + bytes], dest)
 }
 
 fn call_of_kind(case: &[u8], map: &[u8], dest: &mut [f64]) -> bool {
@@ -257,7 +243,7 @@ fn heard_f32(case: &[u8], data: &[f32], map: &[u8], dest: &mut [f64]) -> bool {
 fn filter_of(case: &[u8]) -> Filter {
     Filter {
         channels: count_at(case, 4),
-        rate: narrowed(base_fields::number_at(case, 8, 4)),
+        rate: (base_fields::number_at(case, 8, 4) % 4294967296) as u32,
         switches: switches_of(base_fields::number_at(case, 6, 2)),
         coefficients: coefficients_at(case, 72, 112),
         state: state_of(case),

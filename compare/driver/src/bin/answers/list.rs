@@ -1,4 +1,5 @@
-//! The fixed lists that the proved programs `program_replay`, `program_replay_filter` and `program_replay_records` run with no
+//! The fixed lists that the proved programs `program_replay`, `program_replay_histories`,
+//! `program_replay_filter` and `program_replay_records` run with no
 //! Rust at hand. Little-endian, sections to the end: u32 operation, u32 number of cases, u32 bytes a
 //! case, the operation's name in 20 bytes, then the cases. Beside each list, the lines that its program
 //! prints when every answer is the same. A new operation is a new function here or in a module below,
@@ -21,7 +22,12 @@ const READINGS: usize = 2048;
 const NAME: usize = 20;
 
 /// The programs, each with a list of its own.
-pub const PROGRAMS: [&str; 3] = ["program_replay", "program_replay_filter", "program_replay_records"];
+pub const PROGRAMS: [&str; 4] = [
+    "program_replay",
+    "program_replay_histories",
+    "program_replay_filter",
+    "program_replay_records",
+];
 
 /// An operation's cases, under the name that the program prints.
 struct Section {
@@ -37,10 +43,12 @@ fn sections(program: &str) -> Vec<Section> {
             (1, "tables", tables()),
             (2, "bins", bins()),
             (3, "readings", readings()),
+            (7, "questions", questions::questions()),
+        ],
+        "program_replay_histories" => vec![
             (4, "histogram adds", histories::histogram_adds()),
             (5, "merges", histories::merges()),
             (6, "queue adds", histories::queue_adds()),
-            (7, "questions", questions::questions()),
         ],
         "program_replay_filter" => vec![
             (8, "phases", filter::phases()),

@@ -1,10 +1,10 @@
--- `program_replay::histories::merged` is safe: the part that is lent is as long as the case says. Assumes nothing.
+-- `program_replay_histories::histories::merged` is safe: the part that is lent is as long as the case says. Assumes nothing.
 use mathlib.Core.Path.{sym}
 use lib.Seq.{length-take-le}
 use denote.Ref.{now}
 use borrow.Author.Needs.{needs}
-use Rattle.program_replay.proofs.histories.merged.Statement.{statement}
-use Rattle.program_replay.proofs.histories.merged.Tie as tie
+use Rattle.program_replay_histories.proofs.histories.merged.Statement.{statement}
+use Rattle.program_replay_histories.proofs.histories.merged.Tie as tie
 
 slice-aggregate-merge : tie.Need-slice-aggregate-merge
 slice-aggregate-merge c =

@@ -1,8 +1,8 @@
--- `program_replay::histories::all_counted` is safe and ends: each turn is a bin of the case further. Assumes nothing.
+-- `program_replay_histories::histories::all_counted` is safe and ends: each turn is a bin of the case further. Assumes nothing.
 use Prim.Native.Nat.{_-_, _≤_}
 use borrow.Author.Needs.{needs}
-use Rattle.program_replay.proofs.histories.all_counted.Statement.{statement}
-use Rattle.program_replay.proofs.histories.all_counted.Tie as tie
+use Rattle.program_replay_histories.proofs.histories.all_counted.Statement.{statement}
+use Rattle.program_replay_histories.proofs.histories.all_counted.Tie as tie
 
 abbrev Inv-loop : tie.InvT-loop
 Inv-loop case counters at₀ at = at ≤ 240

@@ -1,8 +1,8 @@
--- `program_replay::histories::patterns_same` is safe and ends: there are at most 24 places. Assumes nothing.
+-- `program_replay_histories::histories::patterns_same` is safe and ends: there are at most 24 places. Assumes nothing.
 use Prim.Native.Nat.{_-_, _≤_}
 use borrow.Author.Needs.{needs}
-use Rattle.program_replay.proofs.histories.patterns_same.Statement.{statement}
-use Rattle.program_replay.proofs.histories.patterns_same.Tie as tie
+use Rattle.program_replay_histories.proofs.histories.patterns_same.Statement.{statement}
+use Rattle.program_replay_histories.proofs.histories.patterns_same.Tie as tie
 
 abbrev Inv-loop : tie.InvT-loop
 Inv-loop case from values place₀ place = place ≤ 24

@@ -32,7 +32,7 @@ fn added(counters: &mut [Count], energy: f64, bin: usize, count: u64) -> bool {
 }
 
 // A number that is no count stands for none.
-pub(crate) fn narrowed(number: u64) -> Count {
+fn narrowed(number: u64) -> Count {
     if 4294967295 < number {
         return 0;
     }
@@ -95,7 +95,7 @@ fn fill(case: &[u8], other: bool, counters: &mut [Count]) {
     }
 }
 
-pub(crate) fn put(counters: &mut [Count], bin: usize, count: Count) {
+fn put(counters: &mut [Count], bin: usize, count: Count) {
     if bin < counters.len() {
         counters[bin] = count;
     }
@@ -160,7 +160,7 @@ fn queued_same(case: &[u8], at: usize, answer: Answer, queue: Queue) -> bool {
 }
 
 // Whether a list of at most 24 floats has the case's patterns from a place on.
-pub(crate) fn patterns_same(case: &[u8], from: usize, values: &[f64]) -> bool {
+fn patterns_same(case: &[u8], from: usize, values: &[f64]) -> bool {
     if 4096 < from {
         return false;
     }

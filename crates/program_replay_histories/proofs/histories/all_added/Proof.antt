@@ -1,10 +1,10 @@
--- `program_replay::histories::all_added` is safe and ends: each turn is an energy of the case further, and the counters stay as many. Assumes nothing.
+-- `program_replay_histories::histories::all_added` is safe and ends: each turn is an energy of the case further, and the counters stay as many. Assumes nothing.
 use Prim.Native.Nat.{_-_, _≤_}
 use mathlib.Core.Path.{_≡_}
 use lib.ListN.{length}
 use borrow.Author.Needs.{needs}
-use Rattle.program_replay.proofs.histories.all_added.Statement.{statement}
-use Rattle.program_replay.proofs.histories.all_added.Tie as tie
+use Rattle.program_replay_histories.proofs.histories.all_added.Statement.{statement}
+use Rattle.program_replay_histories.proofs.histories.all_added.Tie as tie
 
 abbrev Inv-loop : tie.InvT-loop
 Inv-loop case counters₀ at₀ counters at = (at ≤ 780) × (length counters ≡ length counters₀)

@@ -1,10 +1,10 @@
--- `program_replay::histories::fill` is safe and ends: each turn is a bin of the case further, and the counters stay as many. Assumes nothing.
+-- `program_replay_histories::histories::fill` is safe and ends: each turn is a bin of the case further, and the counters stay as many. Assumes nothing.
 use Prim.Native.Nat.{_-_, _≤_}
 use mathlib.Core.Path.{_≡_}
 use lib.ListN.{length}
 use borrow.Author.Needs.{needs}
-use Rattle.program_replay.proofs.histories.fill.Statement.{statement}
-use Rattle.program_replay.proofs.histories.fill.Tie as tie
+use Rattle.program_replay_histories.proofs.histories.fill.Statement.{statement}
+use Rattle.program_replay_histories.proofs.histories.fill.Tie as tie
 
 abbrev Inv-loop : tie.InvT-loop
 Inv-loop case other counters₀ at₀ counters at = (at ≤ 240) × (length counters ≡ length counters₀)

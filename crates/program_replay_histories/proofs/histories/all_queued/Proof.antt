@@ -1,10 +1,10 @@
--- `program_replay::histories::all_queued` is safe and ends: each turn is an energy of the case further, and the store stays as long. Assumes nothing.
+-- `program_replay_histories::histories::all_queued` is safe and ends: each turn is an energy of the case further, and the store stays as long. Assumes nothing.
 use Prim.Native.Nat.{_-_, _≤_}
 use mathlib.Core.Path.{_≡_}
 use lib.ListN.{length}
 use borrow.Author.Needs.{needs}
-use Rattle.program_replay.proofs.histories.all_queued.Statement.{statement}
-use Rattle.program_replay.proofs.histories.all_queued.Tie as tie
+use Rattle.program_replay_histories.proofs.histories.all_queued.Statement.{statement}
+use Rattle.program_replay_histories.proofs.histories.all_queued.Tie as tie
 
 abbrev Inv-loop : tie.InvT-loop
 Inv-loop case store₀ queue₀ at₀ store queue at = (at ≤ 190) × (length store ≡ length store₀)

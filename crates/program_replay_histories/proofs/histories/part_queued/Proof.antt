@@ -1,10 +1,10 @@
--- `program_replay::histories::part_queued` is safe: the part that is lent is as long as the case says. Assumes nothing.
+-- `program_replay_histories::histories::part_queued` is safe: the part that is lent is as long as the case says. Assumes nothing.
 use mathlib.Core.Path.{sym}
 use lib.Seq.{length-take-le}
 use denote.Ref.{now}
 use borrow.Author.Needs.{needs}
-use Rattle.program_replay.proofs.histories.part_queued.Statement.{statement}
-use Rattle.program_replay.proofs.histories.part_queued.Tie as tie
+use Rattle.program_replay_histories.proofs.histories.part_queued.Statement.{statement}
+use Rattle.program_replay_histories.proofs.histories.part_queued.Tie as tie
 
 slice-aggregate-all-queued : tie.Need-slice-aggregate-all-queued
 slice-aggregate-all-queued c =
