@@ -65,21 +65,12 @@ fn short_of(number: u32) -> i16 {
     0
 }
 
-// The five a and, from the second place on, the five b.
-fn coefficients_at(case: &[u8], from: usize, second: usize) -> Coefficients {
+fn coefficients_of(case: &[u8]) -> Coefficients {
     let mut a: [f64; 5] = [0.0; 5];
     let mut b: [f64; 5] = [0.0; 5];
-    fill_wide(case, from, 5, &mut a);
-    fill_wide(case, second, 5, &mut b);
+    fill_wide(case, 72, 5, &mut a);
+    fill_wide(case, 112, 5, &mut b);
     Coefficients { a: a, b: b }
-}
-
-fn switches_of(on: u64) -> Switches {
-    Switches {
-        loudness: on % 2 == 1,
-        peak: on / 2 % 2 == 1,
-        true_peak: on / 4 % 2 == 1,
-    }
 }
 
 // ---- lists of values: taken from a case, and whether they are a case's
@@ -99,11 +90,11 @@ fn fill_narrow(case: &[u8], from: usize, count: usize, values: &mut [f32]) {
     }
 }
 
-// An i16 stands in the low bytes of a field of 4 bytes.
+// An i16 stands in the low bytes of a field of 4 bytes. The case has the first 12, the others are 0.
 fn fill_short(case: &[u8], from: usize, values: &mut [i16]) {
     let mut place = 0;
     while place < values.len() {
-        values[place] = short_of(narrow_pattern(case, from, 4096, place) % 65536);
+        values[place] = short_of(narrow_pattern(case, from, 12, place) % 65536);
         place += 1;
     }
 }
@@ -190,10 +181,7 @@ fn call_mapped(case: &[u8], dest: &mut [f64]) -> bool {
     if case.len() < 72 {
         return false;
     }
-    call_of_kind(case, &case[68..68 + bytes], dest)
-}
-
-fn call_of_kind(case: &[u8], map: &[u8], dest: &mut [f64]) -> bool {
+    let map = &case[68..68 + bytes];
     if count_at(case, 2) == 0 {
         return call_i16(case, map, dest);
     }
@@ -202,10 +190,10 @@ fn call_of_kind(case: &[u8], map: &[u8], dest: &mut [f64]) -> bool {
 
 fn call_i16(case: &[u8], map: &[u8], dest: &mut [f64]) -> bool {
     let samples = count_at(case, 12);
-    if 12 < samples {
+    if 1024 < samples {
         return false;
     }
-    let mut data = [0i16; 12];
+    let mut data = [0i16; 1024];
     fill_short(case, 20, &mut data);
     heard_i16(case, &data[..samples], map, dest)
 }
@@ -241,27 +229,24 @@ fn heard_f32(case: &[u8], data: &[f32], map: &[u8], dest: &mut [f64]) -> bool {
 }
 
 fn filter_of(case: &[u8]) -> Filter {
+    let mut state: [f64; 40] = [0.0; 40];
+    let mut peaks: [f64; 8] = [0.0; 8];
+    fill_wide(case, 152, 15, &mut state);
+    fill_wide(case, 272, 3, &mut peaks);
+    let on = base_fields::number_at(case, 6, 2);
     Filter {
         channels: count_at(case, 4),
         rate: (base_fields::number_at(case, 8, 4) % 4294967296) as u32,
-        switches: switches_of(base_fields::number_at(case, 6, 2)),
-        coefficients: coefficients_at(case, 72, 112),
-        state: state_of(case),
-        peaks: peaks_of(case),
+        switches: Switches {
+            loudness: on % 2 == 1,
+            peak: on / 2 % 2 == 1,
+            true_peak: on / 4 % 2 == 1,
+        },
+        coefficients: coefficients_of(case),
+        state: State { values: state },
+        peaks: Peaks { values: peaks },
         true_peak: true_peak_of(case),
     }
-}
-
-fn state_of(case: &[u8]) -> State {
-    let mut values: [f64; 40] = [0.0; 40];
-    fill_wide(case, 152, 15, &mut values);
-    State { values: values }
-}
-
-fn peaks_of(case: &[u8]) -> Peaks {
-    let mut values: [f64; 8] = [0.0; 8];
-    fill_wide(case, 272, 3, &mut values);
-    Peaks { values: values }
 }
 
 fn true_peak_of(case: &[u8]) -> TruePeak {
@@ -292,19 +277,7 @@ fn filtered_same(case: &[u8], filtered: Filtered) -> bool {
 // Calls of one channel in the same form: one i16 sample and then zeros, at most 1,024 in all. The destination has 1,024 places, and the first of the 16
 // is what the last of them holds.
 pub(crate) fn impulse_same(case: &[u8]) -> bool {
-    let mut data = [0i16; 1024];
-    data[0] = short_of(narrow_pattern(case, 20, 1, 0) % 65536);
     let mut dest = [0.5; 1024];
-    impulse_part(case, &data, &mut dest)
+    call_into(case, &mut dest)
         && base_floats::pattern_of(dest[1023]) == base_fields::number_at(case, 1018, 8)
-}
-
-// The samples that the case has.
-fn impulse_part(case: &[u8], data: &[i16], dest: &mut [f64]) -> bool {
-    let samples = count_at(case, 12);
-    if data.len() < samples {
-        return false;
-    }
-    let map = [1u8];
-    heard_i16(case, &data[..samples], &map, dest)
 }
