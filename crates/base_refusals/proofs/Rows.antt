@@ -76,15 +76,6 @@ module _ {Kept Values : Type 0} (outcome : Outcome Kept Values) where
       go true e later = absurd (no-number (row .refuses) e)
       go false e later = later e
 
-  -- what is so of every refusal, and of the outcome, is so of the call
-  pub either-way : (P : Outcome Kept Values → Type 0) (rows : List Row) → ((r : Refusal) → P (refused r)) → P outcome → P (byRows rows outcome)
-  either-way P [] stop go = go
-  either-way P (row ∷ rest) stop go = by (row .holds) (either-way P rest stop go)
-    where
-      by : (b : Bool) → P (byRows rest outcome) → P (cond b (refused (row .refuses)) (byRows rest outcome))
-      by true later = stop (row .refuses)
-      by false later = later
-
   -- rows, and then more of them
   pub rows-then : (rows more : List Row) → byRows (rows ++ more) outcome ≡ byRows rows (byRows more outcome)
   rows-then [] more = refl
