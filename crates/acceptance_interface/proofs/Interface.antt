@@ -19,10 +19,10 @@ use Rattle.gate.specs.Relative.{levelOf, relativeRows, relativeOf}
 use Rattle.gate.specs.Gate.{leftOf, gateRows, gateOf}
 use Rattle.gate.specs.GatedEnergy.{gatedEnergyOf}
 use Rattle.range.specs.Range.{Span, workAfter, spanOver, rangeRows, rangeOf}
-use Rattle.record_histogram.specs.Record.{readHistogramRows, readHistogram}
-use Rattle.record_histogram.specs.Writing.{writeHistogramRows, writeHistogram}
-use Rattle.record_queue_reader.specs.QueueRecord.{readQueueRows, readQueue}
-use Rattle.record_queue_writer.specs.Writing.{writeQueueRows, writeQueue}
+use Rattle.record_histogram.specs.Record.{readCountersRows, readCounters}
+use Rattle.record_histogram.specs.Writing.{writeCountersRows, writeCounters}
+use Rattle.record_queue_reader.specs.QueueRecord.{readEnergiesRows, readEnergies}
+use Rattle.record_queue_writer.specs.Writing.{writeEnergiesRows, writeEnergies}
 use Rattle.filter_checks.specs.Calls.{frameRows}
 use Rattle.filter.specs.Process.{processRows, processed}
 use Rattle.filter.specs.Seed.{seedRows, seeded}
@@ -107,10 +107,10 @@ interface = record {
   relativeThreshold = relates;
   loudnessRange = ranges;
   spans = λ numbers counters energies work. refused-span (rangeAsked numbers counters energies work);
-  histogramRead = λ bytes counters. tells (readHistogramRows bytes counters) (readHistogram bytes counters) (record-calls .histogramRead bytes counters);
-  histogramWrite = λ counters out. tells (writeHistogramRows counters out) (writeHistogram counters out) (record-calls .histogramWritten counters out);
-  queueRead = λ bytes store. tells (readQueueRows bytes store) (readQueue bytes store) (record-calls .queueRead bytes store);
-  queueWrite = λ s out. tells (writeQueueRows s out) (writeQueue s out) (record-calls .queueWritten s out);
+  histogramRead = λ model bytes counters. tells (readCountersRows model bytes counters) (readCounters model bytes counters) (record-calls .histogramRead model bytes counters);
+  histogramWrite = λ model counters out. tells (writeCountersRows model counters out) (writeCounters model counters out) (record-calls .histogramWritten model counters out);
+  queueRead = λ model bytes store. tells (readEnergiesRows model bytes store) (readEnergies model bytes store) (record-calls .queueRead model bytes store);
+  queueWrite = λ model s out. tells (writeEnergiesRows model s out) (writeEnergies model s out) (record-calls .queueWritten model s out);
   process = λ call. tells (processRows call) (processed call) (signal-calls .process call);
   seed = λ call. tells (seedRows call) (seeded call) (signal-calls .seed call);
   frames = λ channels samples. tells (frameRows channels samples) (framesIn channels samples) (signal-calls .frames channels samples);

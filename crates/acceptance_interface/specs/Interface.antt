@@ -17,10 +17,11 @@ use Rattle.gate.specs.Relative.{relativeRows, relativeOf}
 use Rattle.gate.specs.Gate.{gateRows, gateOf}
 use Rattle.gate.specs.GatedEnergy.{gatedEnergyOf}
 use Rattle.range.specs.Range.{rangeRows}
-use Rattle.record_histogram.specs.Record.{readHistogramRows, readHistogram}
-use Rattle.record_histogram.specs.Writing.{writeHistogramRows, writeHistogram}
-use Rattle.record_queue_reader.specs.QueueRecord.{readQueueRows, readQueue}
-use Rattle.record_queue_writer.specs.Writing.{writeQueueRows, writeQueue}
+use Rattle.record_layout.specs.declared.Model.{Model}
+use Rattle.record_histogram.specs.Record.{readCountersRows, readCounters}
+use Rattle.record_histogram.specs.Writing.{writeCountersRows, writeCounters}
+use Rattle.record_queue_reader.specs.QueueRecord.{readEnergiesRows, readEnergies}
+use Rattle.record_queue_writer.specs.Writing.{writeEnergiesRows, writeEnergies}
 use Rattle.filter_checks.specs.Calls.{frameRows}
 use Rattle.filter.specs.Call.{Call}
 use Rattle.filter.specs.Process.{processRows, processed}
@@ -56,10 +57,10 @@ pub record Interface : Type 0 where
       let call = rangeAsked numbers counters energies work in
       (code call ≡ 0 → ⊥) → (spanCode call ≡ code call) × ((old : Float) → (lowOr old call ≡ old) × (highOr old call ≡ old))
   -- the records
-  pub histogramRead : (bytes counters : List ℕ) → Tells (readHistogramRows bytes counters) (readHistogram bytes counters)
-  pub histogramWrite : (counters out : List ℕ) → Tells (writeHistogramRows counters out) (writeHistogram counters out)
-  pub queueRead : (bytes : List ℕ) (store : List Float) → Tells (readQueueRows bytes store) (readQueue bytes store)
-  pub queueWrite : (s : Stored) (out : List ℕ) → Tells (writeQueueRows s out) (writeQueue s out)
+  pub histogramRead : (model : Model) (bytes counters : List ℕ) → Tells (readCountersRows model bytes counters) (readCounters model bytes counters)
+  pub histogramWrite : (model : Model) (counters out : List ℕ) → Tells (writeCountersRows model counters out) (writeCounters model counters out)
+  pub queueRead : (model : Model) (bytes : List ℕ) (store : List Float) → Tells (readEnergiesRows model bytes store) (readEnergies model bytes store)
+  pub queueWrite : (model : Model) (s : Stored) (out : List ℕ) → Tells (writeEnergiesRows model s out) (writeEnergies model s out)
   -- the filter's calls, of either kind of samples
   pub process : (call : Call) → Tells (processRows call) (processed call)
   pub seed : (call : Call) → Tells (seedRows call) (seeded call)

@@ -9,17 +9,15 @@ use Rattle.base_refusals.specs.Outcome.{done, Said, says, refusal}
 use Rattle.base_refusals.proofs.Rows.{refused-by}
 use Rattle.history_queue.specs.declared.Queue.{Queue}
 use Rattle.history_queue.specs.Queue.{heldOf}
-use Rattle.record_layout.specs.declared.Kind.the-variants.{Queue as QueueKind}
 use Rattle.record_layout.specs.declared.Written.{Written}
 use Rattle.record_layout.specs.declared.Written.the-variants.{Bytes, Refused}
-use Rattle.record_layout.specs.Layout.{orderOf}
 use Rattle.record_layout.specs.Written.{said as saidWritten}
-use Rattle.record_histogram.specs.Record.{countersIn, readHistogramRows, readHistogram}
-use Rattle.record_histogram.specs.Writing.{histogramRecord, writeHistogramRows, writeHistogram}
+use Rattle.record_histogram.specs.Record.{countersIn, readCountersRows, readCounters}
+use Rattle.record_histogram.specs.Writing.{countersRecord, writeCountersRows, writeCounters}
 use Rattle.record_queue_reader.specs.declared.Received.{Received}
 use Rattle.record_queue_reader.specs.declared.Received.the-variants.{Held, Refused as Refused-received}
-use Rattle.record_queue_reader.specs.QueueRecord.{stored, queueIn, readQueueRows, readQueue, said as saidReceived}
-use Rattle.record_queue_writer.specs.Writing.{queueRecord, writeQueueRows, writeQueue}
+use Rattle.record_queue_reader.specs.QueueRecord.{stored, queueIn, readEnergiesRows, readEnergies, said as saidReceived}
+use Rattle.record_queue_writer.specs.Writing.{energiesRecord, writeEnergiesRows, writeEnergies}
 use Rattle.record_summary.specs.declared.Summary.{Summary}
 use Rattle.record_summary.specs.declared.Summary.the-variants.{Ranged, Rangeless, Refused as Refused-summary}
 use Rattle.record_summary.specs.Summary.{Figures, ranged, rangeless, summaryOf, said as saidSummary}
@@ -57,24 +55,21 @@ summary-there (Rangeless blocks) = refl
 summary-there (Refused-summary n) = refl
 
 pub record-calls : RecordCalls
-unfolding readHistogram writeHistogram readQueue writeQueue
+unfolding readCounters writeCounters readEnergies writeEnergies
 record-calls = record {
-  histogramRead = λ bytes counters. refused-by (readHistogramRows bytes counters) (countersIn bytes) done;
+  histogramRead = λ model bytes counters. refused-by (readCountersRows model bytes counters) (countersIn model bytes) done;
   histogramWritten =
-      λ counters out.
-      let bytes = histogramRecord counters in
-      refused-by (writeHistogramRows counters out) (bytes ++ drop (length bytes) out) (length bytes);
-  queueRead =
-      λ bytes store.
-      let order = orderOf QueueKind in
-      refused-by (readQueueRows bytes store) (stored order bytes store) (queueIn order bytes);
+      λ model counters out.
+      let bytes = countersRecord model counters in
+      refused-by (writeCountersRows model counters out) (bytes ++ drop (length bytes) out) (length bytes);
+  queueRead = λ model bytes store. refused-by (readEnergiesRows model bytes store) (stored model bytes store) (queueIn model bytes);
   queueWritten =
-      λ s out.
-      let bytes = queueRecord (s .queue .maximum) (heldOf s) in
-      refused-by (writeQueueRows s out) (bytes ++ drop (length bytes) out) (length bytes);
-  fixedHistogramRead = λ bytes counters. fixes (List ℕ) saidAnswer answer-back answer-there counters (readHistogram bytes counters);
-  fixedHistogramWritten = λ counters out. fixes (List ℕ) saidWritten written-back written-there out (writeHistogram counters out);
-  fixedQueueRead = λ bytes store. fixes (List Float) saidReceived received-back received-there store (readQueue bytes store);
-  fixedQueueWritten = λ s out. fixes (List ℕ) saidWritten written-back written-there out (writeQueue s out);
+      λ model s out.
+      let bytes = energiesRecord model (s .queue .maximum) (heldOf s) in
+      refused-by (writeEnergiesRows model s out) (bytes ++ drop (length bytes) out) (length bytes);
+  fixedHistogramRead = λ model bytes counters. fixes (List ℕ) saidAnswer answer-back answer-there counters (readCounters model bytes counters);
+  fixedHistogramWritten = λ model counters out. fixes (List ℕ) saidWritten written-back written-there out (writeCounters model counters out);
+  fixedQueueRead = λ model bytes store. fixes (List Float) saidReceived received-back received-there store (readEnergies model bytes store);
+  fixedQueueWritten = λ model s out. fixes (List ℕ) saidWritten written-back written-there out (writeEnergies model s out);
   fixedSummary = λ bytes. fixes Unit saidSummary summary-back summary-there tt (summaryOf bytes);
 }

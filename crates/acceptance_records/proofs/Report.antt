@@ -16,6 +16,7 @@ use Rattle.base_refusals.proofs.Rows.{refused-by}
 use Rattle.bins.specs.Bin.{bins}
 use Rattle.history_histogram.specs.Histogram.{empty}
 use Rattle.range.specs.Range.{rangeOf}
+use Rattle.record_layout.specs.declared.Model.the-variants.{Ours}
 use Rattle.record_layout.specs.declared.Kind.the-variants.{Histogram}
 use Rattle.record_layout.specs.Layout.{frameRows}
 use Rattle.record_histogram.specs.Writing.{histogramRecord}
@@ -47,7 +48,7 @@ module _ (whole : List Float) (dealt : List (List Float)) (plan : Plan) (d : Dea
   tells : summaryOf (histogramRecord (storeOf plan)) ≡ figuresBy (length whole - length (droppedOf whole)) (went [] (rangeOfBins whole))
   unfolding summaryOf figuresOf
   tells =
-      ap figuresRead (read-what-was-written (storeOf plan) (m .thousand) counters-fit empty empty-length)
+      ap figuresRead (read-what-was-written Ours (storeOf plan) (m .thousand) counters-fit empty empty-length)
       ∙ ap (λ (n : ℕ). figuresBy n (rangeOf (alone (storeOf plan)) [])) (m .blocks)
       ∙ ap (figuresBy (length whole - length (droppedOf whole))) (m .rangeMerged (alone (storeOf plan)) [] (asks-alone (storeOf plan) (m .thousand)))
 
@@ -56,5 +57,5 @@ report-tells whole dealt plan d = tells whole dealt plan d (demand-3 whole dealt
 
 pub report-refused : ReportRefused
 report-refused bytes =
-    let rows = frameRows Histogram bytes in
+    let rows = frameRows (Histogram Ours) bytes in
     subst (λ (call : Question Figures). RefusedBy rows call) (sym (summary-is bytes)) (refused-by rows tt (figuresFrom bytes))

@@ -7,23 +7,24 @@ use lib.Ieee.{Float}
 use Rattle.base_refusals.specs.Answer.{said as saidAnswer}
 use Rattle.base_refusals.specs.Rows.{RefusedBy}
 use Rattle.history_queue.specs.Queue.{Stored}
+use Rattle.record_layout.specs.declared.Model.{Model}
 use Rattle.record_layout.specs.Written.{said as saidWritten}
-use Rattle.record_histogram.specs.Record.{readHistogramRows, readHistogram}
-use Rattle.record_histogram.specs.Writing.{writeHistogramRows, writeHistogram}
-use Rattle.record_queue_reader.specs.QueueRecord.{readQueueRows, readQueue, said as saidReceived}
-use Rattle.record_queue_writer.specs.Writing.{writeQueueRows, writeQueue}
+use Rattle.record_histogram.specs.Record.{readCountersRows, readCounters}
+use Rattle.record_histogram.specs.Writing.{writeCountersRows, writeCounters}
+use Rattle.record_queue_reader.specs.QueueRecord.{readEnergiesRows, readEnergies, said as saidReceived}
+use Rattle.record_queue_writer.specs.Writing.{writeEnergiesRows, writeEnergies}
 use Rattle.record_summary.specs.Summary.{summaryOf, said as saidSummary}
 use Rattle.acceptance_outcomes.specs.Fixed.{Fixed}
 
 pub record RecordCalls : Type 0 where
-  pub histogramRead : (bytes counters : List ℕ) → RefusedBy (readHistogramRows bytes counters) (readHistogram bytes counters)
-  pub histogramWritten : (counters out : List ℕ) → RefusedBy (writeHistogramRows counters out) (writeHistogram counters out)
-  pub queueRead : (bytes : List ℕ) (store : List Float) → RefusedBy (readQueueRows bytes store) (readQueue bytes store)
-  pub queueWritten : (s : Stored) (out : List ℕ) → RefusedBy (writeQueueRows s out) (writeQueue s out)
+  pub histogramRead : (model : Model) (bytes counters : List ℕ) → RefusedBy (readCountersRows model bytes counters) (readCounters model bytes counters)
+  pub histogramWritten : (model : Model) (counters out : List ℕ) → RefusedBy (writeCountersRows model counters out) (writeCounters model counters out)
+  pub queueRead : (model : Model) (bytes : List ℕ) (store : List Float) → RefusedBy (readEnergiesRows model bytes store) (readEnergies model bytes store)
+  pub queueWritten : (model : Model) (s : Stored) (out : List ℕ) → RefusedBy (writeEnergiesRows model s out) (writeEnergies model s out)
   -- the counters or the energies read into, and the bytes written into
-  pub fixedHistogramRead : (bytes counters : List ℕ) → Fixed saidAnswer counters (readHistogram bytes counters)
-  pub fixedHistogramWritten : (counters out : List ℕ) → Fixed saidWritten out (writeHistogram counters out)
-  pub fixedQueueRead : (bytes : List ℕ) (store : List Float) → Fixed saidReceived store (readQueue bytes store)
-  pub fixedQueueWritten : (s : Stored) (out : List ℕ) → Fixed saidWritten out (writeQueue s out)
+  pub fixedHistogramRead : (model : Model) (bytes counters : List ℕ) → Fixed saidAnswer counters (readCounters model bytes counters)
+  pub fixedHistogramWritten : (model : Model) (counters out : List ℕ) → Fixed saidWritten out (writeCounters model counters out)
+  pub fixedQueueRead : (model : Model) (bytes : List ℕ) (store : List Float) → Fixed saidReceived store (readEnergies model bytes store)
+  pub fixedQueueWritten : (model : Model) (s : Stored) (out : List ℕ) → Fixed saidWritten out (writeEnergies model s out)
   -- the report keeps nothing
   pub fixedSummary : (bytes : List ℕ) → Fixed saidSummary tt (summaryOf bytes)

@@ -9,6 +9,7 @@ use lib.ListN.{length}
 use lib.Ieee.{Float}
 use Rattle.base_refusals.specs.Outcome.{went}
 use Rattle.base_refusals.specs.Rows.{RefusedBy}
+use Rattle.record_layout.specs.declared.Model.the-variants.{Ours}
 use Rattle.record_layout.specs.declared.Kind.the-variants.{Histogram}
 use Rattle.record_layout.specs.Layout.{frameRows}
 use Rattle.record_histogram.specs.Writing.{histogramRecord}
@@ -20,4 +21,4 @@ ReportTells = (whole : List Float) (dealt : List (List Float)) (plan : Plan) →
     → summaryOf (histogramRecord (storeOf plan)) ≡ figuresBy (length whole - length (droppedOf whole)) (went [] (rangeOfBins whole))
 
 abbrev pub ReportRefused : Type 0
-ReportRefused = (bytes : List ℕ) → RefusedBy (frameRows Histogram bytes) (summaryOf bytes)
+ReportRefused = (bytes : List ℕ) → RefusedBy (frameRows (Histogram Ours) bytes) (summaryOf bytes)

@@ -18,6 +18,7 @@ use Rattle.samples.specs.Sample.{sampleOf16}
 use Rattle.filter_checks.specs.Calls.{wrongChannels, admits, used}
 use Rattle.filter_recurrence.specs.Recurrence.{flush}
 use Rattle.true_peak_interp.specs.Interp.{Kind, upsampled, noTruePeak, kindOf}
+use Rattle.record_layout.specs.declared.Model.the-variants.{Ours}
 use Rattle.record_layout.specs.declared.Kind.the-variants.{Histogram, Queue}
 use Rattle.record_layout.specs.Layout.{kindNumber, canBe}
 use Rattle.record_queue_reader.specs.QueueRecord.{nanPattern}
@@ -115,13 +116,13 @@ lines =
     ∷ is (float hundredth) (float (f64 0x3F84_7AE1_47AE_147B))
     ∷ is (float lowestLoudness) (float (f64 0xC051_8000_0000_0000))
     -- 'Records': kinds 1 and 2; "kind 1 unlike 4,002, kind 2 under 10, LENGTH"; "NaN as 7FF8000000000000"
-    ∷ has (kindNumber Histogram) 1
-    ∷ has (kindNumber Queue) 2
-    ∷ answersNo (canBe Histogram 4_001)
-    ∷ answersYes (canBe Histogram 4_002)
-    ∷ answersNo (canBe Histogram 4_003)
-    ∷ answersNo (canBe Queue 9)
-    ∷ answersYes (canBe Queue 10)
+    ∷ has (kindNumber (Histogram Ours)) 1
+    ∷ has (kindNumber (Queue Ours)) 2
+    ∷ answersNo (canBe (Histogram Ours) 4_001)
+    ∷ answersYes (canBe (Histogram Ours) 4_002)
+    ∷ answersNo (canBe (Histogram Ours) 4_003)
+    ∷ answersNo (canBe (Queue Ours) 9)
+    ∷ answersYes (canBe (Queue Ours) 10)
     ∷ has nanPattern 0x7FF8_0000_0000_0000
     ∷ has (toBits binary64 nan) 0x7FF8_0000_0000_0000
     ∷ []

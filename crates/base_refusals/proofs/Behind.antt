@@ -1,6 +1,6 @@
 -- What stands behind the rows of an operation: it is all that counts where no row holds, and what passes refusals on as they are says of the operation what it says of
 -- the outcome behind its rows. Assumes nothing.
-use mathlib.Core.Path.{_≡_, refl, sym, _∙_}
+use mathlib.Core.Path.{_≡_, refl, sym, ap, _∙_}
 use mathlib.Core.Bool.{Bool, true, false, cond}
 use mathlib.Core.List.{List, [], _∷_, _++_}
 use Prim.Native.Nat.{ℕ}
@@ -78,19 +78,24 @@ made-of f h (row ∷ rest) outcome = go (row .holds) (made-of f h rest outcome)
     go false e = e
 
 -- ---- rows that are asked first, by themselves: what was said of them
-pub told : (rows : List Row) (n : ℕ) → refusal n ≡ saidBy (byRows rows (answers done)) → (n ≡ numberOf rows) × (n ≡ 0 → ⊥)
-told [] n e = let z : _≡_ {A = ℕ} 0 1 = cc in absurd (omega arith)
-told (row ∷ rest) n e = go (row .holds) e (told rest n)
-  where
-    go : (b : Bool) → refusal n ≡ saidBy (cond b (refused (row .refuses)) (byRows rest (answers done)))
-        → (refusal n ≡ saidBy (byRows rest (answers done)) → (n ≡ numberOf rest) × (n ≡ 0 → ⊥))
-        → (n ≡ cond b (number (row .refuses)) (numberOf rest)) × (n ≡ 0 → ⊥)
-    go true e later = let m : n ≡ number (row .refuses) = cc in (m, λ z. no-number (row .refuses) (sym m ∙ z))
-    go false e later = later e
+module _ {Asked : Type 0} (asked : Asked) where
+  pub told : (rows : List Row) (n : ℕ) → refusal n ≡ saidBy (byRows rows (answers asked)) → (n ≡ numberOf rows) × (n ≡ 0 → ⊥)
+  told [] n e = let z : _≡_ {A = ℕ} 0 1 = cc in absurd (omega arith)
+  told (row ∷ rest) n e = go (row .holds) e (told rest n)
+    where
+      go : (b : Bool) → refusal n ≡ saidBy (cond b (refused (row .refuses)) (byRows rest (answers asked)))
+          → (refusal n ≡ saidBy (byRows rest (answers asked)) → (n ≡ numberOf rest) × (n ≡ 0 → ⊥))
+          → (n ≡ cond b (number (row .refuses)) (numberOf rest)) × (n ≡ 0 → ⊥)
+      go true e later = let m : n ≡ number (row .refuses) = cc in (m, λ z. no-number (row .refuses) (sym m ∙ z))
+      go false e later = later e
 
-pub passed : (rows : List Row) → says done ≡ saidBy (byRows rows (answers done)) → numberOf rows ≡ 0
-passed rows e = none-held (λ (s : Said NoValues). s) (λ n. refl) rows (answers done) done e
+  pub stopped-said : {Kept Values : Type 0} (outcome : Outcome Kept Values) (rows more : List Row) (before : Kept) (n : ℕ)
+      → refusal n ≡ saidBy (byRows rows (answers asked)) → Refuses (byRows (rows ++ more) outcome) before n
+  stopped-said outcome rows more before n e = let t = told rows n e in stopped-first outcome rows more before n (t .0) (t .1)
 
-pub stopped-said : {Kept Values : Type 0} (outcome : Outcome Kept Values) (rows more : List Row) (before : Kept) (n : ℕ)
-    → refusal n ≡ saidBy (byRows rows (answers done)) → Refuses (byRows (rows ++ more) outcome) before n
-stopped-said outcome rows more before n e = let t = told rows n e in stopped-first outcome rows more before n (t .0) (t .1)
+  -- values that were said are those that were asked for
+  pub passed : (rows : List Row) (values : Asked) → says values ≡ saidBy (byRows rows (answers asked)) → (numberOf rows ≡ 0) × (values ≡ asked)
+  passed rows values e =
+      let z = none-held (λ (s : Said Asked). s) (λ n. refl) rows (answers asked) values e in
+      let said : says values ≡ says asked = e ∙ ap saidBy (goes (answers asked) rows z) in
+      (z, cc)

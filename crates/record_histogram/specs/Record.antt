@@ -1,4 +1,4 @@
--- The record of a histogram (01, 'Records'): "Kind 1: 1,000 u32 counters (length 4,002)."
+-- The record of a histogram (01, 'Records'): "Kind 1: 1,000 u32 counters (length 4,002)." One statement for every model's.
 use Prim.Native.Nat.{ℕ, _+_}
 use mathlib.Core.Bool.{not}
 use mathlib.Core.List.{List, [], _∷_, _++_}
@@ -7,28 +7,30 @@ use Rattle.base_refusals.specs.Outcome.{Outcome, went, NoValues, done}
 use Rattle.base_refusals.specs.Rows.{Row, row, byRows}
 use Rattle.bins.specs.Bin.{bins}
 use Rattle.history_histogram.specs.Histogram.{isHistogram}
+use Rattle.record_layout.specs.declared.Model.{Model}
+use Rattle.record_layout.specs.declared.Model.the-variants.{Ours}
 use Rattle.record_layout.specs.declared.Kind.the-variants.{Histogram}
-use Rattle.record_layout.specs.Layout.{lengthWidth, histogramLength, orderOf, bodyIn, numbersIn, frameRows}
-
--- the bytes of a counter
-abbrev pub countWidth : ℕ
-countWidth = 4
+use Rattle.record_layout.specs.Layout.{lengthWidth, histogramLength, entriesIn, frameRows}
 
 -- the bytes of a whole record
 abbrev pub recordLength : ℕ
 recordLength = lengthWidth + histogramLength
 
 -- the counters in a record
-unfoldable pub countersIn : List ℕ → List ℕ
-countersIn bytes = numbersIn (orderOf Histogram) countWidth bins (bodyIn bytes)
+unfoldable pub countersIn : Model → List ℕ → List ℕ
+countersIn model bytes = entriesIn (Histogram model) bins bytes
 
 -- STORE: "not 1,000 counters"
 abbrev pub storeRows : List ℕ → List Row
 storeRows counters = row STORE (not (isHistogram counters)) ∷ []
 
 -- "Read order: under 6 bytes LENGTH; KIND; length field unlike the bytes given, kind 1 unlike 4,002, LENGTH; STORE"
-abbrev pub readHistogramRows : List ℕ → List ℕ → List Row
-readHistogramRows bytes counters = frameRows Histogram bytes ++ storeRows counters
+abbrev pub readCountersRows : Model → List ℕ → List ℕ → List Row
+readCountersRows model bytes counters = frameRows (Histogram model) bytes ++ storeRows counters
 
-unfoldable pub readHistogram : List ℕ → List ℕ → Outcome (List ℕ) NoValues
-readHistogram bytes counters = byRows (readHistogramRows bytes counters) (went (countersIn bytes) done)
+unfoldable pub readCounters : Model → List ℕ → List ℕ → Outcome (List ℕ) NoValues
+readCounters model bytes counters = byRows (readCountersRows model bytes counters) (went (countersIn model bytes) done)
+
+-- kind 1
+abbrev pub readHistogram : List ℕ → List ℕ → Outcome (List ℕ) NoValues
+readHistogram bytes counters = readCounters Ours bytes counters

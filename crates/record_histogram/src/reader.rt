@@ -3,6 +3,7 @@ use base_fields::Order;
 use base_refusals::Answer;
 use bins::Count;
 use record_layout::Kind;
+use record_layout::Model;
 ghost use mathlib.Core.Path.{_≡_};
 ghost use Prim.Native.Nat.{_+_, _*_, _≤_};
 ghost use lib.ListN.{length, drop};
@@ -10,8 +11,8 @@ ghost use Rattle.base_refusals.specs.Outcome.{saidBy, keptBy};
 ghost use Rattle.base_refusals.specs.Answer.{said};
 ghost use Rattle.base_fields.specs.Field.{numberIn};
 ghost use Rattle.bins.specs.Bin.{bins};
-ghost use Rattle.record_layout.specs.Layout.{numbersIn, bodyIn};
-ghost use Rattle.record_histogram.specs.Record.{countWidth, recordLength, readHistogram};
+ghost use Rattle.record_layout.specs.Layout.{countWidth, numbersIn, bodyIn};
+ghost use Rattle.record_histogram.specs.Record.{recordLength, readCounters, readHistogram};
 
 // The bytes of each counter.
 pub const COUNT: usize = 4;
@@ -57,19 +58,28 @@ fn read_counters(order: Order, bytes: &[u8], counters: &mut [Count])
     copy(&places, counters);
 }
 
-// The counters of a record, or the refusal that comes first. Every check is made before a counter is written.
-pub fn read_histogram(bytes: &[u8], counters: &mut [Count]) -> Answer
-    ensures { λ r. ⌜ (said r ≡ saidBy (readHistogram (now (bytes .entry)) (now (counters .entry))))
-        × (now (counters .exit) ≡ keptBy (now (counters .entry)) (readHistogram (now (bytes .entry)) (now (counters .entry)))) ⌝ }
+// The counters of a model's record, or the refusal that comes first. Every check is made before a counter is written.
+fn read_of(model: Model, bytes: &[u8], counters: &mut [Count]) -> Answer
+    ensures { λ r. ⌜ (said r ≡ saidBy (readCounters model (now (bytes .entry)) (now (counters .entry))))
+        × (now (counters .exit) ≡ keptBy (now (counters .entry)) (readCounters model (now (bytes .entry)) (now (counters .entry)))) ⌝ }
 {
-    match record_layout::frame(Kind::Histogram, bytes) {
+    match record_layout::frame(Kind::Histogram(model), bytes) {
         Answer::Done => {
             if counters.len() != bins::BINS {
                 return Answer::Refused(base_refusals::STORE);
             }
-            read_counters(record_layout::order_of(Kind::Histogram), bytes, counters);
+            let order = record_layout::order_of(Kind::Histogram(model));
+            read_counters(order, bytes, counters);
             Answer::Done
         }
         Answer::Refused(number) => Answer::Refused(number),
     }
+}
+
+// Kind 1.
+pub fn read_histogram(bytes: &[u8], counters: &mut [Count]) -> Answer
+    ensures { λ r. ⌜ (said r ≡ saidBy (readHistogram (now (bytes .entry)) (now (counters .entry))))
+        × (now (counters .exit) ≡ keptBy (now (counters .entry)) (readHistogram (now (bytes .entry)) (now (counters .entry)))) ⌝ }
+{
+    read_of(Model::Ours, bytes, counters)
 }

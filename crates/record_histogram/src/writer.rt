@@ -3,6 +3,7 @@ use crate::reader::COUNT;
 use base_fields::Order;
 use bins::Count;
 use record_layout::Kind;
+use record_layout::Model;
 use record_layout::Written;
 ghost use mathlib.Core.Path.{_≡_};
 ghost use Prim.Native.Nat.{_+_, _*_, _≤_};
@@ -11,10 +12,10 @@ ghost use lib.Seq.{sets};
 ghost use Rattle.base_refusals.specs.Outcome.{saidBy, keptBy};
 ghost use Rattle.base_fields.specs.Field.{lowBytes, bytesOf};
 ghost use Rattle.bins.specs.Bin.{bins};
-ghost use Rattle.record_layout.specs.Layout.{headWidth, allBytes};
+ghost use Rattle.record_layout.specs.Layout.{headWidth, countWidth, allBytes};
 ghost use Rattle.record_layout.specs.Written.{said};
-ghost use Rattle.record_histogram.specs.Record.{countWidth, recordLength};
-ghost use Rattle.record_histogram.specs.Writing.{writeHistogram};
+ghost use Rattle.record_histogram.specs.Record.{recordLength};
+ghost use Rattle.record_histogram.specs.Writing.{writeCounters, writeHistogram};
 
 // The bytes of a whole record.
 const RECORD: usize = record_layout::LENGTH_BYTES + record_layout::HISTOGRAM_LENGTH as usize;
@@ -67,10 +68,10 @@ fn write_counters(order: Order, counters: &[Count], out: &mut [u8])
     write_words(order, &places, out, record_layout::HEAD);
 }
 
-// The record of a histogram, at the output's first places.
-pub fn write_histogram(counters: &[Count], out: &mut [u8]) -> Written
-    ensures { λ r. ⌜ (said r ≡ saidBy (writeHistogram (now (counters .entry)) (now (out .entry))))
-        × (now (out .exit) ≡ keptBy (now (out .entry)) (writeHistogram (now (counters .entry)) (now (out .entry)))) ⌝ }
+// The record of a histogram as a model has it, at the output's first places.
+fn write_of(model: Model, counters: &[Count], out: &mut [u8]) -> Written
+    ensures { λ r. ⌜ (said r ≡ saidBy (writeCounters model (now (counters .entry)) (now (out .entry))))
+        × (now (out .exit) ≡ keptBy (now (out .entry)) (writeCounters model (now (counters .entry)) (now (out .entry)))) ⌝ }
 {
     if counters.len() != bins::BINS {
         return Written::Refused(base_refusals::STORE);
@@ -78,7 +79,16 @@ pub fn write_histogram(counters: &[Count], out: &mut [u8]) -> Written
     if out.len() < RECORD {
         return Written::Refused(base_refusals::ROOM);
     }
-    record_layout::put_head(Kind::Histogram, record_layout::HISTOGRAM_LENGTH, out);
-    write_counters(record_layout::order_of(Kind::Histogram), counters, out);
+    let kind = Kind::Histogram(model);
+    record_layout::put_head(kind, record_layout::HISTOGRAM_LENGTH, out);
+    write_counters(record_layout::order_of(kind), counters, out);
     Written::Bytes(RECORD)
+}
+
+// Kind 1.
+pub fn write_histogram(counters: &[Count], out: &mut [u8]) -> Written
+    ensures { λ r. ⌜ (said r ≡ saidBy (writeHistogram (now (counters .entry)) (now (out .entry))))
+        × (now (out .exit) ≡ keptBy (now (out .entry)) (writeHistogram (now (counters .entry)) (now (out .entry)))) ⌝ }
+{
+    write_of(Model::Ours, counters, out)
 }

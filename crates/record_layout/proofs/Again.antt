@@ -31,8 +31,8 @@ module _ (kind : Kind) (body : List ℕ) where
   small-kind = go kind
     where
       go : (k : Kind) → kindNumber k < 2 ^ 16
-      go Histogram = omega arith
-      go Queue = omega arith
+      go (Histogram model) = omega arith
+      go (Queue model) = omega arith
 
   record-kind : kindIn (recordOf kind body) ≡ kindNumber kind
   record-kind =

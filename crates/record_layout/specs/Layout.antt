@@ -1,6 +1,6 @@
 -- What records have in common (01, 'Records'): "little-endian: u32 length of what follows, u16 kind", then a body of fields. One description of these
 -- fields stands behind readers, writers and their statements.
-use Prim.Native.Nat.{ℕ, zero, suc, _+_, _-_}
+use Prim.Native.Nat.{ℕ, zero, suc, _+_, _-_, _*_}
 use mathlib.Core.Bool.{Bool, not, cond}
 use mathlib.Core.List.{List, [], _∷_, _++_}
 use lib.Dec.{eqb, leb, ltb}
@@ -25,16 +25,7 @@ unfoldable pub allBytes : Order → ℕ → List ℕ → List ℕ
 allBytes order width [] = []
 allBytes order width (number ∷ rest) = bytesOf order width number ++ allBytes order width rest
 
--- ---- kinds
-abbrev pub kindNumber : Kind → ℕ
-kindNumber Histogram = 1
-kindNumber Queue = 2
-
--- the order of the bytes in a body's fields follows from the kind
-abbrev pub orderOf : Kind → Order
-orderOf Histogram = LowFirst
-orderOf Queue = LowFirst
-
+-- ---- widths and lengths
 -- the bytes of the length field, of the kind, and of both
 abbrev pub lengthWidth : ℕ
 lengthWidth = 4
@@ -45,6 +36,16 @@ kindWidth = 2
 abbrev pub headWidth : ℕ
 headWidth = 6
 
+-- of a counter, of a queue's maximum or number held, and of an energy
+abbrev pub countWidth : ℕ
+countWidth = 4
+
+abbrev pub numberWidth : ℕ
+numberWidth = 4
+
+abbrev pub energyWidth : ℕ
+energyWidth = 8
+
 -- the length of a histogram's record, the kind and 1,000 counters, and the least of a queue's, the kind and two numbers
 abbrev pub histogramLength : ℕ
 histogramLength = 4002
@@ -52,10 +53,58 @@ histogramLength = 4002
 abbrev pub queueLeast : ℕ
 queueLeast = 10
 
--- "kind 1 unlike 4,002, kind 2 under 10, LENGTH"
+-- the bytes of a queue's record that holds no energy
+abbrev pub leastLength : ℕ
+leastLength = lengthWidth + queueLeast
+
+-- ---- kinds
+-- what the length field may say: one number for every record of a kind, or any from a least one on
+pub data Extent : Type 0 where
+  exactly : ℕ → Extent
+  atLeast : ℕ → Extent
+
+abbrev pub allows : Extent → ℕ → Bool
+allows (exactly n) following = eqb following n
+allows (atLeast least) following = leb least following
+
+-- a kind of record: its number; the order of the bytes in each field of its body; what its length field may say; where the numbers of its body start, and
+-- where its counters or energies do; and how many bytes each of these has
+pub record Form : Type 0 where
+  pub number : ℕ
+  pub order : Order
+  pub extent : Extent
+  pub numbersAt : ℕ
+  pub entriesAt : ℕ
+  pub width : ℕ
+
+-- "Kind 1: 1,000 u32 counters (length 4,002)."
+-- "Kind 2: u32 maximum 1..36,000, u32 held, then that many u64 float patterns, oldest first"
+abbrev pub formOf : Kind → Form
+formOf (Histogram model) =
+    record { number = 1; order = LowFirst; extent = exactly histogramLength; numbersAt = headWidth; entriesAt = headWidth; width = countWidth }
+formOf (Queue model) =
+    record { number = 2; order = LowFirst; extent = atLeast queueLeast; numbersAt = headWidth; entriesAt = leastLength; width = energyWidth }
+
+abbrev pub kindNumber : Kind → ℕ
+kindNumber kind = formOf kind .number
+
+-- the order of the bytes in a body's fields follows from the kind
+abbrev pub orderOf : Kind → Order
+orderOf kind = formOf kind .order
+
 abbrev pub canBe : Kind → ℕ → Bool
-canBe Histogram following = eqb following histogramLength
-canBe Queue following = leb queueLeast following
+canBe kind following = allows (formOf kind .extent) following
+
+-- the number in a field of its own before the counters or energies, the first, the second and so on
+abbrev pub numberFrom : Kind → ℕ → List ℕ → ℕ
+numberFrom kind i bytes = numberIn (formOf kind .order) numberWidth (drop (formOf kind .numbersAt + numberWidth * i) bytes)
+
+-- the counters or energies of a record, so many numbers, and their bytes
+abbrev pub entriesIn : Kind → ℕ → List ℕ → List ℕ
+entriesIn kind count bytes = numbersIn (formOf kind .order) (formOf kind .width) count (drop (formOf kind .entriesAt) bytes)
+
+abbrev pub entryBytes : Kind → List ℕ → List ℕ
+entryBytes kind numbers = allBytes (formOf kind .order) (formOf kind .width) numbers
 
 -- ---- reading
 abbrev pub lengthIn : List ℕ → ℕ

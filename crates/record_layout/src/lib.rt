@@ -16,10 +16,15 @@ pub const HISTOGRAM_LENGTH: u64 = 4002;
 
 const QUEUE_LEAST: u64 = 10;
 
+// Whose records they are.
+pub enum Model {
+    Ours,
+}
+
 // The kinds of record.
 pub enum Kind {
-    Histogram,
-    Queue,
+    Histogram(Model),
+    Queue(Model),
 }
 
 // What a writer answers: how many bytes the record has.
@@ -32,8 +37,8 @@ fn kind_number(kind: Kind) -> u64
     ensures { λ r. ⌜ r ≡ kindNumber kind ⌝ }
 {
     match kind {
-        Kind::Histogram => 1,
-        Kind::Queue => 2,
+        Kind::Histogram(_) => 1,
+        Kind::Queue(_) => 2,
     }
 }
 
@@ -42,8 +47,8 @@ pub fn order_of(kind: Kind) -> Order
     ensures { λ r. ⌜ r ≡ orderOf kind ⌝ }
 {
     match kind {
-        Kind::Histogram => Order::LowFirst,
-        Kind::Queue => Order::LowFirst,
+        Kind::Histogram(_) => Order::LowFirst,
+        Kind::Queue(_) => Order::LowFirst,
     }
 }
 
@@ -52,8 +57,8 @@ fn can_be(kind: Kind, length: u64) -> bool
     ensures { λ r. ⌜ r ≡ canBe kind length ⌝ }
 {
     match kind {
-        Kind::Histogram => length == HISTOGRAM_LENGTH,
-        Kind::Queue => QUEUE_LEAST <= length,
+        Kind::Histogram(_) => length == HISTOGRAM_LENGTH,
+        Kind::Queue(_) => QUEUE_LEAST <= length,
     }
 }
 

@@ -1,4 +1,4 @@
--- What a queue's record that passes has, and what its reading comes to behind the frame. Assumes nothing.
+-- What a queue's record that passes has, and what its check and its reading come to. Assumes nothing.
 use mathlib.Core.Path.{_≡_, ap, _∙_}
 use mathlib.Core.Bool.{true, _&&_, and-eq-true-iff}
 use mathlib.Core.List.{List, _++_}
@@ -10,20 +10,17 @@ use lib.ListN.{length, length-map, drop}
 use lib.Seq.{sets, sets-eq}
 use lib.Ieee.{Float, ofBits, binary64}
 use Rattle.base_refusals.specs.Refusal.{STORE, LENGTH, CONTENT}
-use Rattle.base_refusals.specs.Outcome.{went}
-use Rattle.base_refusals.specs.Rows.{numberOf}
-use Rattle.base_refusals.proofs.Rows.{goes, not-held}
-use Rattle.base_fields.specs.declared.Order.{Order}
-use Rattle.history_queue.specs.Queue.{longest}
-use Rattle.record_layout.specs.declared.Kind.the-variants.{Queue as QueueKind}
-use Rattle.record_layout.specs.Layout.{lengthWidth, queueLeast, orderOf, lengthIn, frameRows}
-use Rattle.base_refusals.proofs.Rows.{not-held-after}
+use Rattle.base_refusals.specs.Outcome.{went, answers}
+use Rattle.base_refusals.specs.Rows.{numberOf, byRows}
+use Rattle.base_refusals.proofs.Rows.{goes, not-held, not-held-after}
 use Rattle.base_refusals.proofs.Behind.{goes-on}
+use Rattle.history_queue.specs.Queue.{longest}
+use Rattle.record_layout.specs.declared.Model.{Model}
+use Rattle.record_layout.specs.declared.Kind.the-variants.{Queue as QueueKind}
+use Rattle.record_layout.specs.Layout.{lengthWidth, energyWidth, queueLeast, leastLength, orderOf, lengthIn, frameRows}
 use Rattle.record_layout.proofs.Frames.{framed}
 use Rattle.record_layout.proofs.Runs.{numbers-length}
 use Rattle.record_queue_reader.specs.QueueRecord.{
-  energyWidth,
-  leastLength,
   maximumIn,
   heldIn,
   patternsIn,
@@ -32,60 +29,64 @@ use Rattle.record_queue_reader.specs.QueueRecord.{
   energiesOf,
   stored,
   queueIn,
-  bodyRows,
-  readQueue,
+  contentRows,
+  checkRows,
+  checkQueue,
+  storeRows,
+  readEnergies,
 }
-use Rattle.record_queue_reader.specs.Inner.{bodyRead}
+use Rattle.record_queue_reader.specs.Inner.{bodyChecked}
 
 -- ---- bytes that pass the frame
-module _ (bytes : List ℕ) (e : numberOf (frameRows QueueKind bytes) ≡ 0) where
+module _ (model : Model) (bytes : List ℕ) (e : numberOf (frameRows (QueueKind model) bytes) ≡ 0) where
   -- they have room for the two numbers
   pub framed-long : leastLength ≤ length bytes
   framed-long =
-      let f = framed QueueKind bytes e in
+      let f = framed (QueueKind model) bytes e in
       omega (arith, f .long, f .length-is, leb-true queueLeast (lengthIn bytes) (f .can-be))
 
   pub framed-length : lengthIn bytes ≡ length bytes - lengthWidth
-  framed-length = framed QueueKind bytes e .length-is
+  framed-length = framed (QueueKind model) bytes e .length-is
 
-  pub read-behind : (store : List Float) → readQueue bytes store ≡ bodyRead (orderOf QueueKind) bytes store
-  unfolding readQueue bodyRead
-  read-behind store =
-      goes-on (went (stored (orderOf QueueKind) bytes store) (queueIn (orderOf QueueKind) bytes)) (frameRows QueueKind bytes) (bodyRows (orderOf QueueKind) bytes store) e
+  pub check-behind : checkQueue model bytes ≡ bodyChecked model bytes
+  unfolding checkQueue bodyChecked
+  check-behind = goes-on (answers (queueIn model bytes)) (frameRows (QueueKind model) bytes) (contentRows model bytes) e
 
--- ---- the body
--- a body that passes, over a store
-pub record Sound (order : Order) (bytes : List ℕ) (store : List Float) : Type 0 where
-  pub numbers : numbersFit (maximumIn order bytes) (heldIn order bytes) ≡ true
-  pub length-is : lengthIn bytes ≡ queueLeast + energyWidth * heldIn order bytes
-  pub fit : allFit (patternsIn order bytes) ≡ true
-  pub store-is : length store ≡ maximumIn order bytes
+-- ---- the content
+-- a body that passes
+pub record Sound (model : Model) (bytes : List ℕ) : Type 0 where
+  pub numbers : numbersFit (maximumIn model bytes) (heldIn model bytes) ≡ true
+  pub length-is : lengthIn bytes ≡ queueLeast + energyWidth * heldIn model bytes
+  pub fit : allFit (patternsIn model bytes) ≡ true
 
-module _ (order : Order) (bytes : List ℕ) (store : List Float) where
+module _ (model : Model) (bytes : List ℕ) where
   -- each fact is found by the name of its row
-  pub sound : numberOf (bodyRows order bytes store) ≡ 0 → Sound order bytes store
+  pub sound : numberOf (contentRows model bytes) ≡ 0 → Sound model bytes
   sound e =
-      let rows = bodyRows order bytes store in
-      let following = queueLeast + energyWidth * heldIn order bytes in
+      let rows = contentRows model bytes in
+      let following = queueLeast + energyWidth * heldIn model bytes in
       record {
-        numbers = not-false (numbersFit (maximumIn order bytes) (heldIn order bytes)) (not-held CONTENT rows e);
+        numbers = not-false (numbersFit (maximumIn model bytes) (heldIn model bytes)) (not-held CONTENT rows e);
         length-is = eqb-true (lengthIn bytes) following (not-false (eqb (lengthIn bytes) following) (not-held LENGTH rows e));
-        fit = not-false (allFit (patternsIn order bytes)) (not-held-after 1 CONTENT rows e);
-        store-is = eqb-true (length store) (maximumIn order bytes) (not-false (eqb (length store) (maximumIn order bytes)) (not-held STORE rows e));
+        fit = not-false (allFit (patternsIn model bytes)) (not-held-after 1 CONTENT rows e);
       }
 
-  pub sound-passes : Sound order bytes store → numberOf (bodyRows order bytes store) ≡ 0
-  sound-passes f =
-      rw (
-        f .numbers,
-        eq-eqb (lengthIn bytes) (queueLeast + energyWidth * heldIn order bytes) (f .length-is),
-        f .fit,
-        eq-eqb (length store) (maximumIn order bytes) (f .store-is),
-      )
+  pub sound-passes : Sound model bytes → numberOf (contentRows model bytes) ≡ 0
+  sound-passes f = rw (f .numbers, eq-eqb (lengthIn bytes) (queueLeast + energyWidth * heldIn model bytes) (f .length-is), f .fit)
 
-  pub body-went : Sound order bytes store → bodyRead order bytes store ≡ went (stored order bytes store) (queueIn order bytes)
-  unfolding bodyRead
-  body-went f = goes (went (stored order bytes store) (queueIn order bytes)) (bodyRows order bytes store) (sound-passes f)
+-- ---- a record that passes, and a store
+pub store-fits : (model : Model) (bytes : List ℕ) (store : List Float) → numberOf (storeRows model bytes store) ≡ 0 → length store ≡ maximumIn model bytes
+store-fits model bytes store e =
+    eqb-true (length store) (maximumIn model bytes) (not-false (eqb (length store) (maximumIn model bytes)) (not-held STORE (storeRows model bytes store) e))
+
+module _ (model : Model) (bytes : List ℕ) (store : List Float) (e : numberOf (checkRows model bytes) ≡ 0) where
+  pub read-behind : readEnergies model bytes store ≡ byRows (storeRows model bytes store) (went (stored model bytes store) (queueIn model bytes))
+  unfolding readEnergies
+  read-behind = goes-on (went (stored model bytes store) (queueIn model bytes)) (checkRows model bytes) (storeRows model bytes store) e
+
+  pub read-went : length store ≡ maximumIn model bytes → readEnergies model bytes store ≡ went (stored model bytes store) (queueIn model bytes)
+  read-went s =
+      read-behind ∙ goes (went (stored model bytes store) (queueIn model bytes)) (storeRows model bytes store) (rw (eq-eqb (length store) (maximumIn model bytes) s))
 
 -- ---- what numbers that fit keep
 pub numbers-within : (maximum held : ℕ) → numbersFit maximum held ≡ true → (1 ≤ maximum) × (maximum ≤ longest) × (held ≤ maximum)
@@ -96,13 +97,14 @@ numbers-within maximum held h =
     (leb-true 1 maximum (least .0), leb-true maximum longest (others .0), leb-true held maximum (others .1))
 
 -- energies stored from the first place on
-pub energies-count : (order : Order) (bytes : List ℕ) → length (energiesOf (patternsIn order bytes)) ≡ heldIn order bytes
-energies-count order bytes = length-map (patternsIn order bytes) (ofBits binary64) ∙ numbers-length order energyWidth (heldIn order bytes) (drop leastLength bytes)
+pub energies-count : (model : Model) (bytes : List ℕ) → length (energiesOf (patternsIn model bytes)) ≡ heldIn model bytes
+energies-count model bytes =
+    length-map (patternsIn model bytes) (ofBits binary64) ∙ numbers-length (orderOf (QueueKind model)) energyWidth (heldIn model bytes) (drop leastLength bytes)
 
-pub stored-is : (order : Order) (bytes : List ℕ) (store : List Float) → heldIn order bytes ≤ length store
-    → sets store 0 (energiesOf (patternsIn order bytes)) ≡ stored order bytes store
+pub stored-is : (model : Model) (bytes : List ℕ) (store : List Float) → heldIn model bytes ≤ length store
+    → sets store 0 (energiesOf (patternsIn model bytes)) ≡ stored model bytes store
 unfolding stored
-stored-is order bytes store h =
-    let n = energies-count order bytes in
-    sets-eq (energiesOf (patternsIn order bytes)) store 0 (omega (arith, n))
-    ∙ ap (λ (k : ℕ). energiesOf (patternsIn order bytes) ++ drop k store) {x = 0 + length (energiesOf (patternsIn order bytes))} {y = heldIn order bytes} (omega (arith, n))
+stored-is model bytes store h =
+    let n = energies-count model bytes in
+    sets-eq (energiesOf (patternsIn model bytes)) store 0 (omega (arith, n))
+    ∙ ap (λ (k : ℕ). energiesOf (patternsIn model bytes) ++ drop k store) {x = 0 + length (energiesOf (patternsIn model bytes))} {y = heldIn model bytes} (omega (arith, n))

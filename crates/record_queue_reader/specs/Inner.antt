@@ -1,14 +1,21 @@
--- What the inner functions work with: patterns of finite energies, and the body's part of a reading. No public contract rests on it.
-use Prim.Native.Nat.{ℕ}
+-- What the inner functions work with: where a queue's two numbers stand, patterns of finite energies, and the body's part of a check. No public contract
+-- rests on it.
+use Prim.Native.Nat.{ℕ, _+_}
 use mathlib.Core.Bool.{Bool, _&&_}
 use mathlib.Core.List.{List}
 use lib.Dec.{ltb}
-use lib.Ieee.{Float}
-use Rattle.base_refusals.specs.Outcome.{Outcome, went}
+use Rattle.base_refusals.specs.Outcome.{Question, answers}
 use Rattle.base_refusals.specs.Rows.{byRows}
-use Rattle.base_fields.specs.declared.Order.{Order}
 use Rattle.history_queue.specs.declared.Queue.{Queue}
-use Rattle.record_queue_reader.specs.QueueRecord.{patternFits, every, stored, queueIn, bodyRows}
+use Rattle.record_layout.specs.declared.Model.{Model}
+use Rattle.record_layout.specs.Layout.{headWidth, numberWidth}
+use Rattle.record_queue_reader.specs.QueueRecord.{patternFits, every, queueIn, contentRows}
+
+abbrev pub maximumAt : ℕ
+maximumAt = headWidth
+
+abbrev pub heldAt : ℕ
+heldAt = maximumAt + numberWidth
 
 -- infinity's: every pattern below it is that of a finite float, none of them negative
 abbrev pub infinityPattern : ℕ
@@ -22,5 +29,5 @@ abbrev pub allFinite : List ℕ → Bool
 allFinite patterns = every finiteFits patterns
 
 -- what comes behind the frame
-unfoldable pub bodyRead : Order → List ℕ → List Float → Outcome (List Float) Queue
-bodyRead order bytes store = byRows (bodyRows order bytes store) (went (stored order bytes store) (queueIn order bytes))
+unfoldable pub bodyChecked : Model → List ℕ → Question Queue
+bodyChecked model bytes = byRows (contentRows model bytes) (answers (queueIn model bytes))

@@ -1,5 +1,5 @@
 -- The record of a queue (01, 'Records'): "Kind 2: u32 maximum 1..36,000, u32 held, then that many u64 float patterns, oldest first; none below boundary 0;
--- NaN only as 7FF8000000000000 hex, so written."
+-- NaN only as 7FF8000000000000 hex, so written." One statement for every model's.
 use Prim.Native.Nat.{ℕ, _+_, _*_}
 use mathlib.Core.Bool.{Bool, true, not, _&&_, _||_}
 use mathlib.Core.List.{List, [], _∷_, _++_, map}
@@ -7,15 +7,15 @@ use lib.Dec.{eqb, leb}
 use lib.ListN.{length, drop}
 use lib.Ieee.{Float, binary64, ofBits, toBits, isNan}
 use Rattle.base_refusals.specs.Refusal.{STORE, LENGTH, CONTENT}
-use Rattle.base_refusals.specs.Outcome.{Outcome, went, Said, says, refusal}
+use Rattle.base_refusals.specs.Outcome.{Outcome, went, Question, answers, Said, says, refusal}
 use Rattle.base_refusals.specs.Rows.{Row, row, byRows}
-use Rattle.base_fields.specs.declared.Order.{Order}
-use Rattle.base_fields.specs.Field.{numberIn}
 use Rattle.history_queue.specs.declared.Queue.{Queue}
 use Rattle.bins.specs.Energy.{dropped}
 use Rattle.history_queue.specs.Queue.{longest}
+use Rattle.record_layout.specs.declared.Model.{Model}
+use Rattle.record_layout.specs.declared.Model.the-variants.{Ours}
 use Rattle.record_layout.specs.declared.Kind.the-variants.{Queue as QueueKind}
-use Rattle.record_layout.specs.Layout.{lengthWidth, headWidth, queueLeast, orderOf, numbersIn, lengthIn, frameRows}
+use Rattle.record_layout.specs.Layout.{energyWidth, queueLeast, numberFrom, entriesIn, lengthIn, frameRows}
 use Rattle.record_queue_reader.specs.declared.Received.{Received}
 use Rattle.record_queue_reader.specs.declared.Received.the-variants.{Held, Refused}
 
@@ -24,31 +24,15 @@ abbrev pub said : Received → Said Queue
 said (Held queue) = says queue
 said (Refused n) = refusal n
 
--- ---- the fields: where they start, and how wide they are
-abbrev pub numberWidth : ℕ
-numberWidth = 4
+-- ---- the fields
+abbrev pub maximumIn : Model → List ℕ → ℕ
+maximumIn model bytes = numberFrom (QueueKind model) 0 bytes
 
-abbrev pub energyWidth : ℕ
-energyWidth = 8
+abbrev pub heldIn : Model → List ℕ → ℕ
+heldIn model bytes = numberFrom (QueueKind model) 1 bytes
 
-abbrev pub maximumAt : ℕ
-maximumAt = headWidth
-
-abbrev pub heldAt : ℕ
-heldAt = maximumAt + numberWidth
-
--- where the energies start is the least length of a record
-abbrev pub leastLength : ℕ
-leastLength = lengthWidth + queueLeast
-
-abbrev pub maximumIn : Order → List ℕ → ℕ
-maximumIn order bytes = numberIn order numberWidth (drop maximumAt bytes)
-
-abbrev pub heldIn : Order → List ℕ → ℕ
-heldIn order bytes = numberIn order numberWidth (drop heldAt bytes)
-
-abbrev pub patternsIn : Order → List ℕ → List ℕ
-patternsIn order bytes = numbersIn order energyWidth (heldIn order bytes) (drop leastLength bytes)
+abbrev pub patternsIn : Model → List ℕ → List ℕ
+patternsIn model bytes = entriesIn (QueueKind model) (heldIn model bytes) bytes
 
 -- ---- floats and their patterns
 abbrev pub nanPattern : ℕ
@@ -79,24 +63,38 @@ allFit patterns = every patternFits patterns
 
 -- ---- reading
 -- "A read queue starts at place 0 with head 0; other places stay."
-unfoldable pub stored : Order → List ℕ → List Float → List Float
-stored order bytes store = energiesOf (patternsIn order bytes) ++ drop (heldIn order bytes) store
+unfoldable pub stored : Model → List ℕ → List Float → List Float
+stored model bytes store = energiesOf (patternsIn model bytes) ++ drop (heldIn model bytes) store
 
-abbrev pub queueIn : Order → List ℕ → Queue
-queueIn order bytes = record { maximum = maximumIn order bytes; head = 0; held = heldIn order bytes }
+abbrev pub queueIn : Model → List ℕ → Queue
+queueIn model bytes = record { maximum = maximumIn model bytes; head = 0; held = heldIn model bytes }
 
--- "maximum or held CONTENT; length unlike 10 + 8·held LENGTH; energies CONTENT; STORE"
-abbrev pub bodyRows : Order → List ℕ → List Float → List Row
-bodyRows order bytes store =
-    row CONTENT (not (numbersFit (maximumIn order bytes) (heldIn order bytes)))
-    ∷ row LENGTH (not (eqb (lengthIn bytes) (queueLeast + energyWidth * heldIn order bytes)))
-    ∷ row CONTENT (not (allFit (patternsIn order bytes)))
-    ∷ row STORE (not (eqb (length store) (maximumIn order bytes)))
+-- "maximum or held CONTENT; length unlike 10 + 8·held LENGTH; energies CONTENT"
+abbrev pub contentRows : Model → List ℕ → List Row
+contentRows model bytes =
+    row CONTENT (not (numbersFit (maximumIn model bytes) (heldIn model bytes)))
+    ∷ row LENGTH (not (eqb (lengthIn bytes) (queueLeast + energyWidth * heldIn model bytes)))
+    ∷ row CONTENT (not (allFit (patternsIn model bytes)))
     ∷ []
 
--- "Read order: under 6 bytes LENGTH; KIND; length field unlike the bytes given, kind 2 under 10, LENGTH", and then the body's
-abbrev pub readQueueRows : List ℕ → List Float → List Row
-readQueueRows bytes store = frameRows QueueKind bytes ++ bodyRows (orderOf QueueKind) bytes store
+-- "Read order: under 6 bytes LENGTH; KIND; length field unlike the bytes given, kind 2 under 10, LENGTH", and then the content's
+abbrev pub checkRows : Model → List ℕ → List Row
+checkRows model bytes = frameRows (QueueKind model) bytes ++ contentRows model bytes
 
-unfoldable pub readQueue : List ℕ → List Float → Outcome (List Float) Queue
-readQueue bytes store = byRows (readQueueRows bytes store) (went (stored (orderOf QueueKind) bytes store) (queueIn (orderOf QueueKind) bytes))
+-- the queue that a record has, whatever store it is read into
+unfoldable pub checkQueue : Model → List ℕ → Question Queue
+checkQueue model bytes = byRows (checkRows model bytes) (answers (queueIn model bytes))
+
+-- STORE: "maximum .. unlike its store", the last of all
+abbrev pub storeRows : Model → List ℕ → List Float → List Row
+storeRows model bytes store = row STORE (not (eqb (length store) (maximumIn model bytes))) ∷ []
+
+abbrev pub readEnergiesRows : Model → List ℕ → List Float → List Row
+readEnergiesRows model bytes store = checkRows model bytes ++ storeRows model bytes store
+
+unfoldable pub readEnergies : Model → List ℕ → List Float → Outcome (List Float) Queue
+readEnergies model bytes store = byRows (readEnergiesRows model bytes store) (went (stored model bytes store) (queueIn model bytes))
+
+-- kind 2
+abbrev pub readQueue : List ℕ → List Float → Outcome (List Float) Queue
+readQueue bytes store = readEnergies Ours bytes store

@@ -5,6 +5,7 @@ use base_floats::NAN_PATTERN;
 use base_refusals::Answer;
 use history_queue::Queue;
 use record_layout::Kind;
+use record_layout::Model;
 ghost use mathlib.Core.Path.{_≡_};
 ghost use mathlib.Core.Bool.{true};
 ghost use Prim.Native.Nat.{_+_, _-_, _*_, _≤_};
@@ -13,19 +14,18 @@ ghost use lib.Seq.{sets};
 ghost use lib.Ieee.{binary64, ofBits};
 ghost use Rattle.base_refusals.specs.Outcome.{saidBy, keptBy};
 ghost use Rattle.base_fields.specs.Field.{numberIn};
-ghost use Rattle.record_layout.specs.Layout.{numbersIn, lengthIn, lengthWidth};
+ghost use Rattle.record_layout.specs.Layout.{lengthWidth, numberWidth, energyWidth, leastLength, numbersIn, lengthIn};
 ghost use Rattle.record_queue_reader.specs.QueueRecord.{
-  numberWidth,
-  energyWidth,
-  leastLength,
   numbersFit,
   patternFits,
   allFit,
   energiesOf,
+  checkQueue,
+  readEnergies,
   readQueue,
   said,
 };
-ghost use Rattle.record_queue_reader.specs.Inner.{finiteFits, allFinite, bodyRead};
+ghost use Rattle.record_queue_reader.specs.Inner.{finiteFits, allFinite, bodyChecked};
 
 // The bytes of a number, and of an energy.
 pub const NUMBER: usize = 4;
@@ -152,12 +152,12 @@ fn read_energies(order: Order, bytes: &[u8], at: usize, count: usize, store: &mu
     }
 }
 
-// What comes after the length and the kind. Every check is made before an energy is written.
-fn read_body(order: Order, bytes: &[u8], store: &mut [f64]) -> Received
+// What comes after the length and the kind.
+fn check_body(model: Model, bytes: &[u8]) -> Received
     requires { ⌜ (leastLength ≤ length (now bytes)) × (lengthIn (now bytes) ≡ length (now bytes) - lengthWidth) ⌝ }
-    ensures { λ r. ⌜ (said r ≡ saidBy (bodyRead order (now (bytes .entry)) (now (store .entry))))
-        × (now (store .exit) ≡ keptBy (now (store .entry)) (bodyRead order (now (bytes .entry)) (now (store .entry)))) ⌝ }
+    ensures { λ r. ⌜ said r ≡ saidBy (bodyChecked model (now (bytes .entry))) ⌝ }
 {
+    let order = record_layout::order_of(Kind::Queue(model));
     let maximum = number_at(order, bytes, MAXIMUM_AT);
     let held = number_at(order, bytes, HELD_AT);
     if !numbers_fit(maximum, held) {
@@ -169,10 +169,6 @@ fn read_body(order: Order, bytes: &[u8], store: &mut [f64]) -> Received
     if !energies_fit(order, bytes, ENERGIES_AT, held) {
         return Received::Refused(base_refusals::CONTENT);
     }
-    if store.len() != maximum {
-        return Received::Refused(base_refusals::STORE);
-    }
-    read_energies(order, bytes, ENERGIES_AT, held, store);
     Received::Held(Queue {
         maximum,
         head: 0,
@@ -180,13 +176,38 @@ fn read_body(order: Order, bytes: &[u8], store: &mut [f64]) -> Received
     })
 }
 
-// The queue of a record, its energies from the store's first place on, or the refusal that comes first.
+// The queue that a model's record has, whatever store it is to be read into, or the refusal that comes first.
+pub fn check_queue(model: Model, bytes: &[u8]) -> Received
+    ensures { λ r. ⌜ said r ≡ saidBy (checkQueue model (now (bytes .entry))) ⌝ }
+{
+    match record_layout::frame(Kind::Queue(model), bytes) {
+        Answer::Done => check_body(model, bytes),
+        Answer::Refused(number) => Received::Refused(number),
+    }
+}
+
+// The queue of a model's record, its energies from the store's first place on. Every check is made before an energy is written.
+fn read_of(model: Model, bytes: &[u8], store: &mut [f64]) -> Received
+    ensures { λ r. ⌜ (said r ≡ saidBy (readEnergies model (now (bytes .entry)) (now (store .entry))))
+        × (now (store .exit) ≡ keptBy (now (store .entry)) (readEnergies model (now (bytes .entry)) (now (store .entry)))) ⌝ }
+{
+    match check_queue(model, bytes) {
+        Received::Held(queue) => {
+            if store.len() != queue.maximum {
+                return Received::Refused(base_refusals::STORE);
+            }
+            let order = record_layout::order_of(Kind::Queue(model));
+            read_energies(order, bytes, ENERGIES_AT, queue.held, store);
+            Received::Held(queue)
+        }
+        Received::Refused(number) => Received::Refused(number),
+    }
+}
+
+// Kind 2.
 pub fn read_queue(bytes: &[u8], store: &mut [f64]) -> Received
     ensures { λ r. ⌜ (said r ≡ saidBy (readQueue (now (bytes .entry)) (now (store .entry))))
         × (now (store .exit) ≡ keptBy (now (store .entry)) (readQueue (now (bytes .entry)) (now (store .entry)))) ⌝ }
 {
-    match record_layout::frame(Kind::Queue, bytes) {
-        Answer::Done => read_body(record_layout::order_of(Kind::Queue), bytes, store),
-        Answer::Refused(number) => Received::Refused(number),
-    }
+    read_of(Model::Ours, bytes, store)
 }

@@ -7,28 +7,37 @@ use lib.Ieee.{Float}
 use Rattle.base_refusals.specs.Refusal.{STORE}
 use Rattle.base_refusals.specs.Outcome.{Outcome}
 use Rattle.base_refusals.specs.Rows.{Row, row, byRows}
-use Rattle.base_fields.specs.declared.Order.{Order}
 use Rattle.base_fields.specs.Field.{bytesOf}
 use Rattle.history_queue.specs.Queue.{Stored, suits, heldOf}
 use Rattle.history_set.specs.Set.{noneBelow}
+use Rattle.record_layout.specs.declared.Model.{Model}
+use Rattle.record_layout.specs.declared.Model.the-variants.{Ours}
 use Rattle.record_layout.specs.declared.Kind.the-variants.{Queue as QueueKind}
-use Rattle.record_layout.specs.Layout.{orderOf, allBytes, recordOf, roomRow, writtenTo}
-use Rattle.record_queue_reader.specs.QueueRecord.{numberWidth, energyWidth, patternsOf}
+use Rattle.record_layout.specs.Layout.{numberWidth, orderOf, entryBytes, recordOf, roomRow, writtenTo}
+use Rattle.record_queue_reader.specs.QueueRecord.{patternsOf}
 
 -- the body of a queue that holds these energies
-abbrev pub bodyOf : Order → ℕ → List Float → List ℕ
-bodyOf order maximum energies =
-    bytesOf order numberWidth maximum ++ bytesOf order numberWidth (length energies) ++ allBytes order energyWidth (patternsOf energies)
+abbrev pub bodyOf : Model → ℕ → List Float → List ℕ
+bodyOf model maximum energies =
+    bytesOf (orderOf (QueueKind model)) numberWidth maximum ++ bytesOf (orderOf (QueueKind model)) numberWidth (length energies)
+    ++ entryBytes (QueueKind model) (patternsOf energies)
 
-unfoldable pub queueRecord : ℕ → List Float → List ℕ
-queueRecord maximum energies = recordOf QueueKind (bodyOf (orderOf QueueKind) maximum energies)
+unfoldable pub energiesRecord : Model → ℕ → List Float → List ℕ
+energiesRecord model maximum energies = recordOf (QueueKind model) (bodyOf model maximum energies)
 
 -- STORE, "in a question or writer, a held energy below boundary 0" too; then ROOM
-abbrev pub writeQueueRows : Stored → List ℕ → List Row
-writeQueueRows s out =
+abbrev pub writeEnergiesRows : Model → Stored → List ℕ → List Row
+writeEnergiesRows model s out =
     row STORE (not (suits (s .queue) (length (s .store)) && noneBelow (heldOf s)))
-    ∷ roomRow out (queueRecord (s .queue .maximum) (heldOf s))
+    ∷ roomRow out (energiesRecord model (s .queue .maximum) (heldOf s))
     ∷ []
 
-unfoldable pub writeQueue : Stored → List ℕ → Outcome (List ℕ) ℕ
-writeQueue s out = byRows (writeQueueRows s out) (writtenTo out (queueRecord (s .queue .maximum) (heldOf s)))
+unfoldable pub writeEnergies : Model → Stored → List ℕ → Outcome (List ℕ) ℕ
+writeEnergies model s out = byRows (writeEnergiesRows model s out) (writtenTo out (energiesRecord model (s .queue .maximum) (heldOf s)))
+
+-- kind 2
+abbrev pub queueRecord : ℕ → List Float → List ℕ
+queueRecord maximum energies = energiesRecord Ours maximum energies
+
+abbrev pub writeQueue : Stored → List ℕ → Outcome (List ℕ) ℕ
+writeQueue s out = writeEnergies Ours s out

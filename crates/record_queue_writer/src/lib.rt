@@ -2,6 +2,7 @@
 use base_fields::Order;
 use history_queue::Queue;
 use record_layout::Kind;
+use record_layout::Model;
 use record_layout::Written;
 use record_queue_reader::ENERGIES_AT;
 use record_queue_reader::ENERGY;
@@ -16,10 +17,10 @@ ghost use lib.Seq.{sets};
 ghost use Rattle.base_refusals.specs.Outcome.{saidBy, keptBy};
 ghost use Rattle.base_fields.specs.Field.{bytesOf};
 ghost use Rattle.history_queue.specs.Queue.{over, suits, heldOf};
-ghost use Rattle.record_layout.specs.Layout.{allBytes};
+ghost use Rattle.record_layout.specs.Layout.{energyWidth, leastLength, allBytes};
 ghost use Rattle.record_layout.specs.Written.{said};
-ghost use Rattle.record_queue_reader.specs.QueueRecord.{energyWidth, leastLength, patternsOf};
-ghost use Rattle.record_queue_writer.specs.Writing.{writeQueue};
+ghost use Rattle.record_queue_reader.specs.QueueRecord.{patternsOf};
+ghost use Rattle.record_queue_writer.specs.Writing.{writeEnergies, writeQueue};
 
 // A number goes into so many bytes.
 fn put_field(order: Order, out: &mut [u8], at: usize, width: usize, number: u64)
@@ -62,10 +63,10 @@ fn write_held(order: Order, queue: Queue, store: &[f64], out: &mut [u8])
     write_energies(order, &store[start..end], out, next);
 }
 
-// The record of a queue, at the output's first places.
-pub fn write_queue(queue: Queue, store: &[f64], out: &mut [u8]) -> Written
-    ensures { λ r. ⌜ (said r ≡ saidBy (writeQueue (over queue (now (store .entry))) (now (out .entry))))
-        × (now (out .exit) ≡ keptBy (now (out .entry)) (writeQueue (over queue (now (store .entry))) (now (out .entry)))) ⌝ }
+// The record of a queue as a model has it, at the output's first places.
+fn write_of(model: Model, queue: Queue, store: &[f64], out: &mut [u8]) -> Written
+    ensures { λ r. ⌜ (said r ≡ saidBy (writeEnergies model (over queue (now (store .entry))) (now (out .entry))))
+        × (now (out .exit) ≡ keptBy (now (out .entry)) (writeEnergies model (over queue (now (store .entry))) (now (out .entry)))) ⌝ }
 {
     if history_set::stores::sound_queue(queue, store) {
         let maximum = queue.maximum;
@@ -74,12 +75,9 @@ pub fn write_queue(queue: Queue, store: &[f64], out: &mut [u8]) -> Written
         if out.len() < length {
             return Written::Refused(base_refusals::ROOM);
         }
-        let order = record_layout::order_of(Kind::Queue);
-        record_layout::put_head(
-            Kind::Queue,
-            (length - record_layout::LENGTH_BYTES) as u64,
-            out,
-        );
+        let kind = Kind::Queue(model);
+        let order = record_layout::order_of(kind);
+        record_layout::put_head(kind, (length - record_layout::LENGTH_BYTES) as u64, out);
         put_field(order, out, MAXIMUM_AT, NUMBER, maximum as u64);
         put_field(order, out, HELD_AT, NUMBER, held as u64);
         write_held(order, queue, store, out);
@@ -87,4 +85,12 @@ pub fn write_queue(queue: Queue, store: &[f64], out: &mut [u8]) -> Written
     } else {
         Written::Refused(base_refusals::STORE)
     }
+}
+
+// Kind 2.
+pub fn write_queue(queue: Queue, store: &[f64], out: &mut [u8]) -> Written
+    ensures { λ r. ⌜ (said r ≡ saidBy (writeQueue (over queue (now (store .entry))) (now (out .entry))))
+        × (now (out .exit) ≡ keptBy (now (out .entry)) (writeQueue (over queue (now (store .entry))) (now (out .entry)))) ⌝ }
+{
+    write_of(Model::Ours, queue, store, out)
 }

@@ -16,11 +16,12 @@ use Rattle.range_ranks.specs.Span.{Span, found, nothing, notANumber}
 use Rattle.range_histograms.specs.Counted.{addedTo, blocksIn, countedSpan}
 use Rattle.range_histograms.proofs.Adding.{sums-length}
 use Rattle.range.specs.Range.{queuesIn, rangeOf}
+use Rattle.record_layout.specs.declared.Model.the-variants.{Ours}
 use Rattle.record_layout.specs.declared.Kind.the-variants.{Histogram}
-use Rattle.record_layout.specs.Layout.{orderOf, bodyIn, frameRows}
+use Rattle.record_layout.specs.Layout.{countWidth, orderOf, bodyIn, frameRows}
 use Rattle.base_refusals.proofs.Behind.{made-of}
 use Rattle.record_layout.proofs.Runs.{numbers-length}
-use Rattle.record_histogram.specs.Record.{countWidth, countersIn}
+use Rattle.record_histogram.specs.Record.{countersIn}
 use Rattle.record_histogram.proofs.Cases.{read-by-frame}
 use Rattle.record_summary.specs.Summary.{Figures, ranged, rangeless, figuresBy, alone, figuresOf, figuresRead, summaryOf}
 use Rattle.record_summary.proofs.Rising.{Rising, counted-rises}
@@ -54,23 +55,23 @@ empty-length : length empty ≡ bins
 unfolding empty
 empty-length = length-replicate {A = ℕ} bins 0
 
-counters-length : (bytes : List ℕ) → length (countersIn bytes) ≡ bins
+counters-length : (bytes : List ℕ) → length (countersIn Ours bytes) ≡ bins
 unfolding countersIn
-counters-length bytes = numbers-length (orderOf Histogram) countWidth bins (bodyIn bytes)
+counters-length bytes = numbers-length (orderOf (Histogram Ours)) countWidth bins (bodyIn bytes)
 
 -- the figures in a record that passes
 abbrev pub figuresFrom : List ℕ → Figures
-figuresFrom bytes = figuresIn (blocksIn (countersIn bytes)) (spanOf (countersIn bytes))
+figuresFrom bytes = figuresIn (blocksIn (countersIn Ours bytes)) (spanOf (countersIn Ours bytes))
 
 -- nothing but the record refuses the report
-pub summary-is : (bytes : List ℕ) → summaryOf bytes ≡ byRows (frameRows Histogram bytes) (answers (figuresFrom bytes))
+pub summary-is : (bytes : List ℕ) → summaryOf bytes ≡ byRows (frameRows (Histogram Ours) bytes) (answers (figuresFrom bytes))
 unfolding summaryOf
 summary-is bytes =
-    let rows = frameRows Histogram bytes in
-    let counters : Outcome (List ℕ) NoValues = went (countersIn bytes) done in
-    ap figuresRead (read-by-frame bytes empty empty-length)
+    let rows = frameRows (Histogram Ours) bytes in
+    let counters : Outcome (List ℕ) NoValues = went (countersIn Ours bytes) done in
+    ap figuresRead (read-by-frame Ours bytes empty empty-length)
     ∙ made-of figuresRead (λ r. refl) rows counters
-    ∙ ap (λ (o : Question Figures). byRows rows o) (figures-alone (countersIn bytes) (counters-length bytes))
+    ∙ ap (λ (o : Question Figures). byRows rows o) (figures-alone (countersIn Ours bytes) (counters-length bytes))
 
 -- ---- in order
 -- the low bin is not above the high bin, and the range is how far they are apart
@@ -85,8 +86,8 @@ in-order blocks notANumber h = tt
 
 pub record-in-order : (bytes : List ℕ) → InOrder (figuresFrom bytes)
 record-in-order bytes =
-    in-order (blocksIn (countersIn bytes)) (spanOf (countersIn bytes))
-    (counted-rises (sums empty (countersAt (countersIn bytes) 0)) (sums-length empty (countersAt (countersIn bytes) 0) ∙ empty-length))
+    in-order (blocksIn (countersIn Ours bytes)) (spanOf (countersIn Ours bytes))
+    (counted-rises (sums empty (countersAt (countersIn Ours bytes) 0)) (sums-length empty (countersAt (countersIn Ours bytes) 0) ∙ empty-length))
 
 out-of : (rows : List Row) (mine figures : Figures) → InOrder mine → byRows rows (answers mine) ≡ answers figures → InOrder figures
 out-of [] mine figures h e = let same : mine ≡ figures = cc in subst InOrder same h
@@ -98,4 +99,4 @@ out-of (row ∷ rest) mine figures h e = go (row .holds) e (out-of rest mine fig
     go false e later = later e
 
 pub report-in-order : (bytes : List ℕ) (figures : Figures) → summaryOf bytes ≡ answers figures → InOrder figures
-report-in-order bytes figures e = out-of (frameRows Histogram bytes) (figuresFrom bytes) figures (record-in-order bytes) (sym (summary-is bytes) ∙ e)
+report-in-order bytes figures e = out-of (frameRows (Histogram Ours) bytes) (figuresFrom bytes) figures (record-in-order bytes) (sym (summary-is bytes) ∙ e)

@@ -11,8 +11,8 @@ use lib.Ieee.{Float}
 use Rattle.history_queue.specs.declared.Parts.{Parts}
 use Rattle.history_queue.specs.Queue.{over, heldOf, slice, inParts}
 use Rattle.history_queue.proofs.Standing.{slice-length, Within, parts-within, held-in-store}
-use Rattle.record_layout.specs.Layout.{allBytes}
-use Rattle.record_queue_reader.specs.QueueRecord.{energyWidth, leastLength, patternsOf}
+use Rattle.record_layout.specs.Layout.{energyWidth, leastLength, allBytes}
+use Rattle.record_queue_reader.specs.QueueRecord.{patternsOf}
 use Rattle.record_queue_writer.proofs.Places.{parts-put, held-number}
 use Rattle.record_queue_writer.proofs.write_held.Statement.{statement}
 use Rattle.record_queue_writer.proofs.write_held.Tie as tie

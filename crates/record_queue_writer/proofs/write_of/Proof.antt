@@ -1,4 +1,4 @@
--- `record_queue_writer::write_queue` meets its contract: a sound queue's record has 14 bytes and 8 for each energy held, and goes where there is room for it.
+-- `record_queue_writer::write_of` meets its contract: a sound queue's record has 14 bytes and 8 for each energy held, and goes where there is room for it.
 -- Assumes nothing.
 use mathlib.Core.Path.{_≡_, refl, sym, ap, _∙_}
 use mathlib.Core.Bool.{true, _&&_, and-eq-true-iff}
@@ -17,13 +17,14 @@ use Rattle.history_queue.specs.Queue.{over, suits, heldOf}
 use Rattle.history_set.specs.Set.{noneBelow}
 use Rattle.history_queue.proofs.Ring.{Suited, suited}
 use Rattle.record_layout.specs.declared.Kind.the-variants.{Queue as QueueKind}
-use Rattle.record_layout.specs.Layout.{allBytes, withHead}
-use Rattle.record_queue_reader.specs.QueueRecord.{numberWidth, energyWidth, maximumAt, heldAt, leastLength, patternsOf}
-use Rattle.record_queue_writer.specs.Writing.{queueRecord, writeQueue}
+use Rattle.record_layout.specs.Layout.{numberWidth, energyWidth, leastLength, allBytes, withHead}
+use Rattle.record_queue_reader.specs.QueueRecord.{patternsOf}
+use Rattle.record_queue_reader.specs.Inner.{maximumAt, heldAt}
+use Rattle.record_queue_writer.specs.Writing.{energiesRecord, writeEnergies}
 use Rattle.record_queue_writer.proofs.Places.{held-number}
 use Rattle.record_queue_writer.proofs.Cases.{whole-length, queue-put}
-use Rattle.record_queue_writer.proofs.write_queue.Statement.{statement}
-use Rattle.record_queue_writer.proofs.write_queue.Tie as tie
+use Rattle.record_queue_writer.proofs.write_of.Statement.{statement}
+use Rattle.record_queue_writer.proofs.write_of.Tie as tie
 
 sound-here : (c : tie.Then1) → let a = c .before .before .before .before .args in
     suits (a .queue) (length (now (a .store))) && noneBelow (heldOf (over (a .queue) (now (a .store)))) ≡ true
@@ -39,10 +40,10 @@ suited-here c = let a = c .before .before .before .before .args in suited (a .qu
 
 -- how long the record is
 long : (c : tie.Then1) → let a = c .before .before .before .before .args in
-    length (queueRecord (a .queue .maximum) (heldOf (over (a .queue) (now (a .store))))) ≡ leastLength + energyWidth * a .queue .held
+    length (energiesRecord (a .model) (a .queue .maximum) (heldOf (over (a .queue) (now (a .store))))) ≡ leastLength + energyWidth * a .queue .held
 long c =
     let a = c .before .before .before .before .args in
-    whole-length (a .queue .maximum) (heldOf (over (a .queue) (now (a .store))))
+    whole-length (a .model) (a .queue .maximum) (heldOf (over (a .queue) (now (a .store))))
     ∙ ap (λ (n : ℕ). leastLength + energyWidth * n) (held-number (a .queue) (now (a .store)))
 
 mul-length : tie.Need-mul-length
@@ -52,13 +53,13 @@ add-length : tie.Need-add-length
 add-length c = let f = suited-here c in omega arith
 
 returns : tie.Need-returns
-unfolding writeQueue
+unfolding writeEnergies
 returns c =
     let t = c .before in
     let a = t .before .before .before .before .args in
     rw (
       sound-here t,
-      lt-ltb (length (now (a .out))) (length (queueRecord (a .queue .maximum) (heldOf (over (a .queue) (now (a .store)))))) (omega (arith, long t, c .if2 .taken)),
+      lt-ltb (length (now (a .out))) (length (energiesRecord (a .model) (a .queue .maximum) (heldOf (over (a .queue) (now (a .store)))))) (omega (arith, long t, c .if2 .taken)),
     )
     (refl, refl)
 
@@ -68,7 +69,7 @@ write-held-requires c κs =
     (suits-here (e .before), omega (arith, e .if2 .left))
 
 returns-2 : tie.Need-returns-2
-unfolding writeQueue
+unfolding writeEnergies
 returns-2 c =
     let h = c .before .before in
     let second = h .before .before .before .before in
@@ -85,22 +86,22 @@ returns-2 c =
     let n = held-number queue store in
     let order = o .order-of .result in
     let following = leastLength + energyWidth * queue .held - 4 in
-    rw (sound-here t, le-ltb (length out) (length (queueRecord (queue .maximum) held)) (omega (arith, long t, e .if2 .left))) (
+    rw (sound-here t, le-ltb (length out) (length (energiesRecord (a .model) (queue .maximum) held)) (omega (arith, long t, e .if2 .left))) (
       ap says (sym (long t)),
       h .write-held .ensures
           ∙ ap (λ (w : List ℕ). sets w leastLength (allBytes order energyWidth (patternsOf held))) (second .put-field2 .ensures)
           ∙ ap (λ (w : List ℕ). sets (sets w heldAt (bytesOf order numberWidth (queue .held))) leastLength (allBytes order energyWidth (patternsOf held))) (first .put-field .ensures)
           ∙ ap (λ (w : List ℕ). sets (sets (sets w maximumAt (bytesOf order numberWidth (queue .maximum))) heldAt (bytesOf order numberWidth (queue .held))) leastLength (allBytes order energyWidth (patternsOf held))) (head .put-head .ensures)
-          ∙ ap (λ (k : Order). sets (sets (sets (withHead QueueKind following out) maximumAt (bytesOf k numberWidth (queue .maximum))) heldAt (bytesOf k numberWidth (queue .held))) leastLength (allBytes k energyWidth (patternsOf held))) (o .order-of .ensures)
-          ∙ queue-put out (queue .maximum) (queue .held) following held (sym n) (omega (arith, n)) (omega (arith, n, e .if2 .left)),
+          ∙ ap (λ (k : Order). sets (sets (sets (withHead (QueueKind (a .model)) following out) maximumAt (bytesOf k numberWidth (queue .maximum))) heldAt (bytesOf k numberWidth (queue .held))) leastLength (allBytes k energyWidth (patternsOf held))) (o .order-of .ensures)
+          ∙ queue-put (a .model) out (queue .maximum) (queue .held) following held (sym n) (omega (arith, n)) (omega (arith, n, e .if2 .left)),
     )
 
 returns-3 : tie.Need-returns-3
-unfolding writeQueue
+unfolding writeEnergies
 returns-3 c = rw (sym (c .before .sound-queue .ensures) ∙ c .if1 .left) (refl, refl)
 
-pub write-queue-spec : {M : Type 1} → statement M
-write-queue-spec =
+pub write-of-spec : {M : Type 1} → statement M
+write-of-spec =
     tie.close
     (tie.spec (λ c. search needs) mul-length add-length returns (λ c. search needs) (λ c. search needs) (λ c. search needs) (λ c. search needs)
     (λ c. search needs) write-held-requires (λ c. search needs) returns-2 returns-3)
