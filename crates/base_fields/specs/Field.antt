@@ -1,11 +1,12 @@
--- A field is a run of bytes that stands for a number: the number in it, and the bytes of a number. Low byte first, and over the order of the bytes.
+-- A field is a run of bytes that stands for a number: the number in it, and the bytes of a number. Low byte first, and over the order of the bytes: high byte
+-- first is low byte first of the bytes turned round.
 use Prim.Native.Nat.{ℕ, zero, suc, _+_, _*_, _/_, _%_}
-use mathlib.Core.List.{List, [], _∷_}
+use mathlib.Core.List.{List, [], _∷_, reverse}
 use mathlib.Core.Bool.{cond}
 use lib.Dec.{ltb}
-use lib.ListN.{getD}
+use lib.ListN.{getD, take}
 use Rattle.base_fields.specs.declared.Order.{Order}
-use Rattle.base_fields.specs.declared.Order.the-variants.{LowFirst}
+use Rattle.base_fields.specs.declared.Order.the-variants.{LowFirst, HighFirst}
 
 -- the bytes of a number of 32 bits, and of one of 64, the widest field
 abbrev pub wordWidth : ℕ
@@ -27,11 +28,21 @@ unfoldable pub lowBytes : ℕ → ℕ → List ℕ
 lowBytes zero number = []
 lowBytes (suc width) number = number % 256 ∷ lowBytes width (number / 256)
 
+-- the number whose bytes are those of a number of so many bytes the other way round
+unfoldable pub turnedRound : ℕ → ℕ → ℕ
+turnedRound width number = fieldAt (reverse (lowBytes width number)) 0 width
+
 -- ---- in an order of the bytes
+abbrev pub other : Order → Order
+other LowFirst = HighFirst
+other HighFirst = LowFirst
+
 -- the number in the first so many bytes
 abbrev pub numberIn : Order → ℕ → List ℕ → ℕ
 numberIn LowFirst width bytes = fieldAt bytes 0 width
+numberIn HighFirst width bytes = fieldAt (reverse (take width bytes)) 0 width
 
 -- the bytes of a number in a field of so many bytes
 abbrev pub bytesOf : Order → ℕ → ℕ → List ℕ
 bytesOf LowFirst width number = lowBytes width number
+bytesOf HighFirst width number = reverse (lowBytes width number)

@@ -1,5 +1,6 @@
 // Numbers in bytes: the fields of records and of lists of energies.
 ghost use mathlib.Core.Path.{_≡_};
+ghost use mathlib.Core.List.{reverse};
 ghost use lib.ListN.{length, getD};
 ghost use Rattle.base_fields.specs.Field.{fieldAt, narrowed, lowBytes, bytesOf};
 
@@ -8,6 +9,7 @@ pub mod words;
 // The order in which the bytes of a field stand.
 pub enum Order {
     LowFirst,
+    HighFirst,
 }
 
 const WIDEST: usize = 8;
@@ -56,11 +58,25 @@ fn put_low(field: &mut [u8], number: u64)
     }
 }
 
+// The field is filled from its end.
+fn put_high(field: &mut [u8], number: u64)
+    ensures { λ _. ⌜ now (field .exit) ≡ reverse (lowBytes (length (now (field .entry))) number) ⌝ }
+{
+    let mut left = number;
+    let mut i = field.len();
+    while 0 < i {
+        i -= 1;
+        field[i] = (left % 256) as u8;
+        left = left / 256;
+    }
+}
+
 // The bytes of a number fill the lent field, whatever its width: what the field has no room for is left out, and further bytes are 0.
 pub fn put_number(order: Order, field: &mut [u8], number: u64)
     ensures { λ _. ⌜ now (field .exit) ≡ bytesOf order (length (now (field .entry))) number ⌝ }
 {
     match order {
         Order::LowFirst => put_low(field, number),
+        Order::HighFirst => put_high(field, number),
     }
 }
