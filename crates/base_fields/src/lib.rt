@@ -58,16 +58,16 @@ fn put_low(field: &mut [u8], number: u64)
     }
 }
 
-// The field is filled from its end.
+// The same bytes turned round: the field is filled from its end.
 fn put_high(field: &mut [u8], number: u64)
     ensures { λ _. ⌜ now (field .exit) ≡ reverse (lowBytes (length (now (field .entry))) number) ⌝ }
 {
-    let mut left = number;
+    let mut rest = number;
     let mut i = field.len();
     while 0 < i {
         i -= 1;
-        field[i] = (left % 256) as u8;
-        left = left / 256;
+        field[i] = (rest % 256) as u8;
+        rest = rest / 256;
     }
 }
 

@@ -38,22 +38,22 @@ fn low_double_word(field: &[u8]) -> u64
     word_at(field, 0) as u64 + 4294967296 * (word_at(field, WORD) as u64)
 }
 
-// The number whose bytes are the word's the other way round.
+// The number whose bytes are a word's the other way round: its halves, each turned, change places.
 pub fn turned_word(word: u32) -> u32
     ensures { λ r. ⌜ r ≡ turnedRound wordWidth word ⌝ }
 {
-    let low = word / 16777216 + 256 * (word / 65536 % 256);
-    let high = word / 256 % 256 + 256 * (word % 256);
-    low + 65536 * high
+    let high = word / 16777216 + 256 * (word / 65536 % 256);
+    let low = word / 256 % 256 + 256 * (word % 256);
+    high + 65536 * low
 }
 
-// The same of eight bytes: the words change places too.
+// The same of eight bytes, whose halves are words.
 pub fn turned_double_word(number: u64) -> u64
     ensures { λ r. ⌜ r ≡ turnedRound widest number ⌝ }
 {
-    let low = turned_word((number / 4294967296) as u32);
-    let high = turned_word((number % 4294967296) as u32);
-    low as u64 + 4294967296 * (high as u64)
+    let high = turned_word((number / 4294967296) as u32);
+    let low = turned_word((number % 4294967296) as u32);
+    high as u64 + 4294967296 * (low as u64)
 }
 
 // The number in all the bytes of a field, high byte first.
