@@ -37,7 +37,7 @@ two-fields bytes at next (suc first) width wider n w =
     ap (λ (n : ℕ). n * fieldAt bytes next width) (times-256 first) ∙ mul-assoc 256 (2 ^ (8 * first)) (fieldAt bytes next width) in
     rw more (omega (arith, rest, shift))
 
-pub none : (bytes : List ℕ) (at : ℕ) → fieldAt bytes at 0 ≡ 0
+none : (bytes : List ℕ) (at : ℕ) → fieldAt bytes at 0 ≡ 0
 unfolding fieldAt
 none bytes at = refl
 

@@ -4,7 +4,6 @@ ghost use mathlib.Core.Path.{_≡_};
 ghost use mathlib.Core.List.{reverse};
 ghost use Prim.Native.Nat.{_+_, _≤_, _<_};
 ghost use lib.ListN.{length};
-ghost use Rattle.base_fields.specs.declared.Order.the-variants.{HighFirst};
 ghost use Rattle.base_fields.specs.Field.{fieldAt, numberIn, turnedRound, wordWidth, widest};
 
 const WORD: usize = 4;
@@ -71,7 +70,7 @@ fn high_number(field: &[u8]) -> u64
 }
 
 fn high_word(field: &[u8]) -> u32
-    ensures { λ r. ⌜ r ≡ numberIn HighFirst wordWidth (now (field .entry)) ⌝ }
+    ensures { λ r. ⌜ r ≡ numberIn Order.HighFirst wordWidth (now (field .entry)) ⌝ }
 {
     if field.len() < WORD {
         return high_number(field) as u32;
@@ -80,7 +79,7 @@ fn high_word(field: &[u8]) -> u32
 }
 
 fn high_double_word(field: &[u8]) -> u64
-    ensures { λ r. ⌜ r ≡ numberIn HighFirst widest (now (field .entry)) ⌝ }
+    ensures { λ r. ⌜ r ≡ numberIn Order.HighFirst widest (now (field .entry)) ⌝ }
 {
     if field.len() < DOUBLE_WORD {
         return high_number(field);
@@ -88,7 +87,7 @@ fn high_double_word(field: &[u8]) -> u64
     turned_double_word(low_double_word(field))
 }
 
-// The number in a field's first four bytes, and in its first eight: no turn and no test a byte where it has so many.
+// The number in a field's first four bytes, and in its first eight: no loop and no test a byte where it has so many.
 pub fn word(order: Order, field: &[u8]) -> u32
     ensures { λ r. ⌜ r ≡ numberIn order wordWidth (now (field .entry)) ⌝ }
 {

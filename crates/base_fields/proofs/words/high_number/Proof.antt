@@ -1,5 +1,5 @@
 -- `words::high_number` meets its contract. The invariant: `number` is the field of the bytes passed, turned round. Assumes nothing.
-use mathlib.Core.Path.{_≡_, sym, _∙_}
+use mathlib.Core.Path.{_≡_, refl, _∙_}
 use mathlib.Core.List.{reverse}
 use Prim.Native.Nat.{_+_, _-_, _^_, _≤_, _<_}
 use native.Mathlib.Omega.{arith}
@@ -8,7 +8,7 @@ use denote.Ref.{now}
 use lib.ListN.{length, getD, take}
 use lib.Seq.{take-length}
 use Rattle.base_fields.specs.Field.{fieldAt}
-use Rattle.base_fields.proofs.Fields.{none, seven-bytes}
+use Rattle.base_fields.proofs.Fields.{seven-bytes}
 use Rattle.base_fields.proofs.Turned.{turned-bytes, first-bytes}
 use Rattle.base_fields.proofs.High.{one-byte-on}
 use Rattle.base_fields.proofs.words.high_number.Statement.{statement}
@@ -21,7 +21,8 @@ abbrev μ-loop : tie.MeasureT-loop
 μ-loop field number₀ i₀ number i = length field - i
 
 loop-holds : tie.Need-loop-holds Inv-loop μ-loop
-loop-holds c = (omega arith, sym (none (take 0 (now (c .args .field))) 0))
+unfolding fieldAt
+loop-holds c = (omega arith, refl)
 
 byte-small : (c : tie.After-shared-slice-known Inv-loop μ-loop) → getD (now (c .before .before .before .args .field)) (c .before .before .loop .i) 0 < 256
 byte-small c = omega (arith, c .shared-slice-known .given (c .before .before .loop .i))
