@@ -1,4 +1,5 @@
--- The record of a histogram (01, 'Records'): "Kind 1: 1,000 u32 counters (length 4,002)." One statement for every model's.
+-- The record of a histogram (01, 'Records'): "Kind 1: 1,000 u32 counters (length 4,002)"; and the third model's, kind 257
+-- (02, CR 3): "the old body with each field high byte first". One statement over the model, and so over the byte order.
 use Prim.Native.Nat.{ℕ, _+_}
 use mathlib.Core.Bool.{not}
 use mathlib.Core.List.{List, [], _∷_, _++_}
@@ -8,7 +9,7 @@ use Rattle.base_refusals.specs.Rows.{Row, row, byRows}
 use Rattle.bins.specs.Bin.{bins}
 use Rattle.history_histogram.specs.Histogram.{isHistogram}
 use Rattle.record_layout.specs.declared.Model.{Model}
-use Rattle.record_layout.specs.declared.Model.the-variants.{Ours}
+use Rattle.record_layout.specs.declared.Model.the-variants.{Ours, Third}
 use Rattle.record_layout.specs.declared.Kind.the-variants.{Histogram}
 use Rattle.record_layout.specs.Layout.{lengthWidth, histogramLength, entriesIn, frameRows}
 
@@ -24,13 +25,16 @@ countersIn model bytes = entriesIn (Histogram model) bins bytes
 abbrev pub storeRows : List ℕ → List Row
 storeRows counters = row STORE (not (isHistogram counters)) ∷ []
 
--- "Read order: under 6 bytes LENGTH; KIND; length field unlike the bytes given, kind 1 unlike 4,002, LENGTH; STORE"
+-- "Read order: under 6 bytes LENGTH; KIND; length field unlike the bytes given, kind 1 unlike 4,002, LENGTH; STORE"; for kind 257 "as for kinds 1 and 2, in that order"
 abbrev pub readCountersRows : Model → List ℕ → List ℕ → List Row
 readCountersRows model bytes counters = frameRows (Histogram model) bytes ++ storeRows counters
 
 unfoldable pub readCounters : Model → List ℕ → List ℕ → Outcome (List ℕ) NoValues
 readCounters model bytes counters = byRows (readCountersRows model bytes counters) (went (countersIn model bytes) done)
 
--- kind 1
+-- kind 1, and kind 257
 abbrev pub readHistogram : List ℕ → List ℕ → Outcome (List ℕ) NoValues
 readHistogram bytes counters = readCounters Ours bytes counters
+
+abbrev pub readThirdHistogram : List ℕ → List ℕ → Outcome (List ℕ) NoValues
+readThirdHistogram bytes counters = readCounters Third bytes counters

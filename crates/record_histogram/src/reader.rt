@@ -1,4 +1,4 @@
-// Records of kind 1: the 1,000 counters of a histogram, read.
+// Records of kinds 1 and 257: the 1,000 counters of a histogram, read.
 use base_fields::Order;
 use base_refusals::Answer;
 use bins::Count;
@@ -12,7 +12,7 @@ ghost use Rattle.base_refusals.specs.Answer.{said};
 ghost use Rattle.base_fields.specs.Field.{numberIn};
 ghost use Rattle.bins.specs.Bin.{bins};
 ghost use Rattle.record_layout.specs.Layout.{countWidth, numbersIn, bodyIn};
-ghost use Rattle.record_histogram.specs.Record.{recordLength, readCounters, readHistogram};
+ghost use Rattle.record_histogram.specs.Record.{recordLength, readCounters, readHistogram, readThirdHistogram};
 
 // The bytes of each counter.
 pub const COUNT: usize = 4;
@@ -82,4 +82,12 @@ pub fn read_histogram(bytes: &[u8], counters: &mut [Count]) -> Answer
         × (now (counters .exit) ≡ keptBy (now (counters .entry)) (readHistogram (now (bytes .entry)) (now (counters .entry)))) ⌝ }
 {
     read_of(Model::Ours, bytes, counters)
+}
+
+// Kind 257.
+pub fn read_third_histogram(bytes: &[u8], counters: &mut [Count]) -> Answer
+    ensures { λ r. ⌜ (said r ≡ saidBy (readThirdHistogram (now (bytes .entry)) (now (counters .entry))))
+        × (now (counters .exit) ≡ keptBy (now (counters .entry)) (readThirdHistogram (now (bytes .entry)) (now (counters .entry)))) ⌝ }
+{
+    read_of(Model::Third, bytes, counters)
 }

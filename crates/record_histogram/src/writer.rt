@@ -1,4 +1,4 @@
-// Records of kind 1: the 1,000 counters of a histogram, written.
+// Records of kinds 1 and 257: the 1,000 counters of a histogram, written.
 use crate::reader::COUNT;
 use base_fields::Order;
 use bins::Count;
@@ -15,7 +15,7 @@ ghost use Rattle.bins.specs.Bin.{bins};
 ghost use Rattle.record_layout.specs.Layout.{headWidth, countWidth, allBytes};
 ghost use Rattle.record_layout.specs.Written.{said};
 ghost use Rattle.record_histogram.specs.Record.{recordLength};
-ghost use Rattle.record_histogram.specs.Writing.{writeCounters, writeHistogram};
+ghost use Rattle.record_histogram.specs.Writing.{writeCounters, writeHistogram, writeThirdHistogram};
 
 // The bytes of a whole record.
 const RECORD: usize = record_layout::LENGTH_BYTES + record_layout::HISTOGRAM_LENGTH as usize;
@@ -40,6 +40,7 @@ fn put_word(order: Order, out: &mut [u8], at: usize, word: u32)
 {
     match order {
         Order::LowFirst => put_low_word(out, at, word),
+        Order::HighFirst => put_low_word(out, at, base_fields::words::turned_word(word)),
     }
 }
 
@@ -91,4 +92,12 @@ pub fn write_histogram(counters: &[Count], out: &mut [u8]) -> Written
         × (now (out .exit) ≡ keptBy (now (out .entry)) (writeHistogram (now (counters .entry)) (now (out .entry)))) ⌝ }
 {
     write_of(Model::Ours, counters, out)
+}
+
+// Kind 257.
+pub fn write_third_histogram(counters: &[Count], out: &mut [u8]) -> Written
+    ensures { λ r. ⌜ (said r ≡ saidBy (writeThirdHistogram (now (counters .entry)) (now (out .entry))))
+        × (now (out .exit) ≡ keptBy (now (out .entry)) (writeThirdHistogram (now (counters .entry)) (now (out .entry)))) ⌝ }
+{
+    write_of(Model::Third, counters, out)
 }

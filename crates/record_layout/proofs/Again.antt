@@ -10,6 +10,7 @@ use lib.Seq.{drop-at, take-all, take-add}
 use Rattle.base_fields.specs.declared.Order.{Order}
 use Rattle.base_fields.specs.Field.{fieldAt, lowBytes}
 use Rattle.base_fields.proofs.Written.{low-length, field-from, read-low, low-field}
+use Rattle.record_layout.specs.declared.Model.the-variants.{Ours, Third}
 use Rattle.record_layout.specs.declared.Kind.{Kind}
 use Rattle.record_layout.specs.declared.Kind.the-variants.{Histogram, Queue}
 use Rattle.record_layout.specs.Layout.{kindNumber, canBe, kindWidth, headWidth, lengthIn, kindIn, bodyIn, numbersIn, allBytes, headOf, recordOf}
@@ -31,8 +32,10 @@ module _ (kind : Kind) (body : List ℕ) where
   small-kind = go kind
     where
       go : (k : Kind) → kindNumber k < 2 ^ 16
-      go (Histogram model) = omega arith
-      go (Queue model) = omega arith
+      go (Histogram Ours) = omega arith
+      go (Histogram Third) = omega arith
+      go (Queue Ours) = omega arith
+      go (Queue Third) = omega arith
 
   record-kind : kindIn (recordOf kind body) ≡ kindNumber kind
   record-kind =

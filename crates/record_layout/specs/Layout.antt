@@ -9,10 +9,14 @@ use Rattle.base_refusals.specs.Refusal.{LENGTH, KIND, ROOM}
 use Rattle.base_refusals.specs.Outcome.{Outcome, went, Question, answers, NoValues, done}
 use Rattle.base_refusals.specs.Rows.{Row, row, byRows}
 use Rattle.base_fields.specs.declared.Order.{Order}
-use Rattle.base_fields.specs.declared.Order.the-variants.{LowFirst}
+use Rattle.base_fields.specs.declared.Order.the-variants.{LowFirst, HighFirst}
 use Rattle.base_fields.specs.Field.{fieldAt, lowBytes, numberIn, bytesOf}
+use Rattle.record_layout.specs.declared.Model.{Model}
+use Rattle.record_layout.specs.declared.Model.the-variants.{Ours, Third}
 use Rattle.record_layout.specs.declared.Kind.{Kind}
 use Rattle.record_layout.specs.declared.Kind.the-variants.{Histogram, Queue}
+use Rattle.record_layout.specs.declared.Known.{Known}
+use Rattle.record_layout.specs.declared.Known.the-variants.{Of, Unknown}
 
 -- ---- fields one after the other
 -- the numbers in so many fields of one width, one after the other
@@ -77,16 +81,50 @@ pub record Form : Type 0 where
   pub entriesAt : ℕ
   pub width : ℕ
 
--- "Kind 1: 1,000 u32 counters (length 4,002)."
--- "Kind 2: u32 maximum 1..36,000, u32 held, then that many u64 float patterns, oldest first"
+-- what ours have, or what those of the third model have
+abbrev pub ofModel : {A : Type 0} → Model → A → A → A
+ofModel Ours ours third = ours
+ofModel Third ours third = third
+
+-- "the old body with each field high byte first" (02, CR 3)
+abbrev pub orderBy : Model → Order
+orderBy model = ofModel model LowFirst HighFirst
+
+-- The table of kinds. 01: "Kind 1: 1,000 u32 counters (length 4,002). Kind 2: u32 maximum 1..36,000, u32 held, then that many u64 float patterns, oldest first."
+-- 02, CR 3: "kind 257 (counters) and kind 258 (energies)"; "the byte order follows from the kind and from nothing else"
 abbrev pub formOf : Kind → Form
 formOf (Histogram model) =
-    record { number = 1; order = LowFirst; extent = exactly histogramLength; numbersAt = headWidth; entriesAt = headWidth; width = countWidth }
+    record {
+      number = ofModel model 1 257;
+      order = orderBy model;
+      extent = exactly histogramLength;
+      numbersAt = headWidth;
+      entriesAt = headWidth;
+      width = countWidth;
+    }
 formOf (Queue model) =
-    record { number = 2; order = LowFirst; extent = atLeast queueLeast; numbersAt = headWidth; entriesAt = leastLength; width = energyWidth }
+    record {
+      number = ofModel model 2 258;
+      order = orderBy model;
+      extent = atLeast queueLeast;
+      numbersAt = headWidth;
+      entriesAt = leastLength;
+      width = energyWidth;
+    }
 
 abbrev pub kindNumber : Kind → ℕ
 kindNumber kind = formOf kind .number
+
+-- the kinds that there are, and the one that has a number
+abbrev pub kinds : List Kind
+kinds = Histogram Ours ∷ Queue Ours ∷ Histogram Third ∷ Queue Third ∷ []
+
+abbrev pub knownAmong : ℕ → List Kind → Known
+knownAmong number [] = Unknown
+knownAmong number (kind ∷ rest) = cond (eqb number (kindNumber kind)) (Of kind) (knownAmong number rest)
+
+abbrev pub knownOf : ℕ → Known
+knownOf number = knownAmong number kinds
 
 -- the order of the bytes in a body's fields follows from the kind
 abbrev pub orderOf : Kind → Order

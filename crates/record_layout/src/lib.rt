@@ -4,7 +4,7 @@ use base_refusals::Answer;
 ghost use mathlib.Core.Path.{_≡_};
 ghost use Rattle.base_refusals.specs.Outcome.{saidBy};
 ghost use Rattle.base_refusals.specs.Answer.{said};
-ghost use Rattle.record_layout.specs.Layout.{kindNumber, orderOf, canBe, frameOf, withHead};
+ghost use Rattle.record_layout.specs.Layout.{ofModel, orderBy, kindNumber, knownOf, orderOf, canBe, frameOf, withHead};
 
 // The bytes of the length, and of length and kind.
 pub const LENGTH_BYTES: usize = 4;
@@ -16,9 +16,10 @@ pub const HISTOGRAM_LENGTH: u64 = 4002;
 
 const QUEUE_LEAST: u64 = 10;
 
-// Whose records they are.
+// Whose records they are: our own, or those of the third model.
 pub enum Model {
     Ours,
+    Third,
 }
 
 // The kinds of record.
@@ -27,28 +28,71 @@ pub enum Kind {
     Queue(Model),
 }
 
+// The kind that has a number.
+pub enum Known {
+    Of(Kind),
+    Unknown,
+}
+
 // What a writer answers: how many bytes the record has.
 pub enum Written {
     Bytes(usize),
     Refused(u8),
 }
 
+// Our number, or the third model's.
+fn of_model(model: Model, ours: u64, third: u64) -> u64
+    ensures { λ r. ⌜ r ≡ ofModel model ours third ⌝ }
+{
+    match model {
+        Model::Ours => ours,
+        Model::Third => third,
+    }
+}
+
 fn kind_number(kind: Kind) -> u64
     ensures { λ r. ⌜ r ≡ kindNumber kind ⌝ }
 {
     match kind {
-        Kind::Histogram(_) => 1,
-        Kind::Queue(_) => 2,
+        Kind::Histogram(model) => of_model(model, 1, 257),
+        Kind::Queue(model) => of_model(model, 2, 258),
     }
 }
 
-// The order of the bytes in the fields of a body.
+pub fn kind_of(number: u64) -> Known
+    ensures { λ r. ⌜ r ≡ knownOf number ⌝ }
+{
+    if number == 1 {
+        return Known::Of(Kind::Histogram(Model::Ours));
+    }
+    if number == 2 {
+        return Known::Of(Kind::Queue(Model::Ours));
+    }
+    if number == 257 {
+        return Known::Of(Kind::Histogram(Model::Third));
+    }
+    if number == 258 {
+        return Known::Of(Kind::Queue(Model::Third));
+    }
+    Known::Unknown
+}
+
+fn order_by(model: Model) -> Order
+    ensures { λ r. ⌜ r ≡ orderBy model ⌝ }
+{
+    match model {
+        Model::Ours => Order::LowFirst,
+        Model::Third => Order::HighFirst,
+    }
+}
+
+// The order of the bytes in the fields of a body: it follows from the kind.
 pub fn order_of(kind: Kind) -> Order
     ensures { λ r. ⌜ r ≡ orderOf kind ⌝ }
 {
     match kind {
-        Kind::Histogram(_) => Order::LowFirst,
-        Kind::Queue(_) => Order::LowFirst,
+        Kind::Histogram(model) => order_by(model),
+        Kind::Queue(model) => order_by(model),
     }
 }
 

@@ -1,5 +1,6 @@
 -- The record of a queue (01, 'Records'): "Kind 2: u32 maximum 1..36,000, u32 held, then that many u64 float patterns, oldest first; none below boundary 0;
--- NaN only as 7FF8000000000000 hex, so written." One statement for every model's.
+-- NaN only as 7FF8000000000000 hex, so written." And the third model's, kind 258 (02, CR 3): "the old body with each field high byte first". One statement
+-- over the model, and so over the byte order.
 use Prim.Native.Nat.{ℕ, _+_, _*_}
 use mathlib.Core.Bool.{Bool, true, not, _&&_, _||_}
 use mathlib.Core.List.{List, [], _∷_, _++_, map}
@@ -13,7 +14,7 @@ use Rattle.history_queue.specs.declared.Queue.{Queue}
 use Rattle.bins.specs.Energy.{dropped}
 use Rattle.history_queue.specs.Queue.{longest}
 use Rattle.record_layout.specs.declared.Model.{Model}
-use Rattle.record_layout.specs.declared.Model.the-variants.{Ours}
+use Rattle.record_layout.specs.declared.Model.the-variants.{Ours, Third}
 use Rattle.record_layout.specs.declared.Kind.the-variants.{Queue as QueueKind}
 use Rattle.record_layout.specs.Layout.{energyWidth, queueLeast, numberFrom, entriesIn, lengthIn, frameRows}
 use Rattle.record_queue_reader.specs.declared.Received.{Received}
@@ -95,6 +96,9 @@ readEnergiesRows model bytes store = checkRows model bytes ++ storeRows model by
 unfoldable pub readEnergies : Model → List ℕ → List Float → Outcome (List Float) Queue
 readEnergies model bytes store = byRows (readEnergiesRows model bytes store) (went (stored model bytes store) (queueIn model bytes))
 
--- kind 2
+-- kind 2, and kind 258
 abbrev pub readQueue : List ℕ → List Float → Outcome (List Float) Queue
 readQueue bytes store = readEnergies Ours bytes store
+
+abbrev pub readThirdQueue : List ℕ → List Float → Outcome (List Float) Queue
+readThirdQueue bytes store = readEnergies Third bytes store

@@ -1,4 +1,4 @@
-// Records of kind 2: the energies of a queue, oldest first, read.
+// Records of kinds 2 and 258: the energies of a queue, oldest first, read.
 use base_fields::Order;
 use base_floats::INFINITY_PATTERN;
 use base_floats::NAN_PATTERN;
@@ -23,6 +23,7 @@ ghost use Rattle.record_queue_reader.specs.QueueRecord.{
   checkQueue,
   readEnergies,
   readQueue,
+  readThirdQueue,
   said,
 };
 ghost use Rattle.record_queue_reader.specs.Inner.{finiteFits, allFinite, bodyChecked};
@@ -210,4 +211,12 @@ pub fn read_queue(bytes: &[u8], store: &mut [f64]) -> Received
         × (now (store .exit) ≡ keptBy (now (store .entry)) (readQueue (now (bytes .entry)) (now (store .entry)))) ⌝ }
 {
     read_of(Model::Ours, bytes, store)
+}
+
+// Kind 258.
+pub fn read_third_queue(bytes: &[u8], store: &mut [f64]) -> Received
+    ensures { λ r. ⌜ (said r ≡ saidBy (readThirdQueue (now (bytes .entry)) (now (store .entry))))
+        × (now (store .exit) ≡ keptBy (now (store .entry)) (readThirdQueue (now (bytes .entry)) (now (store .entry)))) ⌝ }
+{
+    read_of(Model::Third, bytes, store)
 }

@@ -11,7 +11,7 @@ use Rattle.base_fields.specs.Field.{bytesOf}
 use Rattle.history_queue.specs.Queue.{Stored, suits, heldOf}
 use Rattle.history_set.specs.Set.{noneBelow}
 use Rattle.record_layout.specs.declared.Model.{Model}
-use Rattle.record_layout.specs.declared.Model.the-variants.{Ours}
+use Rattle.record_layout.specs.declared.Model.the-variants.{Ours, Third}
 use Rattle.record_layout.specs.declared.Kind.the-variants.{Queue as QueueKind}
 use Rattle.record_layout.specs.Layout.{numberWidth, orderOf, entryBytes, recordOf, roomRow, writtenTo}
 use Rattle.record_queue_reader.specs.QueueRecord.{patternsOf}
@@ -35,9 +35,12 @@ writeEnergiesRows model s out =
 unfoldable pub writeEnergies : Model → Stored → List ℕ → Outcome (List ℕ) ℕ
 writeEnergies model s out = byRows (writeEnergiesRows model s out) (writtenTo out (energiesRecord model (s .queue .maximum) (heldOf s)))
 
--- kind 2
+-- kind 2, and kind 258
 abbrev pub queueRecord : ℕ → List Float → List ℕ
 queueRecord maximum energies = energiesRecord Ours maximum energies
 
 abbrev pub writeQueue : Stored → List ℕ → Outcome (List ℕ) ℕ
 writeQueue s out = writeEnergies Ours s out
+
+abbrev pub writeThirdQueue : Stored → List ℕ → Outcome (List ℕ) ℕ
+writeThirdQueue s out = writeEnergies Third s out

@@ -1,4 +1,4 @@
-// Records of kind 2: the energies of a queue, oldest first, written.
+// Records of kinds 2 and 258: the energies of a queue, oldest first, written.
 use base_fields::Order;
 use history_queue::Queue;
 use record_layout::Kind;
@@ -20,7 +20,7 @@ ghost use Rattle.history_queue.specs.Queue.{over, suits, heldOf};
 ghost use Rattle.record_layout.specs.Layout.{energyWidth, leastLength, allBytes};
 ghost use Rattle.record_layout.specs.Written.{said};
 ghost use Rattle.record_queue_reader.specs.QueueRecord.{patternsOf};
-ghost use Rattle.record_queue_writer.specs.Writing.{writeEnergies, writeQueue};
+ghost use Rattle.record_queue_writer.specs.Writing.{writeEnergies, writeQueue, writeThirdQueue};
 
 // A number goes into so many bytes.
 fn put_field(order: Order, out: &mut [u8], at: usize, width: usize, number: u64)
@@ -93,4 +93,12 @@ pub fn write_queue(queue: Queue, store: &[f64], out: &mut [u8]) -> Written
         × (now (out .exit) ≡ keptBy (now (out .entry)) (writeQueue (over queue (now (store .entry))) (now (out .entry)))) ⌝ }
 {
     write_of(Model::Ours, queue, store, out)
+}
+
+// Kind 258.
+pub fn write_third_queue(queue: Queue, store: &[f64], out: &mut [u8]) -> Written
+    ensures { λ r. ⌜ (said r ≡ saidBy (writeThirdQueue (over queue (now (store .entry))) (now (out .entry))))
+        × (now (out .exit) ≡ keptBy (now (out .entry)) (writeThirdQueue (over queue (now (store .entry))) (now (out .entry)))) ⌝ }
+{
+    write_of(Model::Third, queue, store, out)
 }

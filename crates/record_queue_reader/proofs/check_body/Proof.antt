@@ -12,7 +12,8 @@ use Rattle.base_fields.specs.declared.Order.{Order}
 use Rattle.base_fields.specs.Field.{numberIn}
 use Rattle.history_queue.specs.declared.Queue.{Queue}
 use Rattle.history_queue.specs.Queue.{longest}
-use Rattle.record_layout.specs.Layout.{numberWidth, energyWidth, queueLeast, leastLength, numbersIn, lengthIn}
+use Rattle.record_layout.specs.declared.Kind.the-variants.{Queue as QueueKind}
+use Rattle.record_layout.specs.Layout.{numberWidth, energyWidth, queueLeast, leastLength, orderOf, numbersIn, lengthIn}
 use Rattle.record_queue_reader.specs.QueueRecord.{maximumIn, heldIn, patternsIn, numbersFit, allFit, queueIn}
 use Rattle.record_queue_reader.specs.Inner.{maximumAt, heldAt, bodyChecked}
 use Rattle.record_queue_reader.proofs.Cases.{numbers-within}
@@ -62,7 +63,7 @@ looked c =
     let o = h .before .before in
     sym (c .energies-fit .ensures
     ∙ ap (λ (order : Order). allFit (numbersIn order energyWidth (h .number-at2 .result) (drop leastLength bytes))) (o .order-of .ensures)
-    ∙ ap (λ (n : ℕ). allFit (numbersIn _ energyWidth n (drop leastLength bytes))) (held-is h))
+    ∙ ap (λ (n : ℕ). allFit (numbersIn (orderOf (QueueKind (h .before .before .before .before .args .model))) energyWidth n (drop leastLength bytes))) (held-is h))
 
 returns : tie.Need-returns
 unfolding bodyChecked
