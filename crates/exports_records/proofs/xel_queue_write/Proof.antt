@@ -1,31 +1,23 @@
--- `exports_records::xel_queue_write` meets its contract: each case of the answer is told as the C interface tells it. Assumes nothing.
-use mathlib.Core.Path.{sym, ap, _∙_}
+-- `exports_records::xel_queue_write` meets its contract: the answer is told as the C interface tells it. Assumes nothing.
+use mathlib.Core.Path.{_∙_}
 use borrow.Author.Needs.{needs}
 use denote.Ref.{now}
 use Rattle.history_queue.specs.Queue.{over}
 use Rattle.record_queue_writer.specs.Writing.{writeQueue}
 use Rattle.record_layout.specs.Written.{said}
-use Rattle.base_refusals.proofs.Told.{values-told, refusal-told}
+use Rattle.exports_records.proofs.Told.{code-told, value-told}
 use Rattle.exports_records.proofs.xel_queue_write.Statement.{statement}
 use Rattle.exports_records.proofs.xel_queue_write.Tie as tie
 
 returns : tie.Need-returns
 returns c =
-    let a = c .before .before .before .before .before .before .before .before .before .args in
-    let call = c .before .before .before .before .before .write-queue in
-    let given = c .before .n .given in
-    let told = values-told (writeQueue (over (record { maximum = a .maximum; head = a .head; held = a .held }) (now (a .store))) (now (a .out))) (now (a .written)) (given .0 .0) (ap said (sym (given .1)) ∙ call .ensures .0) in
-    (told .0, told .1, call .ensures .1)
-
-returns-2 : tie.Need-returns-2
-returns-2 c =
-    let a = c .before .before .before .before .before .before .before .before .before .args in
-    let call = c .before .before .before .before .before .write-queue in
-    let given = c .before .number .given in
-    let told = refusal-told (writeQueue (over (record { maximum = a .maximum; head = a .head; held = a .held }) (now (a .store))) (now (a .out))) (now (a .written)) (given .0 .0) (ap said (sym (given .1)) ∙ call .ensures .0) in
-    (told .0, told .1, call .ensures .1)
+    let call = c .before .before .before .before in
+    let a = call .before .before .before .before .args in
+    let outcome = writeQueue (over (record { maximum = a .maximum; head = a .head; held = a .held }) (now (a .store))) (now (a .out)) in
+    let answer = said (call .write-queue .result) in
+    let given = call .write-queue .ensures in
+    let told = c .tell-written .ensures in
+    (code-told answer outcome (c .tell-written .result) (told .0) (given .0), told .1 ∙ value-told answer outcome (now (a .written)) (given .0), given .1)
 
 pub xel-queue-write-spec : {M : Type 1} → statement M
-xel-queue-write-spec =
-    tie.close
-    (tie.spec (λ c. search needs) (λ c. search needs) (λ c. search needs) (λ c. search needs) returns (λ c. search needs) returns-2)
+xel-queue-write-spec = tie.close (tie.spec (λ c. search needs) (λ c. search needs) (λ c. search needs) returns)
