@@ -100,7 +100,7 @@ pub fn histogram_reads() -> Vec<Vec<u8>> {
 
 fn histogram_read(i: usize, rng: &mut Rng, met: &mut Vec<u8>) -> Vec<u8> {
     let mut bytes = vec![0; HISTOGRAM_RECORD];
-    let written = records::write_histogram(&some_counters(1000, rng), &mut bytes);
+    let written = records::write_histogram(1, &some_counters(1000, rng), &mut bytes);
     assert!(written.is_ok());
     // Half the records are good; the others have another length, or a byte that differs.
     match i % 8 {
@@ -111,7 +111,7 @@ fn histogram_read(i: usize, rng: &mut Rng, met: &mut Vec<u8>) -> Vec<u8> {
     }
     let places = pick(&[1000, 1000, 1000, 1000, 999, 1001, 0], rng);
     let mut store = vec![COUNTER; places];
-    let answer = records::read_histogram(&bytes, &mut store);
+    let answer = records::read_histogram(1, &bytes, &mut store);
     met.push(number(&answer));
     let mut case = Vec::new();
     put_short(
@@ -141,7 +141,7 @@ pub fn histogram_writes() -> Vec<Vec<u8>> {
 fn histogram_write(rng: &mut Rng, met: &mut Vec<u8>) -> Vec<u8> {
     let counters = some_counters(pick(&[1000, 1000, 1000, 1000, 999, 1001, 0], rng), rng);
     let mut out = vec![BYTE; pick(&[4006, 4006, 4007, 4096, 4005, 6, 0], rng)];
-    let answer = records::write_histogram(&counters, &mut out);
+    let answer = records::write_histogram(1, &counters, &mut out);
     met.push(number(&answer));
     let written = answer.unwrap_or(0);
     let mut case = Vec::new();
@@ -234,7 +234,7 @@ fn queue_read(i: usize, rng: &mut Rng, met: &mut Vec<u8>) -> Vec<u8> {
         *energy = BOUNDARIES[0];
     }
     let mut bytes = vec![0; 14 + 8 * queue.held];
-    assert!(records::write_queue(&queue, &mut bytes).is_ok());
+    assert!(records::write_queue(2, &queue, &mut bytes).is_ok());
     let length = bytes.len();
     // Half the records are good; the others are cut, longer, or have a field that differs.
     match i % 16 {
@@ -268,7 +268,7 @@ fn queue_read(i: usize, rng: &mut Rng, met: &mut Vec<u8>) -> Vec<u8> {
         _ => queue.maximum,
     };
     let mut store = vec![ENERGY; places];
-    let answer = records::read_queue(&bytes, &mut store);
+    let answer = records::read_queue(2, &bytes, &mut store);
     met.push(number(&answer));
     let (maximum, held) = answer.unwrap_or((0, 0));
     let mut case = Vec::new();
@@ -309,7 +309,7 @@ fn queue_write(rng: &mut Rng, met: &mut Vec<u8>) -> Vec<u8> {
         _ => length,
     };
     let mut out = vec![BYTE; room.min(QUEUE_BYTES)];
-    let answer = records::write_queue(&queue, &mut out);
+    let answer = records::write_queue(2, &queue, &mut out);
     met.push(number(&answer));
     let mut case = Vec::new();
     put_short(

@@ -30,6 +30,7 @@ fn histograms(rng: &mut Rng) {
     let mut write = || {
         for _ in 0..TIMES {
             black_box(ours::histogram_write(
+                1,
                 black_box(&counters),
                 &mut record,
                 &mut written,
@@ -42,7 +43,7 @@ fn histograms(rng: &mut Rng) {
         &mut write,
         || {
             for _ in 0..TIMES {
-                let _ = black_box(records::write_histogram(black_box(&other), &mut copy));
+                let _ = black_box(records::write_histogram(1, black_box(&other), &mut copy));
             }
         },
     );
@@ -53,6 +54,7 @@ fn histograms(rng: &mut Rng) {
         || {
             for _ in 0..TIMES {
                 black_box(ours::histogram_write(
+                    1,
                     black_box(&counters),
                     &mut record,
                     &mut written,
@@ -68,12 +70,12 @@ fn histograms(rng: &mut Rng) {
     );
     let mut read = || {
         for _ in 0..TIMES {
-            black_box(ours::histogram_read(black_box(&from), &mut counters));
+            black_box(ours::histogram_read(1, black_box(&from), &mut counters));
         }
     };
     row("record of a histogram, read", TIMES, &mut read, || {
         for _ in 0..TIMES {
-            let _ = black_box(records::read_histogram(black_box(&from), &mut other));
+            let _ = black_box(records::read_histogram(1, black_box(&from), &mut other));
         }
     });
     row(
@@ -103,20 +105,20 @@ fn queues(rng: &mut Rng) {
         "record of a queue of 36,000, written, an energy",
         LONGEST,
         || {
-            assert!(ours::queue_write(black_box(&queue), &mut record, &mut written) == 0);
+            assert!(ours::queue_write(2, black_box(&queue), &mut record, &mut written) == 0);
         },
         || {
-            let _ = black_box(records::write_queue(black_box(&queue), &mut copy));
+            let _ = black_box(records::write_queue(2, black_box(&queue), &mut copy));
         },
     );
     row(
         "record of a queue of 36,000, read, an energy",
         LONGEST,
         || {
-            assert!(ours::queue_read(black_box(&record), &mut queue) == 0);
+            assert!(ours::queue_read(2, black_box(&record), &mut queue) == 0);
         },
         || {
-            let _ = black_box(records::read_queue(black_box(&copy), &mut store));
+            let _ = black_box(records::read_queue(2, black_box(&copy), &mut store));
         },
     );
 }
