@@ -1,7 +1,12 @@
-// The cases of kind 1: records read into counters, and counters written.
+// The cases of kinds 1 and 257: records read into counters, and counters written.
 // A histogram or a record is told by what is not 0 in it: 16 times u16 bin and u32 count, or 64 times u16 place and u8 byte.
 use crate::count_at;
+use base_refusals::Answer;
 use bins::Count;
+use record_layout::Written;
+
+// The third model's kind.
+const THIRD: usize = 257;
 
 // What stands in every counter and in every byte of an output before a call.
 const COUNTER: Count = 0xA5A5_A5A5;
@@ -33,7 +38,7 @@ fn put_byte(bytes: &mut [u8], place: usize, byte: u64) {
     }
 }
 
-fn fill_bytes(case: &[u8], from: usize, bytes: &mut [u8]) {
+pub(crate) fn fill_bytes(case: &[u8], from: usize, bytes: &mut [u8]) {
     if 4096 < from {
         return;
     }
@@ -46,18 +51,18 @@ fn fill_bytes(case: &[u8], from: usize, bytes: &mut [u8]) {
 }
 
 // ---- reads
-// u16 number of bytes given, u16 counters of the store, u16 refusal (0: none); the bytes; the counters afterwards.
+// u16 kind asked for, u16 number of bytes given, u16 counters of the store, u16 refusal (0: none); the bytes; the counters afterwards.
 pub(crate) fn read_same(case: &[u8]) -> bool {
     let mut bytes = io::buffer();
     let mut counters = [COUNTER; 1001];
-    fill_bytes(case, 6, &mut bytes);
+    fill_bytes(case, 8, &mut bytes);
     read_part(case, &bytes, &mut counters)
 }
 
 // The bytes and counters that the case has.
 fn read_part(case: &[u8], bytes: &[u8], counters: &mut [Count]) -> bool {
-    let length = count_at(case, 0);
-    let places = count_at(case, 2);
+    let length = count_at(case, 2);
+    let places = count_at(case, 4);
     if bytes.len() < length {
         return false;
     }
@@ -68,15 +73,22 @@ fn read_part(case: &[u8], bytes: &[u8], counters: &mut [Count]) -> bool {
 }
 
 fn counters_read(case: &[u8], bytes: &[u8], counters: &mut [Count]) -> bool {
-    let answer = record_histogram::reader::read_histogram(bytes, counters);
-    base_refusals::codes::number_of(answer) as u64 == base_fields::number_at(case, 4, 2)
+    let answer = read_kind(count_at(case, 0), bytes, counters);
+    base_refusals::codes::number_of(answer) as u64 == base_fields::number_at(case, 6, 2)
         && counters_same(case, counters)
+}
+
+fn read_kind(kind: usize, bytes: &[u8], counters: &mut [Count]) -> Answer {
+    if kind == THIRD {
+        return record_histogram::reader::read_third_histogram(bytes, counters);
+    }
+    record_histogram::reader::read_histogram(bytes, counters)
 }
 
 fn counters_same(case: &[u8], counters: &[Count]) -> bool {
     let mut told: [Count; 1000] = [0; 1000];
-    fill_counters(case, 198, &mut told);
-    all_counted(count_at(case, 4), &told, counters)
+    fill_counters(case, 200, &mut told);
+    all_counted(count_at(case, 6), &told, counters)
 }
 
 // A refusal leaves every counter as it was.
@@ -102,18 +114,18 @@ fn all_counted(refusal: usize, told: &[Count], counters: &[Count]) -> bool {
 }
 
 // ---- writes
-// u16 places of the output, u16 counters of the store, u16 refusal, u16 bytes written; the counters; the bytes written.
+// u16 kind asked for, u16 places of the output, u16 counters of the store, u16 refusal, u16 bytes written; the counters; the bytes written.
 pub(crate) fn write_same(case: &[u8]) -> bool {
     let mut counters: [Count; 1001] = [0; 1001];
     let mut out = [BYTE; 4096];
-    fill_counters(case, 8, &mut counters);
-    write_part(case, &counters, &mut out) && output_same(case, &out)
+    fill_counters(case, 10, &mut counters);
+    write_part(case, &counters, &mut out) && output_same(case, 106, &out)
 }
 
 // The counters and places that the case has.
 fn write_part(case: &[u8], counters: &[Count], out: &mut [u8]) -> bool {
-    let room = count_at(case, 0);
-    let places = count_at(case, 2);
+    let room = count_at(case, 2);
+    let places = count_at(case, 4);
     if counters.len() < places {
         return false;
     }
@@ -124,14 +136,22 @@ fn write_part(case: &[u8], counters: &[Count], out: &mut [u8]) -> bool {
 }
 
 fn record_written(case: &[u8], counters: &[Count], out: &mut [u8]) -> bool {
-    let written = record_histogram::writer::write_histogram(counters, out);
-    crate::written_same(case, 4, 6, written)
+    let written = write_kind(count_at(case, 0), counters, out);
+    crate::written_same(case, 6, 8, written)
 }
 
-fn output_same(case: &[u8], out: &[u8]) -> bool {
+fn write_kind(kind: usize, counters: &[Count], out: &mut [u8]) -> Written {
+    if kind == THIRD {
+        return record_histogram::writer::write_third_histogram(counters, out);
+    }
+    record_histogram::writer::write_histogram(counters, out)
+}
+
+// The number of bytes written stands at place 8 of the case, what is told of them from `from` on.
+pub(crate) fn output_same(case: &[u8], from: usize, out: &[u8]) -> bool {
     let mut told = io::buffer();
-    fill_bytes(case, 104, &mut told);
-    all_written(count_at(case, 6), &told, out)
+    fill_bytes(case, from, &mut told);
+    all_written(count_at(case, 8), &told, out)
 }
 
 // A byte past what is written stays as it was.

@@ -1,5 +1,6 @@
-// Replays the answers of a reader and writer of records from document 01 alone, kept as a list on standard input, and prints for each operation how many
-// are the same. The list has the form that `program_replay` says.
+// Replays the answers of a reader, writer and conversion of records from the words of document 01 and change request 3 alone, kept as a list on standard
+// input, and prints for each operation how many are the same. The list has the form that `program_replay` says.
+mod conversions;
 mod histograms;
 mod queues;
 
@@ -15,6 +16,10 @@ const HISTOGRAM_WRITES: u64 = 12;
 const QUEUE_READS: u64 = 13;
 
 const QUEUE_WRITES: u64 = 14;
+
+const HISTOGRAM_CONVERTS: u64 = 15;
+
+const QUEUE_CONVERTS: u64 = 16;
 
 fn main() {
     let mut sections: u64 = 64;
@@ -92,6 +97,12 @@ fn case_same(operation: u64, case: &[u8]) -> bool {
     }
     if operation == QUEUE_WRITES {
         return queues::write_same(case);
+    }
+    if operation == HISTOGRAM_CONVERTS {
+        return conversions::histogram_same(case);
+    }
+    if operation == QUEUE_CONVERTS {
+        return conversions::queue_same(case);
     }
     false
 }

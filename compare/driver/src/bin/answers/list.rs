@@ -56,10 +56,12 @@ fn sections(program: &str) -> Vec<Section> {
             (10, "impulses", filter::impulses()),
         ],
         _ => vec![
-            (11, "histogram reads", records::histogram_reads()),
-            (12, "histogram writes", records::histogram_writes()),
-            (13, "queue reads", records::queue_reads()),
-            (14, "queue writes", records::queue_writes()),
+            (11, "histogram reads", records::histograms::reads()),
+            (12, "histogram writes", records::histograms::writes()),
+            (13, "queue reads", records::queues::reads()),
+            (14, "queue writes", records::queues::writes()),
+            (15, "histogram converts", records::histograms::converts()),
+            (16, "queue converts", records::queues::converts()),
         ],
     };
     named
