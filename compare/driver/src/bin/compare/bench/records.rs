@@ -1,5 +1,8 @@
 //! Records, read and written: beside document 01's own reader and writer in Rust, and beside a copy of
-//! as many bytes.
+//! as many bytes. Those of the third model are beside them.
+
+mod plain;
+mod third;
 
 use std::hint::black_box;
 
@@ -19,6 +22,17 @@ const LONGEST: usize = 36_000;
 pub fn run(rng: &mut Rng) {
     histograms(rng);
     queues(rng);
+    third::run(rng);
+}
+
+/// The longest queue, full.
+fn longest(rng: &mut Rng) -> Queue {
+    Queue {
+        maximum: LONGEST,
+        head: 777,
+        held: LONGEST,
+        store: (0..LONGEST).map(|_| energies::in_table(rng)).collect(),
+    }
 }
 
 fn histograms(rng: &mut Rng) {
@@ -92,12 +106,7 @@ fn histograms(rng: &mut Rng) {
 }
 
 fn queues(rng: &mut Rng) {
-    let mut queue = Queue {
-        maximum: LONGEST,
-        head: 777,
-        held: LONGEST,
-        store: (0..LONGEST).map(|_| energies::in_table(rng)).collect(),
-    };
+    let mut queue = longest(rng);
     let mut store = queue.store.clone();
     let length = 14 + 8 * LONGEST;
     let (mut record, mut copy, mut written) = (vec![0; length], vec![0; length], 0);
