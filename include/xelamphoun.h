@@ -349,8 +349,10 @@ uint8_t xel_loudness_range(const size_t *entries, size_t entries_len, const uint
                            double *work, size_t work_len, double *low, double *high);
 
 /*
- * Records: a history as bytes, as docs/RECORDS.md lays them out. A reader refuses in the order of the
- * codes below, and alters nothing where it refuses.
+ * Records: a history as bytes, as docs/RECORDS.md lays them out. A histogram's record is of kind 1 or
+ * 257, a queue's of kind 2 or 258: the second of each is the third model's, whose fields behind length
+ * and kind are high byte first. A reader takes one kind and refuses every other. It refuses in the order
+ * of the codes below, and alters nothing where it refuses.
  */
 
 /* The bytes of a histogram's record, and those of a queue's record without its energies, 8 bytes each. */
@@ -367,8 +369,12 @@ uint8_t xel_loudness_range(const size_t *entries, size_t entries_len, const uint
 uint8_t xel_histogram_read(const uint8_t *bytes, size_t bytes_len, uint32_t *counters,
                            size_t counters_len);
 
+/* The same of the third model's record (kind 257). */
+uint8_t xel_third_histogram_read(const uint8_t *bytes, size_t bytes_len, uint32_t *counters,
+                                 size_t counters_len);
+
 /*
- * Writes a histogram's record to the output's first places; the others stay.
+ * Writes a histogram's record (kind 1) to the output's first places; the others stay.
  *
  *   out, out_len  at least 4006 places
  *   written  receives the number of bytes. Left as it was on a refusal
@@ -376,6 +382,10 @@ uint8_t xel_histogram_read(const uint8_t *bytes, size_t bytes_len, uint32_t *cou
  */
 uint8_t xel_histogram_write(const uint32_t *counters, size_t counters_len, uint8_t *out,
                             size_t out_len, size_t *written);
+
+/* The same of the third model's record (kind 257). */
+uint8_t xel_third_histogram_write(const uint32_t *counters, size_t counters_len, uint8_t *out,
+                                  size_t out_len, size_t *written);
 
 /*
  * Reads a queue's record (kind 2): its energies, oldest first, to the store's first places; the others
@@ -389,8 +399,12 @@ uint8_t xel_histogram_write(const uint32_t *counters, size_t counters_len, uint8
 uint8_t xel_queue_read(const uint8_t *bytes, size_t bytes_len, size_t *maximum, size_t *head,
                        size_t *held, double *store, size_t store_len);
 
+/* The same of the third model's record (kind 258). */
+uint8_t xel_third_queue_read(const uint8_t *bytes, size_t bytes_len, size_t *maximum, size_t *head,
+                             size_t *held, double *store, size_t store_len);
+
 /*
- * Writes a queue's record to the output's first places, oldest energy first; the others stay.
+ * Writes a queue's record (kind 2) to the output's first places, oldest energy first; the others stay.
  *
  *   maximum, head, held, store, store_len  the queue, as xel_queue_add has it
  *   out, out_len  at least 14 places and 8 for each energy held
@@ -400,6 +414,25 @@ uint8_t xel_queue_read(const uint8_t *bytes, size_t bytes_len, size_t *maximum, 
  */
 uint8_t xel_queue_write(size_t maximum, size_t head, size_t held, const double *store,
                         size_t store_len, uint8_t *out, size_t out_len, size_t *written);
+
+/* The same of the third model's record (kind 258). */
+uint8_t xel_third_queue_write(size_t maximum, size_t head, size_t held, const double *store,
+                              size_t store_len, uint8_t *out, size_t out_len, size_t *written);
+
+/*
+ * Converts a record to the other kind of the same content, between 1 and 257 or between 2 and 258, and
+ * keeps every count and energy. It goes to the output's first places; the others stay.
+ *
+ *   kind     that of the record given
+ *   bytes, bytes_len  the record, and nothing after it
+ *   out, out_len      at least as many places as the record has bytes; must not overlap the record
+ *   written  receives the number of bytes. Left as it was on a refusal
+ *   answers  0; XEL_LENGTH, XEL_KIND or XEL_CONTENT as the reader of the kind; for a kind that is none of
+ *            the four, XEL_LENGTH under 6 bytes, and XEL_KIND from there on; XEL_ROOM where the output is
+ *            too short
+ */
+uint8_t xel_record_convert(uint16_t kind, const uint8_t *bytes, size_t bytes_len, uint8_t *out,
+                           size_t out_len, size_t *written);
 
 #ifdef __cplusplus
 }

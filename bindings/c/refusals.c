@@ -1,7 +1,7 @@
 /*
- * refusals: brings each operation that can refuse to do so, once for each of the fifteen refusals, and prints the number and the name
- * that it answers. What is lent to be written to lies in memory that can only be read: a refused call writes nothing, not even what
- * stands there already, or the program ends by a fault.
+ * refusals: brings each of the fifteen refusals about, those of records in the third model's kinds and in a conversion too, and
+ * prints the number and the name that is answered. What is lent to be written to lies in memory that can only be read: a refused call
+ * writes nothing, not even what stands there already, or the program ends by a fault.
  */
 #define _DEFAULT_SOURCE /* for MAP_ANONYMOUS */
 #include "refusal.h"
@@ -70,6 +70,14 @@ static uint8_t head_past_queue(void)
     return xel_queue_add(4, READ_ONLY(head), READ_ONLY(held), READ_ONLY(store), 4, ENERGY);
 }
 
+static uint8_t head_past_third_queue(void)
+{
+    const double store[4] = {0};
+    const uint8_t out[XEL_QUEUE_RECORD_HEAD] = {0};
+    const size_t written = 0;
+    return xel_third_queue_write(4, 4, 0, store, 4, READ_ONLY(out), sizeof out, READ_ONLY(written));
+}
+
 static uint8_t full_counter(void)
 {
     uint32_t full[XEL_BINS] = {0};
@@ -116,58 +124,129 @@ static uint8_t off_scale(void)
     return xel_reading(0.0, READ_ONLY(tenths));
 }
 
+typedef uint8_t queue_reader(const uint8_t *, size_t, size_t *, size_t *, size_t *, double *, size_t);
+
 /* Reads a record's first bytes as a queue of one place. */
-static uint8_t read_queue(const uint8_t *bytes, size_t length)
+static uint8_t read_queue(queue_reader *read, const uint8_t *bytes, size_t length)
 {
     const size_t maximum = 0, head = 0, held = 0;
     const double store[1] = {0};
-    return xel_queue_read(bytes, length, READ_ONLY(maximum), READ_ONLY(head), READ_ONLY(held), READ_ONLY(store), 1);
+    return read(bytes, length, READ_ONLY(maximum), READ_ONLY(head), READ_ONLY(held), READ_ONLY(store), 1);
 }
+
+/* Converts a record's first bytes to an output of so many places. */
+static uint8_t convert(uint16_t kind, const uint8_t *bytes, size_t length, size_t room)
+{
+    const uint8_t out[XEL_QUEUE_RECORD_HEAD] = {0};
+    const size_t written = 0;
+    return xel_record_convert(kind, bytes, length, READ_ONLY(out), room, READ_ONLY(written));
+}
+
+/* The records of a queue of no places, which is none, and of the shortest queue, with no energy: ours and the third model's. */
+static const uint8_t NO_PLACES[XEL_QUEUE_RECORD_HEAD] = {10, 0, 0, 0, 2, 0};
+static const uint8_t THIRD_OF_NO_PLACES[XEL_QUEUE_RECORD_HEAD] = {10, 0, 0, 0, 2, 1};
+static const uint8_t THIRD_OF_ONE_PLACE[XEL_QUEUE_RECORD_HEAD] = {10, 0, 0, 0, 2, 1, 0, 0, 0, 1};
 
 static uint8_t no_bytes(void)
 {
-    const uint8_t bytes[1] = {0};
-    return read_queue(bytes, 0);
+    return read_queue(xel_queue_read, NO_PLACES, 0);
+}
+
+static uint8_t convert_five_bytes(void)
+{
+    return convert(258, THIRD_OF_ONE_PLACE, 5, XEL_QUEUE_RECORD_HEAD);
 }
 
 static uint8_t other_kind(void)
 {
     const uint8_t bytes[6] = {2, 0, 0, 0, 1, 0};
-    return read_queue(bytes, sizeof bytes);
+    return read_queue(xel_queue_read, bytes, sizeof bytes);
+}
+
+static uint8_t third_as_ours(void)
+{
+    return read_queue(xel_queue_read, THIRD_OF_ONE_PLACE, XEL_QUEUE_RECORD_HEAD);
+}
+
+static uint8_t ours_as_third(void)
+{
+    const uint8_t bytes[6] = {2, 0, 0, 0, 1, 0};
+    return xel_third_histogram_read(bytes, sizeof bytes, READ_ONLY(counters), XEL_BINS);
+}
+
+static uint8_t convert_no_kind(void)
+{
+    return convert(0, THIRD_OF_ONE_PLACE, XEL_QUEUE_RECORD_HEAD, XEL_QUEUE_RECORD_HEAD);
 }
 
 static uint8_t maximum_of_none(void)
 {
-    const uint8_t bytes[XEL_QUEUE_RECORD_HEAD] = {10, 0, 0, 0, 2, 0};
-    return read_queue(bytes, sizeof bytes);
+    return read_queue(xel_queue_read, NO_PLACES, XEL_QUEUE_RECORD_HEAD);
+}
+
+static uint8_t third_maximum_of_none(void)
+{
+    return read_queue(xel_third_queue_read, THIRD_OF_NO_PLACES, XEL_QUEUE_RECORD_HEAD);
+}
+
+static uint8_t convert_maximum_of_none(void)
+{
+    return convert(258, THIRD_OF_NO_PLACES, XEL_QUEUE_RECORD_HEAD, XEL_QUEUE_RECORD_HEAD);
+}
+
+typedef uint8_t histogram_writer(const uint32_t *, size_t, uint8_t *, size_t, size_t *);
+
+static uint8_t write_too_short(histogram_writer *write)
+{
+    const uint8_t out[XEL_HISTOGRAM_RECORD - 1] = {0};
+    const size_t written = 0;
+    return write(counters, XEL_BINS, READ_ONLY(out), sizeof out, READ_ONLY(written));
 }
 
 static uint8_t short_output(void)
 {
-    const uint8_t out[XEL_HISTOGRAM_RECORD - 1] = {0};
-    const size_t written = 0;
-    return xel_histogram_write(counters, XEL_BINS, READ_ONLY(out), sizeof out, READ_ONLY(written));
+    return write_too_short(xel_histogram_write);
+}
+
+static uint8_t third_short_output(void)
+{
+    return write_too_short(xel_third_histogram_write);
+}
+
+static uint8_t convert_short_output(void)
+{
+    return convert(258, THIRD_OF_ONE_PLACE, XEL_QUEUE_RECORD_HEAD, XEL_QUEUE_RECORD_HEAD - 1);
 }
 
 static const struct {
+    uint8_t number;
     const char *what;
     uint8_t (*ask)(void);
 } cases[] = {
-    {"a call over no channels", no_channels},
-    {"three samples of two channels", part_frame},
-    {"a map of one channel for two", short_map},
-    {"two places a channel for three frames", short_destination},
-    {"a queue whose head is past its store", head_past_queue},
-    {"a block more in a full counter", full_counter},
-    {"a histogram that reaches past the counters", outside},
-    {"the range of a histogram and a queue", mixed},
-    {"the gate over no block", no_block},
-    {"the gate over a NaN in a queue", not_a_number},
-    {"the reading of no energy", off_scale},
-    {"a record of no bytes", no_bytes},
-    {"a histogram's record read as a queue's", other_kind},
-    {"the record of a queue of no places", maximum_of_none},
-    {"an output a byte too short for a record", short_output},
+    {XEL_CHANNELS, "a call over no channels", no_channels},
+    {XEL_SAMPLES, "three samples of two channels", part_frame},
+    {XEL_MAP, "a map of one channel for two", short_map},
+    {XEL_DEST, "two places a channel for three frames", short_destination},
+    {XEL_STORE, "a queue whose head is past its store", head_past_queue},
+    {XEL_STORE, "the third model's record of such a queue", head_past_third_queue},
+    {XEL_FULL, "a block more in a full counter", full_counter},
+    {XEL_SET, "a histogram that reaches past the counters", outside},
+    {XEL_MODE, "the range of a histogram and a queue", mixed},
+    {XEL_NONE, "the gate over no block", no_block},
+    {XEL_NAN, "the gate over a NaN in a queue", not_a_number},
+    {XEL_SCALE, "the reading of no energy", off_scale},
+    {XEL_LENGTH, "a record of no bytes", no_bytes},
+    {XEL_LENGTH, "five bytes, converted", convert_five_bytes},
+    {XEL_KIND, "a histogram's record read as a queue's", other_kind},
+    {XEL_KIND, "the third model's record read as ours", third_as_ours},
+    {XEL_KIND, "our record read as the third model's", ours_as_third},
+    {XEL_KIND, "a record converted as of no kind", convert_no_kind},
+    {XEL_CONTENT, "the record of a queue of no places", maximum_of_none},
+    {XEL_CONTENT, "the third model's record of one", third_maximum_of_none},
+    {XEL_CONTENT, "that record converted", convert_maximum_of_none},
+    {XEL_ROOM, "an output a byte too short for a record", short_output},
+    {XEL_ROOM, "an output a byte too short for the third model's", third_short_output},
+    {XEL_ROOM, "an output a byte too short for a conversion", convert_short_output},
 };
 
 int main(void)
@@ -176,8 +255,7 @@ int main(void)
     for (unsigned i = 0; i < sizeof cases / sizeof *cases; i++) {
         uint8_t answer = cases[i].ask();
         printf("%2u %-8s  %s\n", (unsigned)answer, refusal_name(answer), cases[i].what);
-        /* the cases stand in the order of the numbers */
-        missed |= answer != i + 1;
+        missed |= answer != cases[i].number;
     }
     return missed;
 }

@@ -1,10 +1,17 @@
-//! Histories of block energies: a histogram, which owns its counters, and a queue over a lent store.
+//! Histories of block energies: a histogram, which owns its counters, and a queue over a lent store; their records.
 
 use crate::refusal::{answered, Refusal};
 use crate::{sys, BINS, HISTOGRAM_RECORD};
 
 // Safety, of each call below: the memory is the history's own or lent with its length, and what may be written is
 // borrowed mutably, so it overlaps nothing else.
+
+/// Whose records: those of the third model have their fields high byte first.
+#[derive(Clone, Copy)]
+enum Model {
+    Ours,
+    Third,
+}
 
 /// A histogram: a counter a bin. Of 4000 bytes, with no memory elsewhere.
 #[derive(Clone, Debug, PartialEq, Eq)]
@@ -56,9 +63,22 @@ impl Histogram {
     ///
     /// Refuses [`Refusal::Length`], [`Refusal::Kind`].
     pub fn read(&mut self, bytes: &[u8]) -> Result<(), Refusal> {
+        self.read_of(Model::Ours, bytes)
+    }
+
+    /// The same of the third model's record, kind 257.
+    pub fn read_third(&mut self, bytes: &[u8]) -> Result<(), Refusal> {
+        self.read_of(Model::Third, bytes)
+    }
+
+    fn read_of(&mut self, model: Model, bytes: &[u8]) -> Result<(), Refusal> {
+        let read = match model {
+            Model::Ours => sys::xel_histogram_read,
+            Model::Third => sys::xel_third_histogram_read,
+        };
         let counters = &mut self.counters;
         answered(unsafe {
-            sys::xel_histogram_read(
+            read(
                 bytes.as_ptr(),
                 bytes.len(),
                 counters.as_mut_ptr(),
@@ -67,13 +87,26 @@ impl Histogram {
         })
     }
 
-    /// Writes the record to the first places of `out`, the others stay, and answers how many bytes it has.
+    /// Writes the record, of kind 1, to the first places of `out`, the others stay, and answers how many bytes it has.
     ///
     /// Refuses [`Refusal::Room`] where there are fewer than 4006 places.
     pub fn write(&self, out: &mut [u8]) -> Result<usize, Refusal> {
+        self.write_of(Model::Ours, out)
+    }
+
+    /// The same of the third model's record, kind 257.
+    pub fn write_third(&self, out: &mut [u8]) -> Result<usize, Refusal> {
+        self.write_of(Model::Third, out)
+    }
+
+    fn write_of(&self, model: Model, out: &mut [u8]) -> Result<usize, Refusal> {
+        let write = match model {
+            Model::Ours => sys::xel_histogram_write,
+            Model::Third => sys::xel_third_histogram_write,
+        };
         let (counters, mut written) = (&self.counters, 0);
         answered(unsafe {
-            sys::xel_histogram_write(
+            write(
                 counters.as_ptr(),
                 counters.len(),
                 out.as_mut_ptr(),
@@ -84,7 +117,7 @@ impl Histogram {
         Ok(written)
     }
 
-    /// The record, in as many bytes as it has.
+    /// The record of kind 1, in as many bytes as it has.
     pub fn record(&self) -> Result<[u8; HISTOGRAM_RECORD], Refusal> {
         let mut out = [0; HISTOGRAM_RECORD];
         self.write(&mut out)?;
@@ -151,13 +184,26 @@ impl<'a> Queue<'a> {
     /// Refuses [`Refusal::Length`]; [`Refusal::Kind`]; [`Refusal::Content`]; [`Refusal::Store`] where the store is not as
     /// long as the record's maximum.
     pub fn read(&mut self, bytes: &[u8]) -> Result<(), Refusal> {
+        self.read_of(Model::Ours, bytes)
+    }
+
+    /// The same of the third model's record, kind 258.
+    pub fn read_third(&mut self, bytes: &[u8]) -> Result<(), Refusal> {
+        self.read_of(Model::Third, bytes)
+    }
+
+    fn read_of(&mut self, model: Model, bytes: &[u8]) -> Result<(), Refusal> {
+        let read = match model {
+            Model::Ours => sys::xel_queue_read,
+            Model::Third => sys::xel_third_queue_read,
+        };
         let QueueNumbers {
             maximum,
             head,
             held,
         } = &mut self.numbers;
         answered(unsafe {
-            sys::xel_queue_read(
+            read(
                 bytes.as_ptr(),
                 bytes.len(),
                 maximum,
@@ -169,21 +215,32 @@ impl<'a> Queue<'a> {
         })
     }
 
-    /// Writes the record to the first places of `out`, oldest energy first, and answers how many bytes it has: 14, and 8
-    /// for each energy held.
+    /// Writes the record, of kind 2, to the first places of `out`, oldest energy first, and answers how many bytes it has:
+    /// 14, and 8 for each energy held.
     ///
     /// Refuses [`Refusal::Store`] where the queue breaks a rule or holds an energy below boundary 0; [`Refusal::Room`].
     pub fn write(&self, out: &mut [u8]) -> Result<usize, Refusal> {
-        let (
-            QueueNumbers {
-                maximum,
-                head,
-                held,
-            },
-            mut written,
-        ) = (self.numbers, 0);
+        self.write_of(Model::Ours, out)
+    }
+
+    /// The same of the third model's record, kind 258.
+    pub fn write_third(&self, out: &mut [u8]) -> Result<usize, Refusal> {
+        self.write_of(Model::Third, out)
+    }
+
+    fn write_of(&self, model: Model, out: &mut [u8]) -> Result<usize, Refusal> {
+        let write = match model {
+            Model::Ours => sys::xel_queue_write,
+            Model::Third => sys::xel_third_queue_write,
+        };
+        let QueueNumbers {
+            maximum,
+            head,
+            held,
+        } = self.numbers;
+        let mut written = 0;
         answered(unsafe {
-            sys::xel_queue_write(
+            write(
                 maximum,
                 head,
                 held,
@@ -196,4 +253,24 @@ impl<'a> Queue<'a> {
         })?;
         Ok(written)
     }
+}
+
+/// Converts a record of this kind to the other kind of the same content, between 1 and 257 or between 2 and 258, and keeps
+/// every count and energy. It goes to the first places of `out`, the others stay; answers how many bytes it has.
+///
+/// Refuses [`Refusal::Length`], [`Refusal::Kind`] and [`Refusal::Content`] as the reader of the kind, and
+/// [`Refusal::Kind`] for any other kind; [`Refusal::Room`].
+pub fn convert_record(kind: u16, bytes: &[u8], out: &mut [u8]) -> Result<usize, Refusal> {
+    let mut written = 0;
+    answered(unsafe {
+        sys::xel_record_convert(
+            kind,
+            bytes.as_ptr(),
+            bytes.len(),
+            out.as_mut_ptr(),
+            out.len(),
+            &mut written,
+        )
+    })?;
+    Ok(written)
 }

@@ -31,7 +31,7 @@ pub mod sys;
 
 pub use bins::{boundary, energy, find_histogram_index, reading};
 pub use filter::{phases_fourfold, phases_twofold, Channel, Coefficients, Filter, Switches};
-pub use histories::{Histogram, Queue, QueueNumbers};
+pub use histories::{convert_record, Histogram, Queue, QueueNumbers};
 pub use interleaved::{Interleaved, Sample};
 pub use questions::{Entry, Gated, Range, Set, Threshold};
 pub use refusal::Refusal;

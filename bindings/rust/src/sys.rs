@@ -189,7 +189,20 @@ extern "C" {
         counters: *mut u32,
         counters_len: usize,
     ) -> u8;
+    pub fn xel_third_histogram_read(
+        bytes: *const u8,
+        bytes_len: usize,
+        counters: *mut u32,
+        counters_len: usize,
+    ) -> u8;
     pub fn xel_histogram_write(
+        counters: *const u32,
+        counters_len: usize,
+        out: *mut u8,
+        out_len: usize,
+        written: &mut usize,
+    ) -> u8;
+    pub fn xel_third_histogram_write(
         counters: *const u32,
         counters_len: usize,
         out: *mut u8,
@@ -205,12 +218,39 @@ extern "C" {
         store: *mut f64,
         store_len: usize,
     ) -> u8;
+    pub fn xel_third_queue_read(
+        bytes: *const u8,
+        bytes_len: usize,
+        maximum: &mut usize,
+        head: &mut usize,
+        held: &mut usize,
+        store: *mut f64,
+        store_len: usize,
+    ) -> u8;
     pub fn xel_queue_write(
         maximum: usize,
         head: usize,
         held: usize,
         store: *const f64,
         store_len: usize,
+        out: *mut u8,
+        out_len: usize,
+        written: &mut usize,
+    ) -> u8;
+    pub fn xel_third_queue_write(
+        maximum: usize,
+        head: usize,
+        held: usize,
+        store: *const f64,
+        store_len: usize,
+        out: *mut u8,
+        out_len: usize,
+        written: &mut usize,
+    ) -> u8;
+    pub fn xel_record_convert(
+        kind: u16,
+        bytes: *const u8,
+        bytes_len: usize,
         out: *mut u8,
         out_len: usize,
         written: &mut usize,

@@ -355,6 +355,109 @@ fn queue_records() {
 }
 
 #[test]
+fn third_histogram_records() {
+    let mut histogram = Histogram::new();
+    histogram.counters[3] = 0x0102_0304;
+    let mut bytes = [7; HISTOGRAM_RECORD + 1];
+    assert_eq!(histogram.write_third(&mut bytes[2..]), Err(Refusal::Room));
+    assert_eq!(histogram.write_third(&mut bytes), Ok(HISTOGRAM_RECORD));
+    assert_eq!(bytes[HISTOGRAM_RECORD], 7);
+    let bytes = &bytes[..HISTOGRAM_RECORD];
+    // length and kind stay low byte first
+    assert_eq!(
+        (&bytes[..6], &bytes[18..22]),
+        (&[0xA2, 0x0F, 0, 0, 1, 1][..], &[1, 2, 3, 4][..])
+    );
+
+    let mut back = Histogram::new();
+    assert_eq!(back.read(bytes), Err(Refusal::Kind));
+    assert_eq!(back, Histogram::new());
+    assert_eq!(back.read_third(bytes), Ok(()));
+    assert_eq!(back, histogram);
+    let ours = histogram.record().unwrap();
+    assert_eq!(back.read_third(&ours), Err(Refusal::Kind));
+}
+
+#[test]
+fn third_queue_records() {
+    let mut store = [0.0; 3];
+    let mut queue = Queue::new(&mut store);
+    for energy in [1.0, f64::NAN] {
+        queue.add(energy).unwrap();
+    }
+    let mut out = [0; QUEUE_RECORD_HEAD + 16];
+    assert_eq!(queue.write_third(&mut out[1..]), Err(Refusal::Room));
+    assert_eq!(queue.write_third(&mut out), Ok(out.len()));
+    let numbers = [26, 0, 0, 0, 2, 1, 0, 0, 0, 3, 0, 0, 0, 2];
+    assert_eq!(out[..QUEUE_RECORD_HEAD], numbers);
+    let energies = [0x3F, 0xF0, 0, 0, 0, 0, 0, 0, 0x7F, 0xF8, 0, 0, 0, 0, 0, 0];
+    assert_eq!(out[QUEUE_RECORD_HEAD..], energies);
+
+    let (mut longer, mut again) = ([0.0; 4], [9.0; 3]);
+    assert_eq!(
+        Queue::new(&mut longer).read_third(&out),
+        Err(Refusal::Store)
+    );
+    let mut back = Queue::new(&mut again);
+    assert_eq!(back.read(&out), Err(Refusal::Kind));
+    assert_eq!(back.read_third(&out), Ok(()));
+    assert_eq!(back.numbers, queue.numbers);
+    assert!(back.store[0] == 1.0 && back.store[1].is_nan() && back.store[2] == 9.0);
+    out[9] = 0;
+    assert_eq!(back.read_third(&out), Err(Refusal::Content));
+}
+
+#[test]
+fn conversions() {
+    let mut histogram = Histogram::new();
+    (0..)
+        .zip(&mut histogram.counters)
+        .for_each(|(i, count)| *count = 1_000_003 * i);
+    let (ours, mut third) = (histogram.record().unwrap(), [0; HISTOGRAM_RECORD]);
+    histogram.write_third(&mut third).unwrap();
+    let mut store = [0.0; 3];
+    let mut queue = Queue::new(&mut store);
+    (300..305).for_each(|bin| queue.add(energy(bin)).unwrap());
+    let (mut held, mut third_held) = ([0; 38], [0; 38]);
+    queue.write(&mut held).unwrap();
+    queue.write_third(&mut third_held).unwrap();
+
+    let pairs = [
+        (1, &ours[..], 257, &third[..]),
+        (2, &held, 258, &third_held),
+    ];
+    for (kind, ours, other, third) in pairs {
+        for (kind, from, to) in [(kind, ours, third), (other, third, ours)] {
+            let mut out = [7; HISTOGRAM_RECORD + 1];
+            assert_eq!(convert_record(kind, from, &mut out), Ok(to.len()));
+            assert_eq!((&out[..to.len()], out[to.len()]), (to, 7));
+        }
+    }
+}
+
+#[test]
+fn a_refused_conversion_writes_nothing() {
+    let mut record = [10, 0, 0, 0, 2, 1, 0, 0, 0, 1, 0, 0, 0, 0];
+    let mut out = [7; 14];
+    for kind in [0, 1, 2, 3, 256, 257, 259, 513, u16::MAX] {
+        assert_eq!(convert_record(kind, &record, &mut out), Err(Refusal::Kind));
+        let short = convert_record(kind, &record[..5], &mut out);
+        assert_eq!(short, Err(Refusal::Length));
+    }
+    assert_eq!(
+        convert_record(258, &record, &mut out[1..]),
+        Err(Refusal::Room)
+    );
+    // what the reader refuses comes first
+    record[9] = 0;
+    assert_eq!(
+        convert_record(258, &record, &mut out[1..]),
+        Err(Refusal::Content)
+    );
+    assert_eq!(out, [7; 14]);
+}
+
+#[test]
 fn refusals_have_the_papers_numbers() {
     assert_eq!(Refusal::ALL.len(), 15);
     for (number, refusal) in (1..).zip(Refusal::ALL) {
@@ -488,7 +591,12 @@ fn any_history_call_answers() {
         let _ = queue.add(any.float());
         let _ = queue.write(&mut bytes[..any.below(41)]);
         let _ = queue.read(&bytes[..any.below(41)]);
+        let _ = queue.write_third(&mut bytes[..any.below(41)]);
+        let _ = queue.read_third(&bytes[..any.below(41)]);
         let _ = Histogram::new().read(&bytes[..any.below(41)]);
+        let _ = Histogram::new().read_third(&bytes[..any.below(41)]);
+        let kind = u16::from_le_bytes([bytes[4], bytes[5]]);
+        let _ = convert_record(kind, &bytes[..any.below(41)], &mut [0; 40][..any.below(41)]);
 
         let entries = [(); 20].map(|()| any.entry());
         let set = Set {
