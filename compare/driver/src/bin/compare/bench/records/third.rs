@@ -60,8 +60,8 @@ fn histograms(rng: &mut Rng) {
     assert!(read == counters && other == counters);
     let third = record;
     convert_histogram("converted to ours", 257, &third, &mut record, &mut copy);
-    let first = record;
-    convert_histogram("converted from ours", 1, &first, &mut record, &mut copy);
+    let own = record;
+    convert_histogram("converted from ours", 1, &own, &mut record, &mut copy);
     assert_eq!(record, third);
 }
 
@@ -117,8 +117,8 @@ fn queues(rng: &mut Rng) {
     assert_eq!(read.store, other);
     let third = record.clone();
     convert_queue("converted to ours", 258, &third, &mut record, &mut copy);
-    let first = record.clone();
-    convert_queue("converted from ours", 2, &first, &mut record, &mut copy);
+    let own = record.clone();
+    convert_queue("converted from ours", 2, &own, &mut record, &mut copy);
     assert_eq!(record, third);
 }
 
