@@ -101,13 +101,13 @@ module _ (model : Model) (maximum : ℕ) (energies : List Float) (few : maximum 
   at-energies : drop leastLength bytes ≡ rest
   at-energies = sym (drop-drop numberWidth heldAt bytes) ∙ ap (drop numberWidth) at-held ∙ drop-at second rest numberWidth (bytes-length order numberWidth (length energies))
 
-  maximum-again : maximumIn model bytes ≡ maximum
+  pub maximum-again : maximumIn model bytes ≡ maximum
   maximum-again = ap (numberIn order numberWidth) at-maximum ∙ read-again order numberWidth maximum (second ++ rest) (omega arith)
 
-  held-again : heldIn model bytes ≡ length energies
+  pub held-again : heldIn model bytes ≡ length energies
   held-again = ap (numberIn order numberWidth) at-held ∙ read-again order numberWidth (length energies) rest (omega arith)
 
-  patterns-are : Doubles energies → patternsIn model bytes ≡ patternsOf energies
+  pub patterns-are : Doubles energies → patternsIn model bytes ≡ patternsOf energies
   patterns-are doubles =
       ap (λ (n : ℕ). numbersIn order energyWidth n (drop leastLength bytes)) held-again
       ∙ ap (numbersIn order energyWidth (length energies)) at-energies

@@ -8,7 +8,7 @@ use borrow.Author.Tests.{eq-eqb, eqb-true, not-true}
 use lib.Dec.{T, eqb}
 use lib.ListN.{getD}
 use lib.Ieee.{Float, nan, binary64, ofBits, toBits, isNan, fits}
-use lib.Ieee.Bits.{ofBits-toBits, toBits-ofBits}
+use lib.Ieee.Bits.{ofBits-toBits, toBits-ofBits, ofBits-fits}
 use Rattle.base_floats.proofs.Nan.{only-nan}
 use Rattle.bins.specs.Energy.{dropped}
 use Rattle.history_set.specs.Set.{noneBelow}
@@ -18,6 +18,10 @@ use Rattle.record_queue_reader.specs.QueueRecord.{nanPattern, patternFits, ever
 abbrev pub Doubles : List Float → Type 0
 Doubles [] = Unit
 Doubles (energy ∷ rest) = T (fits binary64 energy) × Doubles rest
+
+pub doubles-read : (patterns : List ℕ) → Doubles (energiesOf patterns)
+doubles-read [] = tt
+doubles-read (pattern ∷ rest) = (ofBits-fits binary64 pattern, doubles-read rest)
 
 nan-written : toBits binary64 nan ≡ nanPattern
 unfolding toBits
