@@ -2,6 +2,7 @@
 use Rattle.acceptance_refusals.proofs.Table.{demand-1}
 use Rattle.acceptance_signals.proofs.Signals.{signal-calls}
 use Rattle.acceptance_records.proofs.Records.{record-calls}
+use Rattle.acceptance_records.proofs.Conversion.{conversion-keeps, four-kinds}
 use Rattle.acceptance_records.proofs.Report.{report-refused, report-tells}
 use Rattle.acceptance_interface.proofs.Interface.{interface}
 use Rattle.acceptance_scale.proofs.Scale.{on-scale}
@@ -27,6 +28,8 @@ accepted = record {
   ranks = ranks-are-the-rust's;
   dealing = demand-3;
   reported = report-tells;
+  conversion = conversion-keeps;
+  kinds = four-kinds;
   fixed = each-fixed;
   worked = worked;
   written = literals;

@@ -1,8 +1,9 @@
--- All that the buyer asks for and that a theorem can answer, as one statement: the tender's three demands, and 01 on the worked cases and on how tight each statement
--- is. Each part stands in the crate of its name, below the sentence that it answers. proofs/Accepted.antt proves `Accepted`.
+-- All that the buyer asks for and that a theorem can answer, as one statement: the tender's three demands, what the change requests add, and 01 on the worked
+-- cases and on how tight each statement is. Each part stands in the crate of its name, below the sentence that it answers. proofs/Accepted.antt proves `Accepted`.
 use Rattle.acceptance_refusals.specs.Table.{Demand1}
 use Rattle.acceptance_signals.specs.Signals.{SignalCalls}
 use Rattle.acceptance_records.specs.Records.{RecordCalls}
+use Rattle.acceptance_records.specs.Conversion.{ConversionKeeps, FourKinds}
 use Rattle.acceptance_records.specs.Report.{ReportRefused, ReportTells}
 use Rattle.acceptance_interface.specs.Interface.{Interface}
 use Rattle.acceptance_scale.specs.Scale.{OnScale}
@@ -30,6 +31,9 @@ pub record Accepted : Type 0 where
   -- demand 3: energies dealt to histograms and merged, and the report on what was merged
   pub dealing : Demand3
   pub reported : ReportTells
+  -- change request 3: the conversion keeps every count and energy, and KIND knows four
+  pub conversion : ConversionKeeps
+  pub kinds : FourKinds
   -- two outcomes that meet a statement are the same (`signals` and `records` have their own)
   pub fixed : EachFixed
   -- the worked cases that 01 marks P, and 01's numbers

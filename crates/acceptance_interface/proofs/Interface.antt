@@ -23,6 +23,8 @@ use Rattle.record_histogram.specs.Record.{readCountersRows, readCounters}
 use Rattle.record_histogram.specs.Writing.{writeCountersRows, writeCounters}
 use Rattle.record_queue_reader.specs.QueueRecord.{readEnergiesRows, readEnergies}
 use Rattle.record_queue_writer.specs.Writing.{writeEnergiesRows, writeEnergies}
+use Rattle.record_layout.specs.Layout.{knownOf}
+use Rattle.record_conversion.specs.Conversion.{askedRows, convertedAsked}
 use Rattle.filter_checks.specs.Calls.{frameRows}
 use Rattle.filter.specs.Process.{processRows, processed}
 use Rattle.filter.specs.Seed.{seedRows, seeded}
@@ -111,6 +113,7 @@ interface = record {
   histogramWrite = λ model counters out. tells (writeCountersRows model counters out) (writeCounters model counters out) (record-calls .histogramWritten model counters out);
   queueRead = λ model bytes store. tells (readEnergiesRows model bytes store) (readEnergies model bytes store) (record-calls .queueRead model bytes store);
   queueWrite = λ model s out. tells (writeEnergiesRows model s out) (writeEnergies model s out) (record-calls .queueWritten model s out);
+  recordConvert = λ kind bytes out. tells (askedRows (knownOf kind) bytes out) (convertedAsked kind bytes out) (record-calls .conversionAsked kind bytes out);
   process = λ call. tells (processRows call) (processed call) (signal-calls .process call);
   seed = λ call. tells (seedRows call) (seeded call) (signal-calls .seed call);
   frames = λ channels samples. tells (frameRows channels samples) (framesIn channels samples) (signal-calls .frames channels samples);

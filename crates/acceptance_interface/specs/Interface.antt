@@ -22,6 +22,8 @@ use Rattle.record_histogram.specs.Record.{readCountersRows, readCounters}
 use Rattle.record_histogram.specs.Writing.{writeCountersRows, writeCounters}
 use Rattle.record_queue_reader.specs.QueueRecord.{readEnergiesRows, readEnergies}
 use Rattle.record_queue_writer.specs.Writing.{writeEnergiesRows, writeEnergies}
+use Rattle.record_layout.specs.Layout.{knownOf}
+use Rattle.record_conversion.specs.Conversion.{askedRows, convertedAsked}
 use Rattle.filter_checks.specs.Calls.{frameRows}
 use Rattle.filter.specs.Call.{Call}
 use Rattle.filter.specs.Process.{processRows, processed}
@@ -56,11 +58,12 @@ pub record Interface : Type 0 where
   pub spans : (numbers counters : List ℕ) (energies work : List Float) →
       let call = rangeAsked numbers counters energies work in
       (code call ≡ 0 → ⊥) → (spanCode call ≡ code call) × ((old : Float) → (lowOr old call ≡ old) × (highOr old call ≡ old))
-  -- the records
+  -- the records, of either model
   pub histogramRead : (model : Model) (bytes counters : List ℕ) → Tells (readCountersRows model bytes counters) (readCounters model bytes counters)
   pub histogramWrite : (model : Model) (counters out : List ℕ) → Tells (writeCountersRows model counters out) (writeCounters model counters out)
   pub queueRead : (model : Model) (bytes : List ℕ) (store : List Float) → Tells (readEnergiesRows model bytes store) (readEnergies model bytes store)
   pub queueWrite : (model : Model) (s : Stored) (out : List ℕ) → Tells (writeEnergiesRows model s out) (writeEnergies model s out)
+  pub recordConvert : (kind : ℕ) (bytes out : List ℕ) → Tells (askedRows (knownOf kind) bytes out) (convertedAsked kind bytes out)
   -- the filter's calls, of either kind of samples
   pub process : (call : Call) → Tells (processRows call) (processed call)
   pub seed : (call : Call) → Tells (seedRows call) (seeded call)

@@ -11,6 +11,7 @@ use Rattle.history_queue.specs.declared.Queue.{Queue}
 use Rattle.history_queue.specs.Queue.{heldOf}
 use Rattle.record_layout.specs.declared.Written.{Written}
 use Rattle.record_layout.specs.declared.Written.the-variants.{Bytes, Refused}
+use Rattle.record_layout.specs.Layout.{knownOf}
 use Rattle.record_layout.specs.Written.{said as saidWritten}
 use Rattle.record_histogram.specs.Record.{countersIn, readCountersRows, readCounters}
 use Rattle.record_histogram.specs.Writing.{countersRecord, writeCountersRows, writeCounters}
@@ -18,6 +19,7 @@ use Rattle.record_queue_reader.specs.declared.Received.{Received}
 use Rattle.record_queue_reader.specs.declared.Received.the-variants.{Held, Refused as Refused-received}
 use Rattle.record_queue_reader.specs.QueueRecord.{stored, queueIn, readEnergiesRows, readEnergies, said as saidReceived}
 use Rattle.record_queue_writer.specs.Writing.{energiesRecord, writeEnergiesRows, writeEnergies}
+use Rattle.record_conversion.specs.Conversion.{convertedRecord, convertRows, converted, askedRecord, askedRows, convertedAsked}
 use Rattle.record_summary.specs.declared.Summary.{Summary}
 use Rattle.record_summary.specs.declared.Summary.the-variants.{Ranged, Rangeless, Refused as Refused-summary}
 use Rattle.record_summary.specs.Summary.{Figures, ranged, rangeless, summaryOf, said as saidSummary}
@@ -55,7 +57,7 @@ summary-there (Rangeless blocks) = refl
 summary-there (Refused-summary n) = refl
 
 pub record-calls : RecordCalls
-unfolding readCounters writeCounters readEnergies writeEnergies
+unfolding readCounters writeCounters readEnergies writeEnergies converted convertedAsked
 record-calls = record {
   histogramRead = λ model bytes counters. refused-by (readCountersRows model bytes counters) (countersIn model bytes) done;
   histogramWritten =
@@ -67,9 +69,19 @@ record-calls = record {
       λ model s out.
       let bytes = energiesRecord model (s .queue .maximum) (heldOf s) in
       refused-by (writeEnergiesRows model s out) (bytes ++ drop (length bytes) out) (length bytes);
+  conversion =
+      λ kind bytes out.
+      let record' = convertedRecord kind bytes in
+      refused-by (convertRows kind bytes out) (record' ++ drop (length record') out) (length record');
+  conversionAsked =
+      λ number bytes out.
+      let record' = askedRecord (knownOf number) bytes in
+      refused-by (askedRows (knownOf number) bytes out) (record' ++ drop (length record') out) (length record');
   fixedHistogramRead = λ model bytes counters. fixes (List ℕ) saidAnswer answer-back answer-there counters (readCounters model bytes counters);
   fixedHistogramWritten = λ model counters out. fixes (List ℕ) saidWritten written-back written-there out (writeCounters model counters out);
   fixedQueueRead = λ model bytes store. fixes (List Float) saidReceived received-back received-there store (readEnergies model bytes store);
   fixedQueueWritten = λ model s out. fixes (List ℕ) saidWritten written-back written-there out (writeEnergies model s out);
+  fixedConversion = λ kind bytes out. fixes (List ℕ) saidWritten written-back written-there out (converted kind bytes out);
+  fixedConversionAsked = λ number bytes out. fixes (List ℕ) saidWritten written-back written-there out (convertedAsked number bytes out);
   fixedSummary = λ bytes. fixes Unit saidSummary summary-back summary-there tt (summaryOf bytes);
 }

@@ -1,9 +1,10 @@
--- The numbers that 01 writes, each beside what the definitions behind the contracts have for it. A definition that is bent together with its code and its proofs still
--- stands against its line here. proofs/Literals.antt computes the table; a change request that moves a number of 01 moves its line.
+-- The numbers that 01 and 02 write, each beside what the definitions behind the contracts have for it. A definition that is bent together with its code and its proofs still
+-- stands against its line here. proofs/Literals.antt computes the table; a change request that moves a number of 01 moves its line, and brings its own.
 use Prim.Native.Nat.{ℕ}
 use mathlib.Core.Path.{_≡_}
 use mathlib.Core.Bool.{Bool, true, false}
 use mathlib.Core.List.{List, [], _∷_, map}
+use lib.ListN.{getD}
 use lib.IntN.{ℤ, pos, negsuc}
 use lib.Ieee.{Float, nan, binary64, ofBits, toBits}
 use Rattle.base_refusals.specs.Refusal.{number, CHANNELS, SAMPLES, MAP, DEST, STORE, FULL, SET, MODE, NONE, NAN, SCALE, LENGTH, KIND, CONTENT, ROOM}
@@ -18,10 +19,10 @@ use Rattle.samples.specs.Sample.{sampleOf16}
 use Rattle.filter_checks.specs.Calls.{wrongChannels, admits, used}
 use Rattle.filter_recurrence.specs.Recurrence.{flush}
 use Rattle.true_peak_interp.specs.Interp.{Kind, upsampled, noTruePeak, kindOf}
-use Rattle.record_layout.specs.declared.Model.the-variants.{Ours}
+use Rattle.record_layout.specs.declared.Model.the-variants.{Ours, Third}
 use Rattle.record_layout.specs.declared.Kind.the-variants.{Histogram, Queue}
-use Rattle.record_layout.specs.Layout.{kindNumber, canBe}
-use Rattle.record_queue_reader.specs.QueueRecord.{nanPattern}
+use Rattle.record_layout.specs.Layout.{kindNumber, canBe, lengthIn, kindIn, headOf}
+use Rattle.record_queue_reader.specs.QueueRecord.{nanPattern, maximumIn, heldIn, patternsIn}
 
 -- what a line compares
 pub data Literal : Type 0 where
@@ -55,6 +56,14 @@ f64 pattern = ofBits binary64 pattern
 -- "Rate below 96,000: factor 4, 12 taps; below 192,000: factor 2, 24 taps; else no true peak"
 abbrev pub scans : ℕ → ℕ → Kind
 scans factor taps = upsampled (record { factor = factor; taps = taps })
+
+-- a record of kind 258 (02, CR 3: "our own length and kind in front, low byte first, then the old body with each field high byte first"): maximum 3,600, and two energies held,
+-- 1 and 2; and the bytes of a body's first counters, and of a queue's two numbers behind a head of our own
+abbrev pub thirdQueue : List ℕ
+thirdQueue =
+    0x1A ∷ 0 ∷ 0 ∷ 0 ∷ 0x02 ∷ 0x01
+    ∷ 0 ∷ 0 ∷ 0x0E ∷ 0x10 ∷ 0 ∷ 0 ∷ 0 ∷ 2
+    ∷ 0x3F ∷ 0xF0 ∷ 0 ∷ 0 ∷ 0 ∷ 0 ∷ 0 ∷ 0 ∷ 0x40 ∷ 0 ∷ 0 ∷ 0 ∷ 0 ∷ 0 ∷ 0 ∷ 0 ∷ []
 
 -- ---- the table
 abbrev pub lines : List Line
@@ -123,6 +132,23 @@ lines =
     ∷ answersNo (canBe (Histogram Ours) 4_003)
     ∷ answersNo (canBe (Queue Ours) 9)
     ∷ answersYes (canBe (Queue Ours) 10)
+    -- 02, CR 3: "kind 257 (counters) and kind 258 (energies)", lengths as for kinds 1 and 2; the record above, read as its own kind and, as it stands, as ours
+    ∷ has (kindNumber (Histogram Third)) 257
+    ∷ has (kindNumber (Queue Third)) 258
+    ∷ answersYes (canBe (Histogram Third) 4_002)
+    ∷ answersNo (canBe (Histogram Third) 4_003)
+    ∷ answersNo (canBe (Queue Third) 9)
+    ∷ answersYes (canBe (Queue Third) 10)
+    ∷ has (lengthIn thirdQueue) 26
+    ∷ has (kindIn thirdQueue) 258
+    ∷ has (maximumIn Third thirdQueue) 3_600
+    ∷ has (heldIn Third thirdQueue) 2
+    ∷ has (getD (patternsIn Third thirdQueue) 0 0) 0x3FF0_0000_0000_0000
+    ∷ has (getD (patternsIn Third thirdQueue) 1 0) 0x4000_0000_0000_0000
+    ∷ has (maximumIn Ours thirdQueue) 0x100E_0000
+    ∷ has (heldIn Ours thirdQueue) 0x0200_0000
+    ∷ has (getD (headOf (Queue Third) 26) 4 0) 0x02
+    ∷ has (getD (headOf (Queue Third) 26) 5 0) 0x01
     ∷ has nanPattern 0x7FF8_0000_0000_0000
     ∷ has (toBits binary64 nan) 0x7FF8_0000_0000_0000
     ∷ []

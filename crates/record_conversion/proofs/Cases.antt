@@ -62,7 +62,7 @@ other-order Third = refl
 
 -- ---- behind the rows of the record
 module _ (kind : Kind) (bytes out : List ℕ) (e : numberOf (recordRows kind bytes) ≡ 0) where
-  behind : converted kind bytes out ≡ byRows (roomRow out (convertedRecord kind bytes) ∷ []) (writtenTo out (convertedRecord kind bytes))
+  pub behind : converted kind bytes out ≡ byRows (roomRow out (convertedRecord kind bytes) ∷ []) (writtenTo out (convertedRecord kind bytes))
   unfolding converted
   behind = goes-on (writtenTo out (convertedRecord kind bytes)) (recordRows kind bytes) (roomRow out (convertedRecord kind bytes) ∷ []) e
 
