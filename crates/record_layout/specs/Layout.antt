@@ -71,14 +71,13 @@ abbrev pub allows : Extent → ℕ → Bool
 allows (exactly n) following = eqb following n
 allows (atLeast least) following = leb least following
 
--- a kind of record: its number; the order of the bytes in each field of its body; what its length field may say; where the numbers of its body start, and
--- where its counters or energies do; and how many bytes each of these has
+-- a kind of record: its number; the order of the bytes in each field of its body; what its length field may say; how many numbers stand in its body before
+-- the counters or energies, and how many bytes each of these has
 pub record Form : Type 0 where
   pub number : ℕ
   pub order : Order
   pub extent : Extent
-  pub numbersAt : ℕ
-  pub entriesAt : ℕ
+  pub numbers : ℕ
   pub width : ℕ
 
 -- what ours have, or what those of the third model have
@@ -94,23 +93,9 @@ orderBy model = ofModel model LowFirst HighFirst
 -- 02, CR 3: "kind 257 (counters) and kind 258 (energies)"; "the byte order follows from the kind and from nothing else"
 abbrev pub formOf : Kind → Form
 formOf (Histogram model) =
-    record {
-      number = ofModel model 1 257;
-      order = orderBy model;
-      extent = exactly histogramLength;
-      numbersAt = headWidth;
-      entriesAt = headWidth;
-      width = countWidth;
-    }
+    record { number = ofModel model 1 257; order = orderBy model; extent = exactly histogramLength; numbers = 0; width = countWidth }
 formOf (Queue model) =
-    record {
-      number = ofModel model 2 258;
-      order = orderBy model;
-      extent = atLeast queueLeast;
-      numbersAt = headWidth;
-      entriesAt = leastLength;
-      width = energyWidth;
-    }
+    record { number = ofModel model 2 258; order = orderBy model; extent = atLeast queueLeast; numbers = 2; width = energyWidth }
 
 abbrev pub kindNumber : Kind → ℕ
 kindNumber kind = formOf kind .number
@@ -133,13 +118,17 @@ orderOf kind = formOf kind .order
 abbrev pub canBe : Kind → ℕ → Bool
 canBe kind following = allows (formOf kind .extent) following
 
--- the number in a field of its own before the counters or energies, the first, the second and so on
-abbrev pub numberFrom : Kind → ℕ → List ℕ → ℕ
-numberFrom kind i bytes = numberIn (formOf kind .order) numberWidth (drop (formOf kind .numbersAt + numberWidth * i) bytes)
+-- where the first of a body's numbers stands, the second and so on; and behind them the counters or energies
+abbrev pub placeOf : ℕ → ℕ
+placeOf i = headWidth + numberWidth * i
 
--- the counters or energies of a record, so many numbers, and their bytes
+-- one of the numbers of a record
+abbrev pub numberFrom : Kind → ℕ → List ℕ → ℕ
+numberFrom kind i bytes = numberIn (formOf kind .order) numberWidth (drop (placeOf i) bytes)
+
+-- so many of its counters or energies, and their bytes
 abbrev pub entriesIn : Kind → ℕ → List ℕ → List ℕ
-entriesIn kind count bytes = numbersIn (formOf kind .order) (formOf kind .width) count (drop (formOf kind .entriesAt) bytes)
+entriesIn kind count bytes = numbersIn (formOf kind .order) (formOf kind .width) count (drop (placeOf (formOf kind .numbers)) bytes)
 
 abbrev pub entryBytes : Kind → List ℕ → List ℕ
 entryBytes kind numbers = allBytes (formOf kind .order) (formOf kind .width) numbers

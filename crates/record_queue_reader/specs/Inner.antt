@@ -1,6 +1,6 @@
 -- What the inner functions work with: where a queue's two numbers stand, patterns of finite energies, and the body's part of a check. No public contract
 -- rests on it.
-use Prim.Native.Nat.{ℕ, _+_}
+use Prim.Native.Nat.{ℕ}
 use mathlib.Core.Bool.{Bool, _&&_}
 use mathlib.Core.List.{List}
 use lib.Dec.{ltb}
@@ -8,14 +8,14 @@ use Rattle.base_refusals.specs.Outcome.{Question, answers}
 use Rattle.base_refusals.specs.Rows.{byRows}
 use Rattle.history_queue.specs.declared.Queue.{Queue}
 use Rattle.record_layout.specs.declared.Model.{Model}
-use Rattle.record_layout.specs.Layout.{headWidth, numberWidth}
+use Rattle.record_layout.specs.Layout.{placeOf}
 use Rattle.record_queue_reader.specs.QueueRecord.{patternFits, every, queueIn, contentRows}
 
 abbrev pub maximumAt : ℕ
-maximumAt = headWidth
+maximumAt = placeOf 0
 
 abbrev pub heldAt : ℕ
-heldAt = maximumAt + numberWidth
+heldAt = placeOf 1
 
 -- infinity's: every pattern below it is that of a finite float, none of them negative
 abbrev pub infinityPattern : ℕ
