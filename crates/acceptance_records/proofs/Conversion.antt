@@ -5,26 +5,25 @@ use mathlib.Core.Bool.{Bool, true, false, not, cond, _&&_, and-eq-true-iff}
 use mathlib.Core.List.{List, [], _∷_, _++_}
 use Prim.Native.Nat.{ℕ, _≤_}
 use native.Mathlib.Omega.{arith}
-use borrow.Author.Tests.{le-ltb, eq-eqb, eqb-true, ne-eqb, not-false}
+use borrow.Author.Tests.{le-ltb, eqb-true, ne-eqb, not-false}
 use lib.Dec.{eqb}
 use lib.ListN.{length, take, drop}
 use lib.Seq.{take-at}
 use lib.Ieee.{Float}
 use Rattle.base_refusals.specs.Refusal.{STORE}
-use Rattle.base_refusals.specs.Outcome.{Outcome, went, Said, says, saidBy, keptBy}
+use Rattle.base_refusals.specs.Outcome.{went, Said, saidBy, keptBy}
 use Rattle.base_refusals.specs.Rows.{Row, row, byRows, numberOf}
 use Rattle.base_refusals.proofs.Rows.{goes, not-held, number-parts}
 use Rattle.base_refusals.proofs.Behind.{none-held}
 use Rattle.bins.specs.Bin.{bins}
 use Rattle.history_histogram.specs.Histogram.{isHistogram}
 use Rattle.history_queue.specs.Queue.{Stored, suits, heldOf}
-use Rattle.history_queue.proofs.Ring.{Suited, suited}
+use Rattle.history_queue.proofs.Ring.{suited}
 use Rattle.history_set.specs.Set.{noneBelow}
 use Rattle.record_layout.specs.declared.Model.{Model}
 use Rattle.record_layout.specs.declared.Model.the-variants.{Ours, Third}
 use Rattle.record_layout.specs.declared.Kind.{Kind}
 use Rattle.record_layout.specs.declared.Kind.the-variants.{Histogram, Queue}
-use Rattle.record_layout.specs.declared.Known.{Known}
 use Rattle.record_layout.specs.declared.Known.the-variants.{Of}
 use Rattle.record_layout.specs.Layout.{headWidth, kinds, kindNumber, knownAmong, knownOf, kindIn, roomRow, writtenTo}
 use Rattle.record_layout.proofs.Frames.{framed}

@@ -6,7 +6,7 @@ use mathlib.Core.List.{List, [], _∷_, _++_}
 use Prim.Native.Nat.{ℕ}
 use native.Mathlib.Omega.{arith}
 use Rattle.base_refusals.specs.Refusal.{Refusal, number}
-use Rattle.base_refusals.specs.Outcome.{Outcome, went, refused, Said, says, refusal, NoValues, done, answers, saidBy, keptBy}
+use Rattle.base_refusals.specs.Outcome.{Outcome, went, refused, Said, says, refusal, answers, saidBy, keptBy}
 use Rattle.base_refusals.specs.Rows.{Row, byRows, numberOf}
 use Rattle.base_refusals.proofs.Numbers.{no-number}
 use Rattle.base_refusals.proofs.Rows.{Refuses, stopped, goes, rows-then, number-first}

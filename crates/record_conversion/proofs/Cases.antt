@@ -7,7 +7,6 @@ use native.Mathlib.Omega.{arith}
 use borrow.Author.Tests.{lt-ltb, le-ltb}
 use lib.ListN.{length, getD, drop, length-append, length-drop}
 use lib.Seq.{sets, drop-drop, getD-drop}
-use lib.Ieee.{Float}
 use Rattle.base_refusals.specs.Refusal.{ROOM}
 use Rattle.base_refusals.specs.Outcome.{refused}
 use Rattle.base_refusals.specs.Rows.{numberOf, byRows}
@@ -20,35 +19,18 @@ use Rattle.record_layout.specs.declared.Model.{Model}
 use Rattle.record_layout.specs.declared.Model.the-variants.{Ours, Third}
 use Rattle.record_layout.specs.declared.Kind.{Kind}
 use Rattle.record_layout.specs.declared.Kind.the-variants.{Histogram, Queue}
-use Rattle.record_layout.specs.Layout.{
-  headWidth,
-  countWidth,
-  numberWidth,
-  energyWidth,
-  histogramLength,
-  queueLeast,
-  leastLength,
-  orderBy,
-  numbersIn,
-  allBytes,
-  bodyIn,
-  frameRows,
-  withHead,
-  recordOf,
-  roomRow,
-  writtenTo,
-}
+use Rattle.record_layout.specs.Layout.{headWidth, countWidth, numberWidth, energyWidth, histogramLength, leastLength, orderBy, numbersIn, allBytes, bodyIn, frameRows, withHead, recordOf, roomRow, writtenTo}
 use Rattle.record_layout.proofs.Frames.{framed}
 use Rattle.record_layout.proofs.Heads.{record-put}
 use Rattle.record_layout.proofs.Runs.{numbers-length, numbers-small}
 use Rattle.record_layout.proofs.Turns.{sets-append}
-use Rattle.record_histogram.specs.Record.{recordLength, countersIn}
+use Rattle.record_histogram.specs.Record.{countersIn}
 use Rattle.record_histogram.specs.Writing.{countersRecord}
 use Rattle.record_histogram.proofs.Cases.{framed-length}
 use Rattle.record_histogram.proofs.WriterCases.{whole-length as histogram-length}
 use Rattle.record_queue_reader.specs.QueueRecord.{maximumIn, heldIn, patternsIn, energiesOf, patternsOf, contentRows, checkRows}
 use Rattle.record_queue_reader.proofs.Cases.{Sound, sound, energies-count}
-use Rattle.record_queue_writer.specs.Writing.{bodyOf, energiesRecord}
+use Rattle.record_queue_writer.specs.Writing.{energiesRecord}
 use Rattle.record_queue_writer.proofs.Cases.{whole-length as queue-length}
 use Rattle.record_queue_writer.proofs.Patterns.{patterns-again}
 use Rattle.record_conversion.specs.Conversion.{otherModel, convertedRecord, recordRows, converted}

@@ -7,7 +7,7 @@ use native.Mathlib.Omega.{arith}
 use lib.ListN.{length, getD, take, drop, length-append, length-drop, length-reverse}
 use lib.Seq.{sets, drop-drop, getD-drop, length-take-le}
 use Rattle.base_fields.specs.declared.Order.{Order}
-use Rattle.base_fields.specs.Field.{other, numberIn}
+use Rattle.base_fields.specs.Field.{other}
 use Rattle.base_fields.proofs.Orders.{turned-field}
 use Rattle.record_layout.specs.Layout.{numbersIn, allBytes}
 use Rattle.record_layout.proofs.Turns.{sets-append}

@@ -2,7 +2,7 @@
 -- one's bytes; and what was written, converted, is what the other model's writer writes. Each follows from reading what was written and writing what was read.
 -- Assumes nothing.
 use mathlib.Core.Path.{_≡_, refl, sym, ap, _∙_}
-use mathlib.Core.List.{List, _++_}
+use mathlib.Core.List.{List}
 use Prim.Native.Nat.{ℕ, _+_, _≤_, _<_}
 use native.Mathlib.Omega.{arith}
 use lib.ListN.{length, getD, drop}
@@ -21,7 +21,7 @@ use Rattle.record_histogram.specs.Record.{countersIn, storeRows, readCounters}
 use Rattle.record_histogram.specs.Writing.{countersRecord}
 use Rattle.record_histogram.proofs.Cases.{read-behind}
 use Rattle.record_histogram.proofs.Again.{Counting, written-passes, counters-again, write-what-was-read}
-use Rattle.record_queue_reader.specs.QueueRecord.{maximumIn, heldIn, patternsIn, energiesOf, patternsOf, stored, queueIn, checkRows, storeRows as queueStoreRows, readEnergies}
+use Rattle.record_queue_reader.specs.QueueRecord.{maximumIn, heldIn, patternsIn, energiesOf, stored, checkRows, readEnergies}
 use Rattle.record_queue_reader.proofs.Cases.{numbers-within, energies-count, read-behind as queue-behind}
 use Rattle.record_queue_writer.specs.Writing.{energiesRecord}
 use Rattle.record_queue_writer.proofs.Patterns.{Doubles, doubles-read, energies-again, patterns-again, energies-in}

@@ -49,13 +49,24 @@ fn copy(from: &[Count], to: &mut [Count])
 }
 
 // The counters in the bytes of a whole record, by way of places of its own, which no lent slice overlaps.
-fn read_counters(order: Order, bytes: &[u8], counters: &mut [Count])
+fn read_by_places(order: Order, bytes: &[u8], counters: &mut [Count])
     requires { ⌜ (length (now bytes) ≡ recordLength) × (length (now counters) ≡ bins) ⌝ }
     ensures { λ _. ⌜ now (counters .exit) ≡ numbersIn order countWidth bins (bodyIn (now (bytes .entry))) ⌝ }
 {
     let mut places = [0u32; bins::BINS];
     read_words(order, bytes, record_layout::HEAD, &mut places);
     copy(&places, counters);
+}
+
+// High byte first every counter is turned on its way, so that places of its own would be a copy more.
+fn read_counters(order: Order, bytes: &[u8], counters: &mut [Count])
+    requires { ⌜ (length (now bytes) ≡ recordLength) × (length (now counters) ≡ bins) ⌝ }
+    ensures { λ _. ⌜ now (counters .exit) ≡ numbersIn order countWidth bins (bodyIn (now (bytes .entry))) ⌝ }
+{
+    match order {
+        Order::LowFirst => read_by_places(order, bytes, counters),
+        Order::HighFirst => read_words(order, bytes, record_layout::HEAD, counters),
+    }
 }
 
 // The counters of a model's record, or the refusal that comes first. Every check is made before a counter is written.

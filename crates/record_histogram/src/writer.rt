@@ -56,7 +56,7 @@ fn write_words(order: Order, words: &[u32], out: &mut [u8], at: usize)
 }
 
 // By way of places of its own, as in reading.
-fn write_counters(order: Order, counters: &[Count], out: &mut [u8])
+fn write_by_places(order: Order, counters: &[Count], out: &mut [u8])
     requires { ⌜ (length (now counters) ≡ bins) × (recordLength ≤ length (now out)) ⌝ }
     ensures { λ _. ⌜ now (out .exit) ≡ sets (now (out .entry)) headWidth (allBytes order countWidth (now (counters .entry))) ⌝ }
 {
@@ -67,6 +67,16 @@ fn write_counters(order: Order, counters: &[Count], out: &mut [u8])
         i += 1;
     }
     write_words(order, &places, out, record_layout::HEAD);
+}
+
+fn write_counters(order: Order, counters: &[Count], out: &mut [u8])
+    requires { ⌜ (length (now counters) ≡ bins) × (recordLength ≤ length (now out)) ⌝ }
+    ensures { λ _. ⌜ now (out .exit) ≡ sets (now (out .entry)) headWidth (allBytes order countWidth (now (counters .entry))) ⌝ }
+{
+    match order {
+        Order::LowFirst => write_by_places(order, counters, out),
+        Order::HighFirst => write_words(order, counters, out, record_layout::HEAD),
+    }
 }
 
 // The record of a histogram as a model has it, at the output's first places.

@@ -23,20 +23,7 @@ use Rattle.history_queue.proofs.Ring.{Suited, suits-it}
 use Rattle.history_queue.proofs.Held.{held-parts}
 use Rattle.record_layout.specs.declared.Model.{Model}
 use Rattle.record_layout.specs.declared.Kind.the-variants.{Queue as QueueKind}
-use Rattle.record_layout.specs.Layout.{
-  kindWidth,
-  headWidth,
-  numberWidth,
-  energyWidth,
-  queueLeast,
-  leastLength,
-  orderOf,
-  numbersIn,
-  entryBytes,
-  lengthIn,
-  frameRows,
-  recordOf,
-}
+use Rattle.record_layout.specs.Layout.{kindWidth, headWidth, numberWidth, energyWidth, queueLeast, leastLength, orderOf, numbersIn, entryBytes, frameRows, recordOf}
 use Rattle.base_refusals.proofs.Behind.{through}
 use Rattle.record_layout.proofs.Frames.{Framed, framed, passes}
 use Rattle.record_layout.proofs.Runs.{numbers-small}

@@ -1,12 +1,10 @@
 -- `record_conversion::convert_asked` meets its contract: a kind that is known is converted, and of one that is not no bytes are a record. Assumes nothing.
-use mathlib.Core.Path.{_≡_, refl, sym, ap, _∙_}
-use mathlib.Core.List.{List}
+use mathlib.Core.Path.{refl, sym, _∙_}
 use borrow.Author.Needs.{needs}
 use borrow.Author.Tests.{lt-ltb, le-ltb}
 use denote.Ref.{now}
 use lib.ListN.{length}
-use Rattle.record_layout.specs.declared.Known.{Known}
-use Rattle.record_layout.specs.Layout.{headWidth, knownOf}
+use Rattle.record_layout.specs.Layout.{headWidth}
 use Rattle.record_conversion.specs.Conversion.{converted, convertedAsked}
 use Rattle.record_conversion.proofs.convert_asked.Statement.{statement}
 use Rattle.record_conversion.proofs.convert_asked.Tie as tie

@@ -5,7 +5,6 @@ use Prim.Native.Nat.{ℕ}
 use native.Mathlib.Omega.{arith}
 use borrow.Author.Needs.{needs}
 use denote.Ref.{now}
-use lib.ListN.{length}
 use lib.Seq.{sets}
 use Rattle.base_refusals.specs.Outcome.{says, done}
 use Rattle.base_refusals.specs.Answer.{said}

@@ -4,10 +4,10 @@ use Prim.Native.Nat.{ℕ, _+_, _-_}
 use native.Mathlib.Omega.{arith}
 use borrow.Author.Needs.{needs}
 use denote.Ref.{now}
-use lib.ListN.{length, take, drop, length-drop}
+use lib.ListN.{drop, length-drop}
 use lib.Seq.{sets, getD-drop}
 use Rattle.base_fields.specs.declared.Order.the-variants.{LowFirst, HighFirst}
-use Rattle.base_fields.specs.Field.{bytesOf, numberIn}
+use Rattle.base_fields.specs.Field.{bytesOf}
 use Rattle.base_fields.proofs.Orders.{number-within, turned-field}
 use Rattle.record_queue_writer.proofs.Places.{field-put}
 use Rattle.record_conversion.specs.Inner.{widthOf}

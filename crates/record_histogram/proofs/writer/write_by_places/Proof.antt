@@ -1,4 +1,4 @@
--- `writer::write_counters` meets its contract. The invariant: the places filled and the counters to come are all the counters, so the places have
+-- `writer::write_by_places` meets its contract. The invariant: the places filled and the counters to come are all the counters, so the places have
 -- every counter before they are written. Assumes nothing.
 use mathlib.Core.Path.{_≡_, refl, sym, ap, _∙_}
 use mathlib.Core.List.{List, _++_}
@@ -11,8 +11,8 @@ use lib.Seq.{sets}
 use Rattle.bins.specs.Bin.{bins}
 use Rattle.record_layout.specs.Layout.{allBytes}
 use Rattle.record_histogram.proofs.Copies.{copy-turn, copy-end}
-use Rattle.record_histogram.proofs.writer.write_counters.Statement.{statement}
-use Rattle.record_histogram.proofs.writer.write_counters.Tie as tie
+use Rattle.record_histogram.proofs.writer.write_by_places.Statement.{statement}
+use Rattle.record_histogram.proofs.writer.write_by_places.Tie as tie
 
 abbrev Inv-loop : tie.InvT-loop
 Inv-loop order counters out places₀ i₀ places i = (length places ≡ bins) × (take i places ++ drop i counters ≡ counters)
@@ -38,8 +38,8 @@ returns c =
     ∙ ap (λ (o : List ℕ). sets (now (a .out)) 6 (allBytes (a .order) 4 o))
     (sym (copy-end (now (a .counters)) (l .loop .places) (l .loop .i) (omega arith) (omega arith)) ∙ l .loop .inv .1)
 
-pub write-counters-spec : {M : Type 1} → statement M
-write-counters-spec =
+pub write-by-places-spec : {M : Type 1} → statement M
+write-by-places-spec =
     tie.close
     (tie.spec Inv-loop μ-loop loop-holds (λ c. search needs) (λ c. search needs) (λ c. search needs) (λ c. search needs) (λ c. search needs) (λ c. search needs)
     loop-again (λ c. search needs) (λ c. search needs) (λ c. search needs) returns)
