@@ -102,22 +102,20 @@ fn pattern_at(order: Order, bytes: &[u8], at: usize) -> u64
     base_fields::words::double_word(order, &bytes[at..end])
 }
 
-// Up to the first pattern that does not fit.
+// Every pattern is looked at, also past one that does not fit.
 fn all_fit(order: Order, bytes: &[u8], at: usize, count: usize) -> bool
     requires { ⌜ at + energyWidth * count ≤ length (now bytes) ⌝ }
     ensures { λ r. ⌜ r ≡ allFit (numbersIn order energyWidth count (drop at (now (bytes .entry)))) ⌝ }
 {
+    let mut fit = true;
     let mut i = 0;
     while i < count {
-        if !pattern_fits(pattern_at(order, bytes, at + ENERGY * i)) {
-            return false;
-        }
+        fit = fit & pattern_fits(pattern_at(order, bytes, at + ENERGY * i));
         i += 1;
     }
-    true
+    fit
 }
 
-// Every pattern is looked at, also past one that is not finite.
 fn all_finite(order: Order, bytes: &[u8], at: usize, count: usize) -> bool
     requires { ⌜ at + energyWidth * count ≤ length (now bytes) ⌝ }
     ensures { λ r. ⌜ r ≡ allFinite (numbersIn order energyWidth count (drop at (now (bytes .entry)))) ⌝ }
@@ -132,7 +130,7 @@ fn all_finite(order: Order, bytes: &[u8], at: usize, count: usize) -> bool
 }
 
 // Infinity and NaN are rare, and the test that lets them in takes longer.
-fn finite_or_fit(order: Order, bytes: &[u8], at: usize, count: usize) -> bool
+fn energies_fit(order: Order, bytes: &[u8], at: usize, count: usize) -> bool
     requires { ⌜ at + energyWidth * count ≤ length (now bytes) ⌝ }
     ensures { λ r. ⌜ r ≡ allFit (numbersIn order energyWidth count (drop at (now (bytes .entry)))) ⌝ }
 {
@@ -140,17 +138,6 @@ fn finite_or_fit(order: Order, bytes: &[u8], at: usize, count: usize) -> bool
         return true;
     }
     all_fit(order, bytes, at, count)
-}
-
-// High byte first patterns are quicker looked at one by one.
-fn energies_fit(order: Order, bytes: &[u8], at: usize, count: usize) -> bool
-    requires { ⌜ at + energyWidth * count ≤ length (now bytes) ⌝ }
-    ensures { λ r. ⌜ r ≡ allFit (numbersIn order energyWidth count (drop at (now (bytes .entry)))) ⌝ }
-{
-    match order {
-        Order::LowFirst => finite_or_fit(order, bytes, at, count),
-        Order::HighFirst => all_fit(order, bytes, at, count),
-    }
 }
 
 fn read_energies(order: Order, bytes: &[u8], at: usize, count: usize, store: &mut [f64])

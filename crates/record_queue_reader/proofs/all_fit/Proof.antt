@@ -1,10 +1,9 @@
--- `record_queue_reader::all_fit` meets its contract. The invariant: what the patterns left give is what all give. Assumes nothing.
+-- `record_queue_reader::all_fit` meets its contract. The invariant: what was found, with what the patterns left give, is what all give. Assumes nothing.
 use mathlib.Core.Path.{_≡_, sym, ap, _∙_}
-use mathlib.Core.Bool.{Bool, true, false, _&&_}
+use mathlib.Core.Bool.{_&&_}
 use Prim.Native.Nat.{_+_, _-_, _*_, _≤_}
 use native.Mathlib.Omega.{arith}
 use borrow.Author.Needs.{needs}
-use borrow.Author.Tests.{not-true, not-false}
 use denote.Ref.{now}
 use lib.ListN.{drop}
 use Rattle.record_layout.specs.Layout.{numbersIn}
@@ -15,54 +14,38 @@ use Rattle.record_queue_reader.proofs.all_fit.Statement.{statement}
 use Rattle.record_queue_reader.proofs.all_fit.Tie as tie
 
 abbrev Inv-loop : tie.InvT-loop
-Inv-loop order bytes at count i₀ i = (i ≤ count) × (allFit (numbersIn order 8 (count - i) (drop (at + 8 * i) bytes)) ≡ allFit (numbersIn order 8 count (drop at bytes)))
+Inv-loop order bytes at count fit₀ i₀ fit i =
+    (i ≤ count) × (fit && allFit (numbersIn order 8 (count - i) (drop (at + 8 * i) bytes)) ≡ allFit (numbersIn order 8 count (drop at bytes)))
 
 abbrev μ-loop : tie.MeasureT-loop
-μ-loop order bytes at count i₀ i = count - i
+μ-loop order bytes at count fit₀ i₀ fit i = count - i
 
 loop-holds : tie.Need-loop-holds Inv-loop μ-loop
-loop-holds c = let a = c .before .args in (omega arith, ap allFit (all-left (a .order) 8 (now (a .bytes)) (a .at) (a .count)))
-
--- this pattern and the others give what all give
-turn : (c : tie.After-pattern-fits Inv-loop μ-loop) →
-    let l = c .before .before .before in
-    let a = l .before .before .args in
-    let i = l .loop .i in
-    c .pattern-fits .result && allFit (numbersIn (a .order) 8 (a .count - (i + 1)) (drop (a .at + 8 * (i + 1)) (now (a .bytes))))
-    ≡ allFit (numbersIn (a .order) 8 (a .count) (drop (a .at) (now (a .bytes))))
-turn c =
-    let p = c .before in
-    let l = p .before .before in
-    let a = l .before .before .args in
-    let i = l .loop .i in
-    test-turn (a .order) 8 (now (a .bytes)) (a .at + 8 * i) (a .at + 8 * (i + 1)) (a .count - i) (a .count - (i + 1)) (p .pattern-at .result) (omega arith) (omega arith)
-    (p .pattern-at .ensures) patternFits true (c .pattern-fits .result) (c .pattern-fits .ensures)
-    ∙ l .loop .inv .1
-
-returns : tie.Need-returns Inv-loop μ-loop
-returns c =
-    let f = c .before in
-    let l = f .before .before .before in
-    let a = l .before .before .args in
-    let rest = allFit (numbersIn (a .order) 8 (a .count - (l .loop .i + 1)) (drop (a .at + 8 * (l .loop .i + 1)) (now (a .bytes)))) in
-    sym (ap (λ (b : Bool). b && rest) (not-true (f .pattern-fits .result) (c .if1 .taken))) ∙ turn f
+loop-holds c =
+    let a = c .before .args in
+    (omega arith, ap allFit (all-left (a .order) 8 (now (a .bytes)) (a .at) (a .count)))
 
 loop-again : tie.Need-loop-again Inv-loop μ-loop
 loop-again c =
-    let f = c .before in
-    let l = f .before .before .before in
+    let d = c .before in
+    let l = d .before .before in
     let a = l .before .before .args in
-    let rest = allFit (numbersIn (a .order) 8 (a .count - (l .loop .i + 1)) (drop (a .at + 8 * (l .loop .i + 1)) (now (a .bytes)))) in
-    (omega arith, sym (ap (λ (b : Bool). b && rest) (not-false (f .pattern-fits .result) (c .if1 .left))) ∙ turn f)
+    let i = l .loop .i in
+    let at = a .at + 8 * i in (
+      omega arith,
+      test-turn (a .order) 8 (now (a .bytes)) at (a .at + 8 * (i + 1)) (a .count - i) (a .count - (i + 1)) (d .pattern-at .result) (omega arith) (omega arith)
+          (d .pattern-at .ensures) patternFits (l .loop .fit) (c .pattern-fits .result) (c .pattern-fits .ensures)
+          ∙ l .loop .inv .1,
+    )
 
-returns-2 : tie.Need-returns-2 Inv-loop μ-loop
-returns-2 c =
+returns : tie.Need-returns Inv-loop μ-loop
+returns c =
     let l = c .before in
     let a = l .before .before .args in
-    sym (test-end (a .order) 8 (a .count - l .loop .i) (drop (a .at + 8 * l .loop .i) (now (a .bytes))) patternFits true (omega arith)) ∙ l .loop .inv .1
+    sym (test-end (a .order) 8 (a .count - l .loop .i) (drop (a .at + 8 * l .loop .i) (now (a .bytes))) patternFits (l .loop .fit) (omega arith)) ∙ l .loop .inv .1
 
 pub all-fit-spec : {M : Type 1} → statement M
 all-fit-spec =
     tie.close
-    (tie.spec Inv-loop μ-loop loop-holds (λ c. search needs) (λ c. search needs) (λ c κs. omega arith) (λ c. search needs) returns (λ c. search needs)
-    (λ c. search needs) loop-again returns-2)
+    (tie.spec Inv-loop μ-loop loop-holds (λ c. search needs) (λ c. search needs) (λ c κs. omega arith) (λ c. search needs) (λ c. search needs)
+    (λ c. search needs) loop-again returns)

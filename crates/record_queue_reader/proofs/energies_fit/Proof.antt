@@ -1,12 +1,12 @@
--- `record_queue_reader::finite_or_fit` meets its contract: energies that are all finite fit. Assumes nothing.
+-- `record_queue_reader::energies_fit` meets its contract: energies that are all finite fit. Assumes nothing.
 use mathlib.Core.Path.{sym, _∙_}
 use borrow.Author.Needs.{needs}
 use denote.Ref.{now}
 use lib.ListN.{drop}
 use Rattle.record_layout.specs.Layout.{numbersIn}
 use Rattle.record_queue_reader.proofs.Patterns.{finite-fit}
-use Rattle.record_queue_reader.proofs.finite_or_fit.Statement.{statement}
-use Rattle.record_queue_reader.proofs.finite_or_fit.Tie as tie
+use Rattle.record_queue_reader.proofs.energies_fit.Statement.{statement}
+use Rattle.record_queue_reader.proofs.energies_fit.Tie as tie
 
 returns : tie.Need-returns
 returns c =
@@ -14,5 +14,5 @@ returns c =
     let a = f .before .before .args in
     sym (finite-fit (numbersIn (a .order) 8 (a .count) (drop (a .at) (now (a .bytes)))) (sym (f .all-finite .ensures) ∙ c .if1 .taken))
 
-pub finite-or-fit-spec : {M : Type 1} → statement M
-finite-or-fit-spec = tie.close (tie.spec (λ c. search needs) returns (λ c. search needs) (λ c. search needs))
+pub energies-fit-spec : {M : Type 1} → statement M
+energies-fit-spec = tie.close (tie.spec (λ c. search needs) returns (λ c. search needs) (λ c. search needs))
