@@ -2,8 +2,6 @@
 // Each begins: u16 kind asked for, u16 number of bytes given, u16 places of the output, u16 refusal (0: none), u16 bytes written. Before, each byte of the
 // output is 5A hex.
 use crate::count_at;
-use record_layout::Kind;
-use record_layout::Model;
 
 // A histogram's record: the bytes given and the bytes written, each told by what is not 0 in it.
 pub(crate) fn histogram_same(case: &[u8]) -> bool {
@@ -40,21 +38,7 @@ fn part(case: &[u8], bytes: &[u8], out: &mut [u8]) -> bool {
 }
 
 fn converted(case: &[u8], bytes: &[u8], out: &mut [u8]) -> bool {
-    let kind = kind_of(count_at(case, 0));
-    let written = record_conversion::convert(kind, bytes, out);
+    let asked = base_fields::number_at(case, 0, 2);
+    let written = record_conversion::convert_asked(asked, bytes, out);
     crate::written_same(case, 6, 8, written)
-}
-
-// The list has these four numbers only.
-fn kind_of(number: usize) -> Kind {
-    if number == 1 {
-        return Kind::Histogram(Model::Ours);
-    }
-    if number == 257 {
-        return Kind::Histogram(Model::Third);
-    }
-    if number == 2 {
-        return Kind::Queue(Model::Ours);
-    }
-    Kind::Queue(Model::Third)
 }
