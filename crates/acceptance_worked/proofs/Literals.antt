@@ -1,4 +1,4 @@
--- The numbers of 01 beside the definitions', by one computed check. Assumes nothing.
+-- The numbers of 01 and 02 beside the definitions', by one computed check. Assumes nothing.
 use mathlib.Core.Path.{refl}
 use lib.Ieee.{ofBits, toBits, round, lt, neg, div, ofInt}
 use Rattle.history_queue.specs.Queue.{suits}
@@ -6,9 +6,9 @@ use Rattle.gate.specs.Relative.{tenth, lowest}
 use Rattle.range_ranks.specs.Span.{hundredth}
 use Rattle.samples.specs.Sample.{sampleIn}
 use Rattle.base_fields.specs.Field.{fieldAt, lowBytes}
-use Rattle.record_layout.specs.Layout.{numbersIn}
+use Rattle.record_layout.specs.Layout.{numbersIn, allBytes}
 use Rattle.acceptance_worked.specs.Literals.{AsWritten}
 
 pub literals : AsWritten
-unfolding ofBits toBits round lt neg div ofInt suits tenth lowest hundredth sampleIn fieldAt lowBytes numbersIn
+unfolding ofBits toBits round lt neg div ofInt suits tenth lowest hundredth sampleIn fieldAt lowBytes numbersIn allBytes
 literals = refl

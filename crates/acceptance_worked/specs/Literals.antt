@@ -21,7 +21,7 @@ use Rattle.filter_recurrence.specs.Recurrence.{flush}
 use Rattle.true_peak_interp.specs.Interp.{Kind, upsampled, noTruePeak, kindOf}
 use Rattle.record_layout.specs.declared.Model.the-variants.{Ours, Third}
 use Rattle.record_layout.specs.declared.Kind.the-variants.{Histogram, Queue}
-use Rattle.record_layout.specs.Layout.{kindNumber, canBe, lengthIn, kindIn, headOf}
+use Rattle.record_layout.specs.Layout.{kindNumber, canBe, entriesIn, entryBytes, lengthIn, kindIn, headOf}
 use Rattle.record_queue_reader.specs.QueueRecord.{nanPattern, maximumIn, heldIn, patternsIn}
 
 -- what a line compares
@@ -58,7 +58,7 @@ abbrev pub scans : ℕ → ℕ → Kind
 scans factor taps = upsampled (record { factor = factor; taps = taps })
 
 -- a record of kind 258 (02, CR 3: "our own length and kind in front, low byte first, then the old body with each field high byte first"): maximum 3,600, and two energies held,
--- 1 and 2; and the bytes of a body's first counters, and of a queue's two numbers behind a head of our own
+-- 1 and 2
 abbrev pub thirdQueue : List ℕ
 thirdQueue =
     0x1A ∷ 0 ∷ 0 ∷ 0 ∷ 0x02 ∷ 0x01
@@ -132,7 +132,8 @@ lines =
     ∷ answersNo (canBe (Histogram Ours) 4_003)
     ∷ answersNo (canBe (Queue Ours) 9)
     ∷ answersYes (canBe (Queue Ours) 10)
-    -- 02, CR 3: "kind 257 (counters) and kind 258 (energies)", lengths as for kinds 1 and 2; the record above, read as its own kind and, as it stands, as ours
+    -- 02, CR 3: "kind 257 (counters) and kind 258 (energies)", lengths as for kinds 1 and 2; the record above, read as its own kind and, as it stands, as ours; its
+    -- numbers as two counters of kind 257; and the same bytes written
     ∷ has (kindNumber (Histogram Third)) 257
     ∷ has (kindNumber (Queue Third)) 258
     ∷ answersYes (canBe (Histogram Third) 4_002)
@@ -147,6 +148,13 @@ lines =
     ∷ has (getD (patternsIn Third thirdQueue) 1 0) 0x4000_0000_0000_0000
     ∷ has (maximumIn Ours thirdQueue) 0x100E_0000
     ∷ has (heldIn Ours thirdQueue) 0x0200_0000
+    ∷ has (getD (entriesIn (Histogram Third) 2 thirdQueue) 0 0) 3_600
+    ∷ has (getD (entriesIn (Histogram Third) 2 thirdQueue) 1 0) 2
+    ∷ has (getD (entriesIn (Histogram Ours) 2 thirdQueue) 0 0) 0x100E_0000
+    ∷ has (getD (entryBytes (Histogram Third) (3_600 ∷ [])) 2 0) 0x0E
+    ∷ has (getD (entryBytes (Histogram Third) (3_600 ∷ [])) 3 0) 0x10
+    ∷ has (getD (entryBytes (Queue Third) (0x3FF0_0000_0000_0000 ∷ [])) 0 0) 0x3F
+    ∷ has (getD (entryBytes (Queue Third) (0x3FF0_0000_0000_0000 ∷ [])) 1 0) 0xF0
     ∷ has (getD (headOf (Queue Third) 26) 4 0) 0x02
     ∷ has (getD (headOf (Queue Third) 26) 5 0) 0x01
     ∷ has nanPattern 0x7FF8_0000_0000_0000

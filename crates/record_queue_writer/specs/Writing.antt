@@ -36,9 +36,6 @@ unfoldable pub writeEnergies : Model → Stored → List ℕ → Outcome (List �
 writeEnergies model s out = byRows (writeEnergiesRows model s out) (writtenTo out (energiesRecord model (s .queue .maximum) (heldOf s)))
 
 -- kind 2, and kind 258
-abbrev pub queueRecord : ℕ → List Float → List ℕ
-queueRecord maximum energies = energiesRecord Ours maximum energies
-
 abbrev pub writeQueue : Stored → List ℕ → Outcome (List ℕ) ℕ
 writeQueue s out = writeEnergies Ours s out
 
