@@ -10,13 +10,13 @@ mod histories;
 mod questions;
 mod records;
 
-use driver::energies::{self, above, below};
+use driver::energies;
 use driver::oracle::{self, BOUNDARIES, ENERGIES};
 use driver::rng::Rng;
 
 const SEED: u64 = 128;
 const BINS: usize = 4096;
-const READINGS: usize = 2048;
+const READINGS: usize = 8192;
 
 /// The bytes of an operation's name, spaces after it.
 const NAME: usize = 20;
@@ -132,12 +132,9 @@ fn bins() -> Vec<Vec<u8>> {
 }
 
 /// Operation 3: u64 float pattern of the energy, u16 refusal (0: answered), u16 tenths + 700 (0 where
-/// refused). Each boundary, a unit below every other one, a unit above both ends, the specials, then
-/// random energies.
+/// refused). Each boundary, each table energy and their neighbours, the specials, then random energies.
 fn readings() -> Vec<Vec<u8>> {
-    let chosen = BOUNDARIES.iter().copied();
-    let chosen = chosen.chain(BOUNDARIES.iter().step_by(2).copied().map(below));
-    let chosen = chosen.chain([above(BOUNDARIES[0]), above(BOUNDARIES[1000])]);
+    let chosen = energies::table_values().flat_map(energies::with_neighbours);
     filled(chosen, READINGS)
         .map(|energy| {
             let (refusal, reading) = match oracle::reading(energy) {
