@@ -87,7 +87,8 @@ double xel_energy(size_t i);
 size_t xel_find_histogram_index(double energy);
 
 /*
- * The reading of an energy in tenths of a LUFS: -700 + its bin, so -700 to 299.
+ * The reading of an energy: the nearest tenth of a LUFS, in tenths. It is -700 + the energy's bin where
+ * the energy is below that bin's table energy, else one more, so -700 to 300.
  *
  *   energy   any value
  *   tenths   receives the reading; must point to an int32_t. Left as it was on a refusal

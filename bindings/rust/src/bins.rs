@@ -21,7 +21,8 @@ pub fn find_histogram_index(energy: f64) -> usize {
     unsafe { sys::xel_find_histogram_index(energy) }
 }
 
-/// The reading of an energy in tenths of a LUFS: -700 + its bin.
+/// The reading of an energy: the nearest tenth of a LUFS, in tenths. It is -700 + the energy's bin where the energy is below
+/// that bin's table energy, else one more, so -700 to 300.
 ///
 /// Refuses [`Refusal::Scale`] where the energy is NaN, below boundary 0, or at or above boundary 1000.
 pub fn reading(energy: f64) -> Result<i32, Refusal> {

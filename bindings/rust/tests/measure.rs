@@ -10,7 +10,7 @@ mod sound;
 use measurement::Measurement;
 use readings::{loudness, readings};
 use sound::{Kind, Sound};
-use xelamphoun::{Range, Refusal, Set};
+use xelamphoun::{reading, Range, Refusal, Set};
 
 /// A stereo tone of 1000 Hz at 48000, in steps of seconds and decibels.
 fn tone(steps: &[(usize, f64)]) -> Vec<f32> {
@@ -68,8 +68,12 @@ fn a_tone_of_minus_23_has_minus_23() {
         (m.frames, m.blocks.number, m.short_blocks.number),
         (960_000, 197, 18)
     );
-    let integrated = loudness(Set::from(&m.blocks.histogram).gated_energy().unwrap());
+    let energy = Set::from(&m.blocks.histogram).gated_energy().unwrap();
+    let integrated = loudness(energy);
     assert!((integrated + 23.0).abs() <= 0.1, "{integrated}");
+    // the reading is a nearest tenth; a bin's own energy stands half way between two
+    let tenths = f64::from(reading(energy).unwrap());
+    assert!((tenths - 10.0 * integrated).abs() <= 0.5 + 1e-9, "{tenths}");
 }
 
 #[test]

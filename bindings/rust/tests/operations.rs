@@ -16,6 +16,11 @@ const HALVING: Coefficients = Coefficients {
 
 const MONO: &[Channel] = &[Channel::Used];
 
+/// The float one unit in the last place below; `energy` is positive.
+fn below(energy: f64) -> f64 {
+    f64::from_bits(energy.to_bits() - 1)
+}
+
 #[test]
 fn bins_and_readings() {
     assert_eq!(find_histogram_index(boundary(0)), 0);
@@ -24,7 +29,12 @@ fn bins_and_readings() {
     for i in 0..BINS {
         assert!(boundary(i) < energy(i) && energy(i) < boundary(i + 1));
         assert_eq!(find_histogram_index(energy(i)), i);
-        assert_eq!(reading(energy(i)), Ok(i as i32 - 700));
+        // the nearest tenth: in the lower half of a bin, and from its table energy on
+        let tenths = i as i32 - 700;
+        assert_eq!(reading(boundary(i)), Ok(tenths));
+        assert_eq!(reading(below(energy(i))), Ok(tenths));
+        assert_eq!(reading(energy(i)), Ok(tenths + 1));
+        assert_eq!(reading(below(boundary(i + 1))), Ok(tenths + 1));
     }
     assert!(boundary(BOUNDARIES).is_nan() && boundary(usize::MAX).is_nan());
     assert!(energy(BINS).is_nan() && energy(usize::MAX).is_nan());

@@ -21,14 +21,20 @@ pub fn bin(energy: f64) -> usize {
     find_histogram_index(energy)
 }
 
-/// The reading of an energy in tenths, or SCALE. The Rust has no readings: these are document 01's
-/// words over the Rust's own search and tables.
+/// The reading of an energy in tenths, or SCALE. The Rust has no readings: these are the words of
+/// document 01 on SCALE and of change request 1 on the tenths, over the Rust's own search and tables.
 #[inline(never)]
 pub fn reading(energy: f64) -> Result<i32, u8> {
     if energy.is_nan() || energy < BOUNDARIES[0] || energy >= BOUNDARIES[1000] {
         return Err(SCALE);
     }
-    Ok(-700 + find_histogram_index(energy) as i32)
+    let bin = find_histogram_index(energy);
+    let tenths = -700 + bin as i32;
+    Ok(if energy < ENERGIES[bin] {
+        tenths
+    } else {
+        tenths + 1
+    })
 }
 
 /// A histogram that is asked about one energy at a time.

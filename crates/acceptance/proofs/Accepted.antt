@@ -6,6 +6,7 @@ use Rattle.acceptance_records.proofs.Conversion.{conversion-keeps, four-kinds}
 use Rattle.acceptance_records.proofs.Report.{report-refused, report-tells}
 use Rattle.acceptance_interface.proofs.Interface.{interface}
 use Rattle.acceptance_scale.proofs.Scale.{on-scale}
+use Rattle.acceptance_scale.proofs.Readings.{reading-is-nearest}
 use Rattle.acceptance_meaning.proofs.Gate.{gate-is-bs1770's}
 use Rattle.acceptance_meaning.proofs.Range.{range-is-tech3342's}
 use Rattle.acceptance_meaning.proofs.Ranks.{ranks-are-the-rust's}
@@ -28,6 +29,7 @@ accepted = record {
   ranks = ranks-are-the-rust's;
   dealing = demand-3;
   reported = report-tells;
+  reading = reading-is-nearest;
   conversion = conversion-keeps;
   kinds = four-kinds;
   fixed = each-fixed;

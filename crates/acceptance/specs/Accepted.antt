@@ -7,6 +7,7 @@ use Rattle.acceptance_records.specs.Conversion.{ConversionKeeps, FourKinds}
 use Rattle.acceptance_records.specs.Report.{ReportRefused, ReportTells}
 use Rattle.acceptance_interface.specs.Interface.{Interface}
 use Rattle.acceptance_scale.specs.Scale.{OnScale}
+use Rattle.acceptance_scale.specs.Readings.{ReadingIsNearest}
 use Rattle.acceptance_meaning.specs.Gate.{GateIsBs1770}
 use Rattle.acceptance_meaning.specs.Range.{RangeIsTech3342}
 use Rattle.acceptance_meaning.specs.Ranks.{RanksAreTheRusts}
@@ -31,6 +32,8 @@ pub record Accepted : Type 0 where
   -- demand 3: energies dealt to histograms and merged, and the report on what was merged
   pub dealing : Demand3
   pub reported : ReportTells
+  -- change request 1: a reading is the nearest tenth, from -70.0 to 30.0 LUFS, and never falls where the energy rises
+  pub reading : ReadingIsNearest
   -- change request 3: the conversion keeps every count and energy, and KIND knows four
   pub conversion : ConversionKeeps
   pub kinds : FourKinds

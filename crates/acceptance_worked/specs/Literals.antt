@@ -118,7 +118,7 @@ lines =
     ∷ is (scan (kindOf 96_000)) (scan (scans 2 24))
     ∷ is (scan (kindOf 191_999)) (scan (scans 2 24))
     ∷ is (scan (kindOf 192_000)) (scan noTruePeak)
-    -- "-700 + its bin, in tenths"
+    -- 02, CR 1: "-700 + bin", in tenths
     ∷ is (signed lowest) (signed (negsuc 699))
     -- "the f64 nearest 1/10", "the f64 nearest 1/100", "-70.0 when empty"
     ∷ is (float tenth) (float (f64 0x3FB9_9999_9999_999A))

@@ -1,9 +1,8 @@
 -- `search::reading` meets its contract: each refusing test puts the energy off the scale, and past all three it is on it.
 -- Assumes nothing.
 use mathlib.Core.Path.{_≡_, sym, ap, _∙_}
-use Prim.Native.Nat.{_<_}
+use Prim.Native.Nat.{_≤_}
 use borrow.Author.Needs.{needs}
-use native.Mathlib.Nat.{le-of-lt}
 use native.Mathlib.Omega.{arith}
 use lib.Ieee.{Float, lt, le}
 use lib.IntN.{negsuc, pos, _+ℤ_}
@@ -11,8 +10,7 @@ use mir.Syntax.{w32}
 use mir.Val.{toZ}
 use mir.ValLaws.{toZ-ofZ, toZ-pos}
 use Rattle.base_floats.proofs.Nan.{differs}
-use Rattle.bins.proofs.Bins.{bin-below}
-use Rattle.bins.proofs.Readings.{off-scale, on-scale, nan-off, low-off, high-off, none-off, tenths-fit}
+use Rattle.bins.proofs.Readings.{off-scale, on-scale, nan-off, low-off, high-off, none-off, tenth-most, tenths-fit}
 use Rattle.bins.proofs.search.reading.Statement.{statement}
 use Rattle.bins.proofs.search.reading.Tie as tie
 
@@ -29,29 +27,29 @@ returns-3 c =
     let e = c .before .before .before .before .before .args .energy in
     rw (off-scale e (high-off e (ap (λ (b : Float). le b e) (sym (c .before .highest-boundary .ensures)) ∙ c .if3 .taken)))
 
-small : (c : tie.After-find-histogram-index) → c .find-histogram-index .result < 1000
-small c = omega (arith, c .find-histogram-index .ensures, bin-below (c .before .before .before .before .before .before .args .energy))
+small : (c : tie.After-nearest-tenth) → c .nearest-tenth .result ≤ 1000
+small c = rw (c .nearest-tenth .ensures) (tenth-most (c .before .before .before .before .before .before .args .energy))
 
 cast-t5 : tie.Need-cast-t5
 cast-t5 c = record { sfits = omega (arith, small c) }
 
-signed : (c : tie.After-find-histogram-index) → toZ w32 (c .find-histogram-index .result) ≡ pos (c .find-histogram-index .result)
-signed c = toZ-pos w32 (c .find-histogram-index .result) (omega (arith, small c))
+signed : (c : tie.After-nearest-tenth) → toZ w32 (c .nearest-tenth .result) ≡ pos (c .nearest-tenth .result)
+signed c = toZ-pos w32 (c .nearest-tenth .result) (omega (arith, small c))
 
 add-t6 : tie.Need-add-t6
-add-t6 c = rw (signed c) (tenths-fit (c .find-histogram-index .result) (le-of-lt (small c)))
+add-t6 c = rw (signed c) (tenths-fit (c .nearest-tenth .result) (small c))
 
 returns-4 : tie.Need-returns-4
 returns-4 c =
     let e = c .before .before .before .before .before .before .args .energy in
-    let bin = c .find-histogram-index .result in
+    let tenth = c .nearest-tenth .result in
     rw (
       on-scale e (none-off e (sym (differs e) ∙ c .before .before .before .before .before .if1 .left)
           (ap (lt e) (sym (c .before .before .before .before .lowest-boundary .ensures)) ∙ c .before .before .before .if2 .left)
           (ap (λ (b : Float). le b e) (sym (c .before .before .highest-boundary .ensures)) ∙ c .before .if3 .left)),
       signed c,
-      toZ-ofZ w32 (negsuc 699 +ℤ pos bin) (tenths-fit bin (le-of-lt (small c))),
-      ← c .find-histogram-index .ensures,
+      toZ-ofZ w32 (negsuc 699 +ℤ pos tenth) (tenths-fit tenth (small c)),
+      ← c .nearest-tenth .ensures,
     )
 
 pub reading-spec : {M : Type 1} → statement M

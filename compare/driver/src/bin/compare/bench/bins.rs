@@ -29,7 +29,7 @@ fn find_histogram_index(inputs: &str, energies: &[f64]) {
     );
 }
 
-/// The Rust has no readings: its side is document 01's words over its search, as one call.
+/// The Rust has no readings: its side is change request 1's words over its search and tables, as one call.
 fn reading(inputs: &str, energies: &[f64]) {
     row(
         &format!("reading, {inputs}"),

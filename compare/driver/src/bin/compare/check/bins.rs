@@ -98,11 +98,37 @@ fn find_histogram_index_through_history(rng: &mut Rng) -> Result<(), Difference>
     op.same("the Rust's History, one block each", &[])
 }
 
-/// On a refusal `tenths` stays as it was.
+/// Where an energy of the scale lies within its bin.
+const HALVES: [&str; 3] = [
+    "below its bin's table energy",
+    "at its bin's table energy",
+    "above its bin's table energy",
+];
+
+fn half(energy: f64) -> &'static str {
+    let middle = ENERGIES[oracle::bin(energy)];
+    if energy < middle {
+        HALVES[0]
+    } else if energy == middle {
+        HALVES[1]
+    } else {
+        HALVES[2]
+    }
+}
+
+/// Whether the reading is a tenth nearest the loudness, by BS.1770's logarithm and no table: half a tenth
+/// off at most, and what the tables and the logarithm are off by.
+fn nearest(tenths: i32, energy: f64) -> bool {
+    let loudness = -0.691 + 10.0 * energy.log10();
+    (f64::from(tenths) - 10.0 * loudness).abs() <= 0.5 + 1e-10
+}
+
+/// On a refusal `tenths` stays as it was. Each of the 1,001 readings has to be seen in each round.
 fn reading(rng: &mut Rng) -> Result<(), Difference> {
     const UNTOUCHED: i32 = 0x5E17_1E55;
     let scale = OUTSIDE.map(|why| Check::new(SCALE, why));
-    let mut op = Operation::new("reading").can(&scale);
+    let mut op = Operation::new("reading").can(&HALVES).can(&scale);
+    let mut read = [false; 1001];
     for energy in inputs(RANDOM_READINGS, rng) {
         let mut tenths = UNTOUCHED;
         let number = ours::reading(energy, &mut tenths);
@@ -112,9 +138,22 @@ fn reading(rng: &mut Rng) -> Result<(), Difference> {
         };
         op.answer(|| shown(energy), number, expected)?;
         op.also(|| shown(energy), "the tenths", tenths == written)?;
-        if number != 0 {
+        if number == 0 {
+            op.also(|| shown(energy), "nearest", nearest(tenths, energy))?;
+            op.saw(half(energy));
+            read[(tenths + 700) as usize] = true;
+        } else {
             op.saw(Check::new(number, place(energy)));
         }
     }
-    op.same("document 01 over the Rust's own loop and tables", &[SCALE])
+    let read = read.iter().filter(|&&read| read).count();
+    if read < 1001 {
+        return Err(Difference(format!(
+            "only {read} of 1001 readings were seen"
+        )));
+    }
+    op.same(
+        "change request 1 over the Rust's own loop and tables; all 1001 readings seen each round",
+        &[SCALE],
+    )
 }
