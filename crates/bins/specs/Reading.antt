@@ -10,8 +10,8 @@ use Rattle.base_refusals.specs.Outcome.{Question, answers, Said, says, refusal}
 use Rattle.base_refusals.specs.Rows.{Row, row, byRows}
 use Rattle.bins.specs.declared.search.Level.{Level}
 use Rattle.bins.specs.declared.search.Level.the-variants.{Tenths, Refused}
-use Rattle.bins.specs.Bin.{binOf, bins}
 use Rattle.bins_tables.specs.Tables.{boundaryAt, energyAt}
+use Rattle.bins.specs.Bin.{binOf, bins}
 
 -- the lowest reading, in tenths: -70.0 LUFS
 abbrev pub lowest : ℤ
@@ -20,7 +20,8 @@ lowest = negℤ (pos 700)
 unfoldable pub offScale : Float → Bool
 offScale energy = isNan energy || (lt energy (boundaryAt 0) || le (boundaryAt bins) energy)
 
--- the tenth nearest an energy of the scale, counted from the lowest. A bin's table energy stands in the bin's middle: below it the bin's own tenth is the nearest one, from it on the next
+-- the tenth nearest an energy of the scale, counted from the lowest. A bin's table energy stands in the bin's middle: below it the tenth where the bin begins is the nearest,
+-- from it on the next
 unfoldable pub nearestTenth : Float → ℕ
 nearestTenth energy = cond (lt energy (energyAt (binOf energy))) (binOf energy) (binOf energy + 1)
 
