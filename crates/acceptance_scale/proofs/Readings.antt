@@ -14,7 +14,7 @@ use Rattle.base_floats.proofs.Order.{is-true, is-false, float-le-trans, lt→le
 use Rattle.base_refusals.specs.Outcome.{answers, saidBy}
 use Rattle.base_refusals.proofs.Behind.{passed}
 use Rattle.bins_tables.specs.Tables.{boundaryAt, energyAt}
-use Rattle.bins_tables.proofs.Rules.{boundary-below-energy, energy-below-next, boundaries-rise}
+use Rattle.bins_tables.proofs.Rules.{boundary-below-energy, energy-below-next, same-boundary, boundaries-rise}
 use Rattle.bins.specs.Bin.{binOf}
 use Rattle.bins.specs.Reading.{lowest, nearestTenth, tenthsOf, readingRows, readingOf}
 use Rattle.bins.proofs.Bins.{bins-rise, bin-between}
@@ -59,15 +59,13 @@ up-to-last i h =
     float-le-trans (energyAt i) (boundaryAt (1 + i)) (boundaryAt 1000) (lt→le (energyAt i) (boundaryAt (1 + i)) (energy-below-next i h))
     (boundaries-rise (1 + i) 1000 (omega arith) (omega arith))
 
-last : T (le (boundaryAt 1000) (boundaryAt 1000))
-last = boundaries-rise 1000 1000 (omega arith) (omega arith)
-
 at-lowest : (x : Float) → T (le (boundaryAt 0) x) → T (lt x (energyAt 0)) → readingOf x ≡ answers lowest
 at-lowest x p q = reads x (energyAt 0) p q (up-to-last 0 (omega arith)) 0 (lower-half x 0 (omega arith) p q)
 
 at-highest : (x : Float) → T (le (energyAt 999) x) → T (lt x (boundaryAt 1000)) → readingOf x ≡ answers (pos 300)
 at-highest x p q =
-    reads x (boundaryAt 1000) (float-le-trans (boundaryAt 0) (energyAt 999) x (from-first 999 (omega arith)) p) q last 1000 (upper-half x 999 (omega arith) p q)
+    reads x (boundaryAt 1000) (float-le-trans (boundaryAt 0) (energyAt 999) x (from-first 999 (omega arith)) p) q (same-boundary 1000 (omega arith)) 1000
+    (upper-half x 999 (omega arith) p q)
 
 itself : (x : Float) → isNan x ≡ false → T (le x x)
 itself x n = total x x n n (is-false (lt x x) (irreflexive x))
@@ -117,7 +115,7 @@ reading-is-nearest = record {
   atHighest = at-highest;
   notBelow = λ x t e. rw (told x t e) (readings-rise 0 (nearestTenth x) (omega arith));
   notAbove = λ x t e. rw (told x t e) (readings-rise (nearestTenth x) 1000 (tenth-most x));
-  lowestReached = at-lowest (boundaryAt 0) (boundaries-rise 0 0 (omega arith) (omega arith)) (boundary-below-energy 0 (omega arith));
+  lowestReached = at-lowest (boundaryAt 0) (same-boundary 0 (omega arith)) (boundary-below-energy 0 (omega arith));
   highestReached = at-highest (energyAt 999) (itself (energyAt 999) (left-number (energyAt 999) (boundaryAt 1000) top)) top;
   rises = λ x y s t h e f. rw (told x s e, told y t f) (readings-rise (nearestTenth x) (nearestTenth y) (tenths-rise x y h));
 }
