@@ -35,7 +35,8 @@ unfolding field_at
 one_byte_on field i next e h =
     let byte = get_or field i 0 in
     let passed = reverse (take i field) in
-    rw (e, take-suc field i 0 h, reverse-append (take i field) (byte ∷ []), field_from (byte ∷ passed) 1 1 0 i (omega arith))
+    let turned : reverse (take next field) ≡ byte ∷ passed = rw (e, take-suc field i 0 h) (reverse-append (take i field) (byte ∷ [])) in
+    rw (turned, e, field_from (byte ∷ passed) 1 1 0 i (omega arith))
 
 -- the number of a field that has no more bytes than are asked for
 pub all_bytes_lem : (width : ℕ) (field : List ℕ) → length field ≤ width → number_in HighFirst width field ≡ field_at (reverse field) 0 (length field)

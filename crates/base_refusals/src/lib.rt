@@ -1,4 +1,5 @@
 // The refusals of document 01, by number. Every crate answers these and no others.
+#![tactic(auto)]
 
 pub mod codes;
 

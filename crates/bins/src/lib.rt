@@ -1,4 +1,5 @@
 // The histogram's bins: where each begins, and the energy that stands for it.
+#![tactic(auto)]
 ghost use Rattle.std.specs.Prelude.{◌≡◌};
 ghost use Rattle.bins_tables.specs.Tables.{boundary_at, energy_at};
 

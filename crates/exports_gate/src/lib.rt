@@ -1,4 +1,5 @@
 // The C interface of the gate question, of gated energy and of the relative threshold. include/xelamphoun.h declares it.
+#![tactic(auto)]
 ghost use Rattle.std.specs.Prelude.{◌≡◌};
 ghost use Rattle.base_refusals.specs.Outcome.{said_by};
 ghost use Rattle.gate.specs.Gate.{gate_of, said};

@@ -1,4 +1,5 @@
 // The C interface of the histories. include/xelamphoun.h declares it.
+#![tactic(auto)]
 ghost use Rattle.std.specs.Prelude.{◌≡◌};
 ghost use Rattle.base_refusals.specs.Outcome.{kept_by};
 ghost use Rattle.base_refusals.specs.Codes.{code};

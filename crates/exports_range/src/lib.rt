@@ -1,4 +1,5 @@
 // The C interface of the range. include/xelamphoun.h declares it.
+#![tactic(auto)]
 ghost use Rattle.std.specs.Prelude.{◌≡◌, length};
 ghost use Rattle.base_refusals.specs.Outcome.{said_by, kept_by};
 ghost use Rattle.range_ranks.specs.Span.{said};

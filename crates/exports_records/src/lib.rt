@@ -1,4 +1,5 @@
 // The C interface of the records of histograms and of queues, of our own and of the third model's. include/xelamphoun.h declares it.
+#![tactic(auto)]
 ghost use Rattle.std.specs.Prelude.{◌≡◌};
 ghost use Rattle.base_refusals.specs.Outcome.{kept_by};
 ghost use Rattle.base_refusals.specs.Codes.{code, value_or};

@@ -1,4 +1,5 @@
 // The filter of a measurement: what it keeps between its calls, at rest and afterwards. Crates `filter_process` and `filter_seed` have its calls, `peaks` what is read of it.
+#![tactic(auto)]
 ghost use Rattle.std.specs.Prelude.{◌≡◌};
 ghost use Rattle.true_peak_state.specs.TruePeak.{silent};
 ghost use Rattle.filter.specs.Filter.{at_rest, no_peaks, resting, moved};

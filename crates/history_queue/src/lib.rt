@@ -1,4 +1,5 @@
 // The queue: the last energies, oldest first, in a lent store that is gone through round and round.
+#![tactic(auto)]
 ghost use Rattle.std.specs.Prelude.{◌≡◌};
 ghost use Rattle.history_queue.specs.Queue.{suits, started, first_part, stands, parts_of};
 

@@ -1,4 +1,5 @@
 // `process` and `seed` over an `Interleaved` of each kind, in the modules: thin above the filter's calls over a slice.
+#![tactic(auto)]
 ghost use Rattle.std.specs.Prelude.{◌≡◌};
 ghost use Rattle.base_refusals.specs.Answer.{said};
 ghost use Rattle.interleaved_filter.specs.Said.{said_of, as_taken};

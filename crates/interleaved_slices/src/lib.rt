@@ -1,5 +1,6 @@
 // Interleaved samples by number: how many frames there are, and a channel's sample in a frame, of either kind.
 // Every branch of the two questions stands here; the struct of each kind asks them of the slice that it holds.
+#![tactic(auto)]
 ghost use Rattle.std.specs.Prelude.{◌≡◌};
 ghost use Rattle.base_refusals.specs.Outcome.{said_by};
 ghost use Rattle.samples.specs.Sample.{samples_of16, samples_of_f32};

@@ -1,5 +1,6 @@
 // Prints the reading of each energy on standard input: a line of tenths of a LUFS, or `refused` and the number.
 // An energy is the pattern of an f64, 8 bytes, low byte first.
+#![tactic(auto)]
 use bins::search::Level;
 use libc::{STDIN_FILENO, STDOUT_FILENO};
 

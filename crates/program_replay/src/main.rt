@@ -1,6 +1,7 @@
 // Replays the oracle's answers on bins, readings and questions, kept as a list on standard input, and prints for each operation how many are the same.
 // The list is sections until its end. A section: u32 operation, u32 number of cases, u32 bytes a case, the operation's name in 20 bytes, then the cases.
 // All numbers low byte first. The loop over sections and cases is the same in the other programs that replay.
+#![tactic(auto)]
 mod questions;
 
 use bins::search::Level;

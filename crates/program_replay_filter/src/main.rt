@@ -1,5 +1,6 @@
 // Replays the oracle's answers on the filter, kept as a list on standard input, and prints for each operation how many are the same.
 // The list has the form that `program_replay` says.
+#![tactic(auto)]
 mod filters;
 
 use libc::{STDIN_FILENO, STDOUT_FILENO};

@@ -1,5 +1,6 @@
 // Replays the oracle's answers on histories, kept as a list on standard input, and prints for each operation how many are the same.
 // The list, and the loop over its sections and cases, are as in `program_replay`.
+#![tactic(auto)]
 mod histories;
 
 use libc::{STDIN_FILENO, STDOUT_FILENO};

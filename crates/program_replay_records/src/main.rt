@@ -1,5 +1,6 @@
 // Replays the answers of a reader, writer and conversion of records from the words of document 01 and change request 3 alone, kept as a list on standard
 // input, and prints for each operation how many are the same. The list has the form that `program_replay` says.
+#![tactic(auto)]
 mod conversions;
 mod histograms;
 mod queues;

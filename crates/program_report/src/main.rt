@@ -1,4 +1,5 @@
 // Reports on one histogram's record on standard input: the total of its blocks, the bins of its range and the range in tenths.
+#![tactic(auto)]
 mod lines;
 
 use libc::STDIN_FILENO;

@@ -1,4 +1,5 @@
 // Reports on each record of a list on standard input, with an empty line after each report. Before each record stands its length, a u32, low byte first.
+#![tactic(auto)]
 mod lines;
 
 use libc::{STDIN_FILENO, STDOUT_FILENO};

@@ -1,4 +1,5 @@
 // The loudness range of one histogram: the bins of the two ranks among the blocks that the gate leaves.
+#![tactic(auto)]
 ghost use Rattle.std.specs.Prelude.{◌≡◌, ◌+◌, ◌-◌, ◌≤◌, length, take};
 ghost use Rattle.base_refusals.specs.Outcome.{says};
 ghost use Rattle.bins.specs.Bin.{bins};

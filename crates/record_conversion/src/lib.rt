@@ -1,4 +1,5 @@
 // Records converted over their bytes alone: kinds 1 and 257 to each other, and kinds 2 and 258.
+#![tactic(auto)]
 ghost use Rattle.std.specs.Prelude.{◌≡◌, reverse, ◌+◌, ◌*◌, ◌≤◌, length, take, drop};
 ghost use Rattle.std.proofs.lemmas.List.Edits.{sets};
 ghost use Rattle.base_refusals.specs.Outcome.{said_by, kept_by};

@@ -1,4 +1,5 @@
 // What records have in common: the length and the kind in front, and how a record is written.
+#![tactic(auto)]
 ghost use Rattle.std.specs.Prelude.{◌≡◌};
 ghost use Rattle.base_refusals.specs.Outcome.{said_by};
 ghost use Rattle.base_refusals.specs.Answer.{said};

@@ -1,4 +1,5 @@
 // The largest absolute phase over the frames of a line: what the true peak is made of.
+#![tactic(auto)]
 ghost use Rattle.std.specs.Prelude.{◌≡◌, not, ℕ, ◌+◌, ◌*◌, ◌<◌, ◌≤◌, min, length, get_or, set, T};
 ghost use Rattle.std.specs.Float.{nan};
 ghost use Rattle.std.specs.Float.Ieee.{is_nan, lt};

@@ -1,0 +1,12 @@
+-- `base_fields::byte_at` meets its contract: past the end the list has its default, 0. Assumes nothing.
+use mathlib.Core.Path.{sym}
+use native.Mathlib.Omega.{arith}
+use borrow.Author.Rules.{rules}
+use lib.ListN.{get_or-eq_default}
+use Rattle.base_fields.proofs.byte_at.Goals as goal
+
+pub overflow_cast-result : goal.overflow_cast-result
+overflow_cast-result c = omega (arith, c.type_inv.bytes c.args.at)
+
+pub returns : goal.returns
+returns c = sym (get_or-eq_default c.args.bytes.now 0 {n = c.args.at} c.if-at-bytes.false)

@@ -1,0 +1,18 @@
+use mathlib.Core.Path.{◌≡◌, refl, ◌∙◌}
+use mathlib.Core.List.{reverse}
+use Prim.Native.Nat.{◌+◌, ◌-◌, ◌^◌, ◌≤◌, ◌<◌}
+use native.Mathlib.Omega.{arith}
+use borrow.Author.Rules.{rules}
+use lib.ListN.{length, get_or, take}
+use lib.Seq.{take-length}
+use Rattle.base_fields.specs.Field.{field_at}
+use Rattle.base_fields.proofs.Fields.{seven_bytes}
+use Rattle.base_fields.proofs.Turned.{turned_bytes, first_bytes}
+use Rattle.base_fields.proofs.High.{one_byte_on}
+use Rattle.base_fields.proofs.words.high_number.Given as goal
+
+abbrev pub invariant-loop-i : goal.invariant-loop-i
+invariant-loop-i l = (l.i ≤ length l.field) × (l.number ≡ field_at (reverse (take l.i l.field)) 0 l.i)
+
+abbrev pub decreases-loop-i : goal.decreases-loop-i
+decreases-loop-i l = length l.field - l.i
