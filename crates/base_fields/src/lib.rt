@@ -1,5 +1,6 @@
 // Numbers in bytes: the fields of records and of lists of energies.
 #![tactic(auto)]
+
 ghost use Rattle.std.specs.Prelude.{◌≡◌, reverse, length, get_or};
 ghost use Rattle.base_fields.specs.Field.{field_at, narrowed, low_bytes, bytes_of};
 

@@ -1,5 +1,6 @@
 // The two tables of the histogram's bins. Written by tools/make-tables from the Rust's histogram_bins.rs: edit that program and not this file.
 #![tactic(auto)]
+
 ghost use Rattle.std.specs.Prelude.{◌≡◌};
 ghost use Rattle.bins_tables.specs.Tables.{boundaries, energies};
 

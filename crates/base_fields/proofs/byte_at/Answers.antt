@@ -1,7 +1,6 @@
 -- `base_fields::byte_at` meets its contract: past the end the list has its default, 0. Assumes nothing.
 use mathlib.Core.Path.{sym}
 use native.Mathlib.Omega.{arith}
-use borrow.Author.Rules.{rules}
 use lib.ListN.{get_or-eq_default}
 use Rattle.base_fields.proofs.byte_at.Goals as goal
 

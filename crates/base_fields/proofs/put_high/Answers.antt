@@ -1,12 +1,9 @@
 -- `base_fields::put_high` meets its contract. The invariant: the bytes of the rest, and those written after them, are those of the whole number.
 -- Assumes nothing.
-use mathlib.Core.Path.{◌≡◌, refl, sym, ◌∙◌}
-use mathlib.Core.List.{◌++◌, reverse}
-use Prim.Native.Nat.{◌-◌, ◌≤◌}
+use mathlib.Core.Path.{refl, sym, ◌∙◌}
+use Prim.Native.Nat.{◌-◌}
 use native.Mathlib.Omega.{arith}
-use borrow.Author.Rules.{rules}
-use lib.ListN.{length, length-set, drop}
-use Rattle.base_fields.specs.Field.{low_bytes}
+use lib.ListN.{length-set}
 use Rattle.base_fields.proofs.High.{high_start, high_turn, high_end}
 use Rattle.base_fields.proofs.put_high.Goals as goal
 

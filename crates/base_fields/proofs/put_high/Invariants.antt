@@ -1,11 +1,8 @@
-use mathlib.Core.Path.{◌≡◌, refl, sym, ◌∙◌}
+use mathlib.Core.Path.{◌≡◌}
 use mathlib.Core.List.{◌++◌, reverse}
-use Prim.Native.Nat.{◌-◌, ◌≤◌}
-use native.Mathlib.Omega.{arith}
-use borrow.Author.Rules.{rules}
-use lib.ListN.{length, length-set, drop}
+use Prim.Native.Nat.{◌≤◌}
+use lib.ListN.{length, drop}
 use Rattle.base_fields.specs.Field.{low_bytes}
-use Rattle.base_fields.proofs.High.{high_start, high_turn, high_end}
 use Rattle.base_fields.proofs.put_high.Given as goal
 
 abbrev pub invariant-loop-i : goal.invariant-loop-i

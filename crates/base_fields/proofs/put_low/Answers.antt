@@ -1,10 +1,8 @@
 -- `base_fields::put_low` meets its contract. The invariant: the bytes written and those of what is left are those of the whole number. Assumes nothing.
-use mathlib.Core.Path.{◌≡◌, refl, sym, ap, ◌∙◌}
-use mathlib.Core.List.{◌++◌}
-use Prim.Native.Nat.{ℕ, ◌-◌, ◌≤◌}
+use mathlib.Core.Path.{refl, sym, ap, ◌∙◌}
+use Prim.Native.Nat.{ℕ, ◌-◌}
 use native.Mathlib.Omega.{arith}
-use borrow.Author.Rules.{rules}
-use lib.ListN.{length, length-set, take}
+use lib.ListN.{length, length-set}
 use Rattle.base_fields.specs.Field.{low_bytes}
 use Rattle.base_fields.proofs.Written.{low_turn, low_end}
 use Rattle.base_fields.proofs.put_low.Goals as goal

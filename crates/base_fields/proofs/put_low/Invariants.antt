@@ -1,11 +1,8 @@
-use mathlib.Core.Path.{◌≡◌, refl, sym, ap, ◌∙◌}
+use mathlib.Core.Path.{◌≡◌}
 use mathlib.Core.List.{◌++◌}
-use Prim.Native.Nat.{ℕ, ◌-◌, ◌≤◌}
-use native.Mathlib.Omega.{arith}
-use borrow.Author.Rules.{rules}
-use lib.ListN.{length, length-set, take}
+use Prim.Native.Nat.{◌-◌, ◌≤◌}
+use lib.ListN.{length, take}
 use Rattle.base_fields.specs.Field.{low_bytes}
-use Rattle.base_fields.proofs.Written.{low_turn, low_end}
 use Rattle.base_fields.proofs.put_low.Given as goal
 
 abbrev pub invariant-loop-i : goal.invariant-loop-i

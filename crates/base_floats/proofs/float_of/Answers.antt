@@ -1,7 +1,6 @@
 -- `base_floats::float_of` meets its contract: past infinity's pattern are those of NaN. Assumes nothing.
 use mathlib.Core.Path.{sym}
 use native.Mathlib.Omega.{arith}
-use borrow.Author.Rules.{rules}
 use lib.Ieee.{div, of_bits}
 use Rattle.base_floats.proofs.Nan.{to_infinity, past_infinity}
 use Rattle.base_floats.proofs.float_of.Goals as goal

@@ -1,6 +1,5 @@
 -- `base_floats::pattern_of` meets its contract: NaN is told apart first, and any other float has one pattern. Assumes nothing.
 use mathlib.Core.Path.{sym, ◌∙◌}
-use borrow.Author.Rules.{rules}
 use lib.Ieee.{to_bits}
 use Rattle.base_floats.proofs.Nan.{differs, only_nan}
 use Rattle.base_floats.proofs.pattern_of.Goals as goal

@@ -1,14 +1,8 @@
-use mathlib.Core.Path.{◌≡◌, refl, ◌∙◌}
+use mathlib.Core.Path.{◌≡◌}
 use mathlib.Core.List.{reverse}
-use Prim.Native.Nat.{◌+◌, ◌-◌, ◌^◌, ◌≤◌, ◌<◌}
-use native.Mathlib.Omega.{arith}
-use borrow.Author.Rules.{rules}
-use lib.ListN.{length, get_or, take}
-use lib.Seq.{take-length}
+use Prim.Native.Nat.{◌-◌, ◌≤◌}
+use lib.ListN.{length, take}
 use Rattle.base_fields.specs.Field.{field_at}
-use Rattle.base_fields.proofs.Fields.{seven_bytes}
-use Rattle.base_fields.proofs.Turned.{turned_bytes, first_bytes}
-use Rattle.base_fields.proofs.High.{one_byte_on}
 use Rattle.base_fields.proofs.words.high_number.Given as goal
 
 abbrev pub invariant-loop-i : goal.invariant-loop-i

@@ -1,6 +1,5 @@
 -- `words::low_double_word` meets its contract: the low and the high word are two fields side by side. Assumes nothing.
 use native.Mathlib.Omega.{arith}
-use borrow.Author.Rules.{rules}
 use Rattle.base_fields.proofs.Fields.{two_fields}
 use Rattle.base_fields.proofs.words.low_double_word.Goals as goal
 

@@ -1,6 +1,5 @@
 -- `words::low_word` meets its contract. Assumes nothing.
 use native.Mathlib.Omega.{arith}
-use borrow.Author.Rules.{rules}
 use Rattle.base_fields.proofs.Fields.{small}
 use Rattle.base_fields.proofs.words.low_word.Goals as goal
 

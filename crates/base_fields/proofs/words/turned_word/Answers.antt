@@ -1,6 +1,5 @@
 -- `words::turned_word` meets its contract. Assumes nothing.
 use native.Mathlib.Omega.{arith}
-use borrow.Author.Rules.{rules}
 use Rattle.base_fields.proofs.Turned.{turned_four}
 use Rattle.base_fields.proofs.words.turned_word.Goals as goal
 

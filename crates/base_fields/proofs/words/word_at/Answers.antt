@@ -1,7 +1,6 @@
 -- `words::word_at` meets its contract. Assumes nothing.
 use Prim.Native.Nat.{◌+◌}
 use native.Mathlib.Omega.{arith}
-use borrow.Author.Rules.{rules}
 use Rattle.base_fields.proofs.Fields.{four_bytes}
 use Rattle.base_fields.proofs.words.word_at.Goals as goal
 
