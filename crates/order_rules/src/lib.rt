@@ -1,5 +1,6 @@
 // Energies in rising order: what that is, and its laws. Whatever orders energies in place says what it does by the definitions of this crate.
 #![tactic(auto)]
+
 ghost use Rattle.std.specs.Prelude.{◌≡◌};
 ghost use Rattle.order_rules.specs.Order.{all_above};
 
