@@ -1,5 +1,6 @@
 // The histogram's bins: where each begins, and the energy that stands for it.
 #![tactic(auto)]
+
 ghost use Rattle.std.specs.Prelude.{◌≡◌};
 ghost use Rattle.bins_tables.specs.Tables.{boundary_at, energy_at};
 

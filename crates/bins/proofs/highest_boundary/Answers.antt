@@ -2,12 +2,8 @@
 use borrow.Author.Rules.{rules}
 use lib.Ieee.{of_bits}
 use Rattle.bins_tables.specs.Tables.{boundary_at}
-use Rattle.bins.proofs.highest_boundary.Statement.{statement}
-use Rattle.bins.proofs.highest_boundary.Tie as tie
+use Rattle.bins.proofs.highest_boundary.Goals as goal
 
-returns : tie.Need-returns
+pub returns : goal.returns
 unfolding boundary_at of_bits
 returns c = search rules
-
-pub highest_boundary_spec : {M : Type 1} → statement M
-highest_boundary_spec = tie.close (tie.spec returns)
