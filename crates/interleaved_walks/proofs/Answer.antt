@@ -1,4 +1,4 @@
--- The type of an answer, as the walks need it: it has one machine value. Assumes nothing.
+-- The type of an answer, as a walk needs it: it has one machine value. Assumes nothing.
 use mathlib.Core.List.{[], ◌∷◌}
 use lib.Dec.{T as Holds}
 use seplogic.Ra.Ura.{Ura}

@@ -1,4 +1,3 @@
 pub mod Held
 pub mod Kind
 pub mod Answer
-pub mod Walks

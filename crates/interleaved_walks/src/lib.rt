@@ -1,4 +1,4 @@
-// The walks by hand of functions over a struct that holds a shared slice beside a number of channels. There is no code here: each walk of
-// proofs/Walks is over the kind of samples, the answer's type and what is said of it; `interleaved` and
-// `exports_interleaved` have the functions.
+// What a walk by hand needs of a struct that holds a shared slice beside a number of channels: the struct's type over each kind of samples,
+// and that its slice's part is lent out while the struct is kept whole. There is no code here: `interleaved` and
+// `exports_interleaved` have the functions, and the check itself follows them.
 #![tactic(auto)]
