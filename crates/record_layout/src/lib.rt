@@ -1,5 +1,6 @@
 // What records have in common: the length and the kind in front, and how a record is written.
 #![tactic(auto)]
+
 ghost use Rattle.std.specs.Prelude.{◌≡◌};
 ghost use Rattle.base_refusals.specs.Outcome.{said_by};
 ghost use Rattle.base_refusals.specs.Answer.{said};
@@ -19,14 +20,14 @@ pub const HISTOGRAM_LENGTH: u64 = 4002;
 const QUEUE_LEAST: u64 = 10;
 
 // Whose records they are: our own, or those of the third model.
-#[derive(Drop)]
+#[derive(Clone, Copy)]
 pub enum Model {
     Ours,
     Third,
 }
 
 // The kinds of record.
-#[derive(Drop)]
+#[derive(Clone, Copy)]
 pub enum Kind {
     Histogram(Model),
     Queue(Model),
