@@ -1,5 +1,6 @@
 // Up to 24 energies in rising order, in place, by counting out each one's place. No branch hangs on what the energies are.
 #![tactic(auto)]
+
 ghost use Rattle.std.specs.Prelude.{◌≡◌, true, ◌<◌, ◌≤◌, length, take};
 ghost use Rattle.std.specs.Float.Ieee.{le, lt};
 ghost use Rattle.order_rules.specs.Order.{in_order, all_above};
