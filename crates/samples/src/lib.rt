@@ -1,5 +1,6 @@
 // Samples as floats.
 #![tactic(auto)]
+
 ghost use Rattle.std.specs.Prelude.{◌≡◌};
 ghost use Rattle.samples.specs.Sample.{sample_of16, sample_of_f32};
 
