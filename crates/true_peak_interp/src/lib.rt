@@ -1,5 +1,6 @@
 // The interpolator: which one a rate has, its coefficients, and its phases at a frame.
 #![tactic(auto)]
+
 ghost use Rattle.std.specs.Prelude.{◌≡◌, ◌*◌, ◌<◌, ◌≤◌, length};
 ghost use Rattle.true_peak_interp.specs.Interp.{fourfold, twofold, kind_of, said};
 ghost use Rattle.true_peak_interp.specs.Phase.{coefficients, phase, phases};
