@@ -1,5 +1,6 @@
 // The checks of a call over samples, in the order of the table. Each answers the number of the first refusal, and 0 where there is none.
 #![tactic(auto)]
+
 ghost use Rattle.std.specs.Prelude.{◌≡◌, ◌<◌};
 ghost use Rattle.base_refusals.specs.Rows.{number_of};
 ghost use Rattle.filter_checks.specs.Calls.{all_admitted, frame_rows, map_rows, dest_rows, seed_rows, process_rows};
