@@ -1,9 +1,11 @@
 // Replays the oracle's answers on histories, kept as a list on standard input, and prints for each operation how many are the same.
 // The list, and the loop over its sections and cases, are as in `program_replay`.
 #![tactic(auto)]
+
 mod histories;
 
-use libc::{STDIN_FILENO, STDOUT_FILENO};
+use std::io;
+use std::io::Read;
 
 // The operations by their numbers in the list.
 const HISTOGRAM_ADDS: u64 = 4;
@@ -12,67 +14,71 @@ const MERGES: u64 = 5;
 
 const QUEUE_ADDS: u64 = 6;
 
-fn main() {
-    let mut sections: u64 = 64;
-    while 0 < sections {
-        if !replay_section() {
+fn main(rt: HostRuntime) -> io::Result<()> {
+    let mut list = rt.stdin();
+    for _ in 0..64u64 {
+        if !replay_section(&rt, &mut list)? {
             break;
         }
-        sections -= 1;
     }
+    Ok(())
 }
 
 // Whether there was a section, and all its cases were the same.
-fn replay_section() -> bool {
+fn replay_section(rt: &impl Print, list: &mut impl Read) -> io::Result<bool> {
     let mut head = [0u8; 32];
-    if io::read_full(STDIN_FILENO, &mut head) != 32 {
-        return false;
+    if program_io::read_full(list, &mut head)? != 32 {
+        return Ok(false);
     }
-    io::write_all(STDOUT_FILENO, &head[12..]);
+    rt.write_all(&head[12..])?;
     let operation = base_fields::number_at(&head, 0, 4);
     let cases = base_fields::number_at(&head, 4, 4);
     let size = base_fields::number_at(&head, 8, 4);
-    print_same(replay_cases(operation, cases, size), cases)
+    let same = replay_cases(list, operation, cases, size)?;
+    print_same(rt, same, cases)
 }
 
 // Prints how many were the same, and answers whether all were.
-fn print_same(same: u64, cases: u64) -> bool {
-    io::print_decimal(STDOUT_FILENO, same);
+fn print_same(rt: &impl Print, same: u64, cases: u64) -> io::Result<bool> {
     if same < cases {
-        io::write_all(STDOUT_FILENO, b" same and the next differs\n");
-        return false;
+        println!(rt; "{same} same and the next differs")?;
+        return Ok(false);
     }
-    io::write_all(STDOUT_FILENO, b" same\n");
-    true
+    println!(rt; "{same} same")?;
+    Ok(true)
 }
 
 // How many cases were the same before the first that was not.
-fn replay_cases(operation: u64, cases: u64, size: u64) -> u64 {
-    let mut same = 0;
-    while same < cases {
-        if !replay_case(operation, size) {
-            break;
+fn replay_cases(
+    list: &mut impl Read,
+    operation: u64,
+    cases: u64,
+    size: u64,
+) -> io::Result<u64> {
+    for same in 0..cases {
+        if !replay_case(list, operation, size)? {
+            return Ok(same);
         }
-        same += 1;
     }
-    same
+    Ok(cases)
 }
 
-fn replay_case(operation: u64, size: u64) -> bool {
-    let mut case = io::buffer();
-    if !read_case(&mut case, size) {
-        return false;
+fn replay_case(list: &mut impl Read, operation: u64, size: u64) -> io::Result<bool> {
+    let mut case = program_io::buffer();
+    if !read_case(list, &mut case, size)? {
+        return Ok(false);
     }
-    case_same(operation, &case)
+    Ok(case_same(operation, &case))
 }
 
 // Whether a whole case was there, and not longer than the buffer.
-fn read_case(case: &mut [u8], size: u64) -> bool {
+fn read_case(list: &mut impl Read, case: &mut [u8], size: u64) -> io::Result<bool> {
     let length = size as usize;
     if case.len() < length {
-        return false;
+        return Ok(false);
     }
-    io::read_full(STDIN_FILENO, &mut case[..length]) == length
+    let read = program_io::read_full(list, &mut case[..length])?;
+    Ok(read == length)
 }
 
 // Whether our answer to a case is the oracle's.

@@ -5,7 +5,7 @@ use crate::count_at;
 
 // A histogram's record: the bytes given and the bytes written, each told by what is not 0 in it.
 pub(crate) fn histogram_same(case: &[u8]) -> bool {
-    let mut bytes = io::buffer();
+    let mut bytes = program_io::buffer();
     let mut out = [0x5Au8; 4096];
     crate::histograms::fill_bytes(case, 10, &mut bytes);
     part(case, &bytes, &mut out) && crate::histograms::output_same(case, 202, &out)

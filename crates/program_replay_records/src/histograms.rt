@@ -53,7 +53,7 @@ pub(crate) fn fill_bytes(case: &[u8], from: usize, bytes: &mut [u8]) {
 // ---- reads
 // u16 kind asked for, u16 number of bytes given, u16 counters of the store, u16 refusal (0: none); the bytes; the counters afterwards.
 pub(crate) fn read_same(case: &[u8]) -> bool {
-    let mut bytes = io::buffer();
+    let mut bytes = program_io::buffer();
     let mut counters = [COUNTER; 1001];
     fill_bytes(case, 8, &mut bytes);
     read_part(case, &bytes, &mut counters)
@@ -149,7 +149,7 @@ fn write_kind(kind: usize, counters: &[Count], out: &mut [u8]) -> Written {
 
 // The number of bytes written stands at place 8 of the case, what is told of them from `from` on.
 pub(crate) fn output_same(case: &[u8], from: usize, out: &[u8]) -> bool {
-    let mut told = io::buffer();
+    let mut told = program_io::buffer();
     fill_bytes(case, from, &mut told);
     all_written(count_at(case, 8), &told, out)
 }

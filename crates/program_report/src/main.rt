@@ -1,12 +1,13 @@
 // Reports on one histogram's record on standard input: the total of its blocks, the bins of its range and the range in tenths.
 #![tactic(auto)]
+
 mod lines;
 
-use libc::STDIN_FILENO;
+use std::io;
 
-fn main() {
+fn main(rt: HostRuntime) -> io::Result<()> {
     // The buffer is longer than a record, so that a longer input is seen to be one.
-    let mut input = io::buffer();
-    let length = io::read_full(STDIN_FILENO, &mut input);
-    lines::print(record_summary::of_record(&input[..length]));
+    let mut input = program_io::buffer();
+    let length = program_io::read_full(&mut rt.stdin(), &mut input)?;
+    lines::print(&rt, record_summary::of_record(&input[..length]))
 }

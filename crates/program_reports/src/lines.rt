@@ -1,14 +1,12 @@
 // Prints the lines of a report. What is written no contract can say: the figures are proved in `record_summary`.
-use libc::STDOUT_FILENO;
 use record_summary::Summary;
+use std::io;
 
-fn print_line(name: &[u8], number: u64) {
-    io::write_all(STDOUT_FILENO, name);
-    io::print_decimal(STDOUT_FILENO, number);
-    io::write_all(STDOUT_FILENO, b"\n");
+fn print_line(rt: &impl Print, name: &str, number: u64) -> io::Result<()> {
+    println!(rt; "{name} {number}")
 }
 
-pub(crate) fn print(report: Summary) {
+pub(crate) fn print(rt: &impl Print, report: Summary) -> io::Result<()> {
     match report {
         Summary::Ranged {
             blocks,
@@ -16,15 +14,15 @@ pub(crate) fn print(report: Summary) {
             high,
             range,
         } => {
-            print_line(b"blocks ", blocks);
-            print_line(b"low ", low as u64);
-            print_line(b"high ", high as u64);
-            print_line(b"range ", range as u64);
+            print_line(rt, "blocks", blocks)?;
+            print_line(rt, "low", low as u64)?;
+            print_line(rt, "high", high as u64)?;
+            print_line(rt, "range", range as u64)
         }
         Summary::Rangeless(blocks) => {
-            print_line(b"blocks ", blocks);
-            io::write_all(STDOUT_FILENO, b"range none\n");
+            print_line(rt, "blocks", blocks)?;
+            println!(rt; "range none")
         }
-        Summary::Refused(number) => print_line(b"refused ", number as u64),
+        Summary::Refused(number) => print_line(rt, "refused", number as u64),
     }
 }

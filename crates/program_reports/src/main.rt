@@ -1,48 +1,52 @@
 // Reports on each record of a list on standard input, with an empty line after each report. Before each record stands its length, a u32, low byte first.
 #![tactic(auto)]
+
 mod lines;
 
-use libc::{STDIN_FILENO, STDOUT_FILENO};
+use std::io;
+use std::io::Read;
 
-fn main() {
+fn main(rt: HostRuntime) -> io::Result<()> {
+    let mut list = rt.stdin();
     // Nothing says that the input ends, so the records are counted.
-    let mut left: u64 = 1_000_000;
-    while 0 < left {
-        if !report_one() {
+    for _ in 0..1_000_000u64 {
+        if !report_one(&rt, &mut list)? {
             break;
         }
-        left -= 1;
     }
+    Ok(())
 }
 
 // Whether there was a length and all the bytes that it announces.
-fn report_one() -> bool {
+fn report_one(rt: &impl Print, list: &mut impl Read) -> io::Result<bool> {
     let mut length = [0u8; 4];
-    if io::read_full(STDIN_FILENO, &mut length) != 4 {
-        return false;
+    if program_io::read_full(list, &mut length)? != 4 {
+        return Ok(false);
     }
     let size = base_fields::number_at(&length, 0, 4);
-    let mut input = io::buffer();
-    if !read_record(&mut input, size) {
-        return false;
+    let mut input = program_io::buffer();
+    if !read_record(list, &mut input, size)? {
+        return Ok(false);
     }
-    report_first(&input, size);
-    true
+    report_first(rt, &input, size)?;
+    Ok(true)
 }
 
 // Whether a whole record was there, and not longer than the buffer.
-fn read_record(input: &mut [u8], size: u64) -> bool {
+fn read_record(list: &mut impl Read, input: &mut [u8], size: u64) -> io::Result<bool> {
     let length = size as usize;
     if input.len() < length {
-        return false;
+        return Ok(false);
     }
-    io::read_full(STDIN_FILENO, &mut input[..length]) == length
+    let read = program_io::read_full(list, &mut input[..length])?;
+    Ok(read == length)
 }
 
-fn report_first(input: &[u8], size: u64) {
+fn report_first(rt: &impl Print, input: &[u8], size: u64) -> io::Result<()> {
     let length = size as usize;
     if length <= input.len() {
-        lines::print(record_summary::of_record(&input[..length]));
-        io::write_all(STDOUT_FILENO, b"\n");
+        lines::print(rt, record_summary::of_record(&input[..length]))?;
+        println!(rt;)?;
     }
+    Ok(())
 }
