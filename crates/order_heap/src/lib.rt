@@ -1,5 +1,6 @@
 // Energies in rising order by a heap, in place: n log n steps for every input.
 #![tactic(auto)]
+
 ghost use Rattle.std.specs.Prelude.{◌≡◌, ◌+◌, ◌*◌, ◌<◌, length};
 ghost use Rattle.order_rules.specs.Order.{all_above, ordered};
 ghost use Rattle.order_rules.specs.Arrangement.{Above, Ordered};
