@@ -1,5 +1,6 @@
 // The C interface of the tables, the bins and the readings. include/xelamphoun.h declares it.
 #![tactic(auto)]
+
 ghost use Rattle.std.specs.Prelude.{◌≡◌};
 ghost use Rattle.bins_tables.specs.Tables.{boundary_at, energy_at};
 ghost use Rattle.bins.specs.Bin.{bin_of};
