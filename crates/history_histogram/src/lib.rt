@@ -1,5 +1,6 @@
 // The histogram: 1,000 counters in a lent slice, one for each bin.
 #![tactic(auto)]
+
 ghost use Rattle.std.specs.Prelude.{◌≡◌, length};
 ghost use Rattle.base_refusals.specs.Outcome.{said_by, kept_by};
 ghost use Rattle.base_refusals.specs.Answer.{said};
