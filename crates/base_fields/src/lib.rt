@@ -7,7 +7,7 @@ ghost use Rattle.base_fields.specs.Field.{field_at, narrowed, low_bytes, bytes_o
 pub mod words;
 
 // The order in which the bytes of a field stand.
-#[derive(Drop)]
+#[derive(Clone, Copy)]
 pub enum Order {
     LowFirst,
     HighFirst,
