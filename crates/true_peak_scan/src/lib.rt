@@ -1,5 +1,6 @@
 // The largest absolute phase over the frames of a line: what the true peak is made of.
 #![tactic(auto)]
+
 ghost use Rattle.std.specs.Prelude.{◌≡◌, not, ℕ, ◌+◌, ◌*◌, ◌<◌, ◌≤◌, min, length, get_or, set, T};
 ghost use Rattle.std.specs.Float.{nan};
 ghost use Rattle.std.specs.Float.Ieee.{is_nan, lt};
@@ -65,7 +66,7 @@ fn raised(peak: f32, x: f32) -> f32
 }
 
 // The phases of a frame, by factor, or the sums on the way to them; and four taps.
-#[derive(Drop)]
+#[derive(Clone, Copy)]
 struct Four {
     p0: f32,
     p1: f32,
@@ -73,7 +74,7 @@ struct Four {
     p3: f32,
 }
 
-#[derive(Drop)]
+#[derive(Clone, Copy)]
 struct Two {
     p0: f32,
     p1: f32,
@@ -132,7 +133,7 @@ struct Fours {
 }
 
 // Where the windows of four frames begin in a line.
-#[derive(Drop)]
+#[derive(Clone, Copy)]
 struct Windows {
     a: usize,
     b: usize,
@@ -353,8 +354,8 @@ fn frames_twofold(
 // The places from n on hold no frame's value but the peak.
 fn rest(loud: &mut [f32; STRETCH], n: usize, peak: f32)
     requires { length loud.old ≡ stretch }
-    ensures by_index { (j : ℕ) → j < n → get_or loud.new j nan ≡ get_or loud.old j nan }
-    ensures by_index_2 { (j : ℕ) → n ≤ j → j < stretch → get_or loud.new j nan ≡ peak }
+    ensures kept { (j : ℕ) → j < n → get_or loud.new j nan ≡ get_or loud.old j nan }
+    ensures filled { (j : ℕ) → n ≤ j → j < stretch → get_or loud.new j nan ≡ peak }
 {
     let mut k = n;
     while k < STRETCH {
@@ -417,7 +418,7 @@ fn greatest_of(loud: &[f32; STRETCH], peak: f32) -> f32
 // The frames of each of four runs that hold n: whole fours of them.
 fn quarter(n: usize) -> usize
     ensures result_bound { result * 4 ≤ stretch }
-    ensures by_index { (j : ℕ) → j < n → j < stretch → j < result * 4 }
+    ensures reached { (j : ℕ) → j < n → j < stretch → j < result * 4 }
 {
     if STRETCH <= n {
         return QUARTER;
