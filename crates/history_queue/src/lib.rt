@@ -1,5 +1,6 @@
 // The queue: the last energies, oldest first, in a lent store that is gone through round and round.
 #![tactic(auto)]
+
 ghost use Rattle.std.specs.Prelude.{◌≡◌};
 ghost use Rattle.history_queue.specs.Queue.{suits, started, first_part, stands, parts_of};
 
@@ -9,7 +10,7 @@ pub mod adding;
 pub const LONGEST: usize = 36000;
 
 // A queue of at most `maximum` energies: the oldest stands at place `head` of the store, and `held` are there.
-#[derive(Drop)]
+#[derive(Clone, Copy)]
 pub struct Queue {
     pub maximum: usize,
     pub head: usize,
@@ -17,7 +18,7 @@ pub struct Queue {
 }
 
 // Where the energies that a queue holds stand in a slice of energies: the older ones from a place up to another, and after them the newer ones.
-#[derive(Drop)]
+#[derive(Clone, Copy)]
 pub struct Parts {
     pub from: usize,
     pub until: usize,
