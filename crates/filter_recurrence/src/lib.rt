@@ -1,5 +1,6 @@
 // The recurrence of the weighting: a channel's memory, and one frame of it.
 #![tactic(auto)]
+
 ghost use Rattle.std.specs.Prelude.{◌≡◌};
 ghost use Rattle.filter_recurrence.specs.Recurrence.{head, output, shift};
 

@@ -1,0 +1,17 @@
+-- `flushing::flush_channel` meets its contract: a byte of 0 leaves all as it is, and any other puts the channel's memory through `flush_all`. Assumes nothing.
+use borrow.Author.Tests.{eq-eqb, ne_eqb}
+use mathlib.Core.Path.{refl, ap, ◌∙◌}
+use Rattle.filter_recurrence.specs.Recurrence.{flushed}
+use Rattle.filter_recurrence.specs.Channels.{with_memory}
+use Rattle.filter_recurrence.proofs.flushing.flush_channel.Goals as goal
+
+pub returns-then-byte-eq0 : goal.returns-then-byte-eq0
+returns-then-byte-eq0 c = simp (eq-eqb _ _ c.if-byte-eq0.true) refl
+
+pub returns : goal.returns
+returns c =
+    let f = c in
+    let l = f in
+    let q = l in
+    let a = q.args in
+    rw (ne_eqb a.byte 0 q.if-byte-eq0.false) (c.store.ensures ∙ ap (with_memory a.state.now a.k) (f.flush_all.ensures ∙ ap flushed l.load-m.ensures))
