@@ -1,6 +1,7 @@
 // Energies in rising order by splitting, in place, in n log n steps for every input.
 // Parts are split around a pivot; a part whose splits go deeper than twice the binary digits of the length is ordered by a heap instead.
 #![tactic(auto)]
+
 ghost use Rattle.std.specs.Prelude.{◌≡◌, ◌+◌, ◌*◌, ◌<◌, ◌^◌, length};
 ghost use Rattle.std.specs.Float.Ieee.{size};
 ghost use Rattle.order_rules.specs.Order.{all_above, ordered};
