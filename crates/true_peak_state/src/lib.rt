@@ -1,5 +1,6 @@
 // What the true peak keeps from one call to the next. What a call makes of it is defined here, and `true_peak` has its code.
 #![tactic(auto)]
+
 ghost use Rattle.std.specs.Prelude.{◌≡◌};
 ghost use Rattle.true_peak_state.specs.TruePeak.{silent};
 
