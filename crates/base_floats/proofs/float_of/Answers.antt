@@ -6,8 +6,8 @@ use Rattle.base_floats.proofs.Nan.{to_infinity, past_infinity}
 use Rattle.base_floats.proofs.float_of.Goals as goal
 
 pub float_from_bits-result : goal.float_from_bits-result
-float_from_bits-result c = to_infinity c.args.pattern (omega (arith, c.if-pattern-le-INFINITY_PATTERN.true))
+float_from_bits-result c = to_infinity c.args.pattern (omega arith)
 
 pub returns : goal.returns
 unfolding div of_bits
-returns c = sym (past_infinity c.args.pattern (omega (arith, c.if-pattern-le-INFINITY_PATTERN.false)))
+returns c = sym (past_infinity c.args.pattern (omega arith))
