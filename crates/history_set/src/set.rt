@@ -9,7 +9,7 @@ use history_queue::Queue;
 pub const MOST: usize = 16;
 
 // Where a history lies.
-#[derive(Drop)]
+#[derive(Clone, Copy)]
 pub enum Shape {
     // The first of its 1,000 counters in the counter slice.
     Histogram(usize),
@@ -17,7 +17,7 @@ pub enum Shape {
     Queue(usize, Queue),
 }
 
-#[derive(Drop)]
+#[derive(Clone, Copy)]
 pub struct Entry {
     pub shape: Shape,
 }
