@@ -1,5 +1,6 @@
 // The sample peak of a call: every channel's largest magnitude.
 #![tactic(auto)]
+
 ghost use Rattle.std.specs.Prelude.{◌≡◌, ℕ, ◌<◌, ◌≤◌, length, get_or};
 ghost use Rattle.std.specs.Float.{nan};
 ghost use Rattle.base_refusals.specs.Answer.{said};
