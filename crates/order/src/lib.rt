@@ -1,5 +1,6 @@
 // Energies in rising order, in place, in n log n steps for every input: those that rise or fall already are not split.
 #![tactic(auto)]
+
 ghost use Rattle.std.specs.Prelude.{◌≡◌, true, ◌+◌, ◌/◌, ◌≤◌, ◌<◌, length};
 ghost use Rattle.order_rules.specs.Order.{all_above, ordered};
 ghost use Rattle.order_rules.specs.Arrangement.{Above, Rising};
