@@ -9,29 +9,25 @@ ghost use Rattle.base_refusals.specs.Codes.{code, value_or};
 
 use bins::search::Level;
 
-#[unsafe(no_mangle)]
-pub extern "C" fn xel_boundary(i: usize) -> f64
+pub fn xel_boundary(i: usize) -> f64
     ensures { result ≡ boundary_at i }
 {
     bins::boundary(i)
 }
 
-#[unsafe(no_mangle)]
-pub extern "C" fn xel_energy(i: usize) -> f64
+pub fn xel_energy(i: usize) -> f64
     ensures { result ≡ energy_at i }
 {
     bins::energy(i)
 }
 
-#[unsafe(no_mangle)]
-pub extern "C" fn xel_find_histogram_index(energy: f64) -> usize
+pub fn xel_find_histogram_index(energy: f64) -> usize
     ensures { result ≡ bin_of energy }
 {
     bins::search::find_histogram_index(energy)
 }
 
-#[unsafe(no_mangle)]
-pub extern "C" fn xel_reading(energy: f64, tenths: &mut i32) -> u8
+pub fn xel_reading(energy: f64, tenths: &mut i32) -> u8
     ensures { (result ≡ code (reading_of energy)) × (tenths.new ≡ value_or tenths.old (reading_of energy)) }
 {
     match bins::search::reading(energy) {
