@@ -7,7 +7,7 @@ ghost use Rattle.true_peak_interp.specs.Phase.{coefficients, phase, phases};
 
 mod taps;
 
-#[derive(Drop)]
+#[derive(Clone, Copy)]
 pub struct Interp {
     pub factor: usize,
     pub taps: usize,
