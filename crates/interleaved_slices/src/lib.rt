@@ -1,6 +1,7 @@
 // Interleaved samples by number: how many frames there are, and a channel's sample in a frame, of either kind.
 // Every branch of the two questions stands here; the struct of each kind asks them of the slice that it holds.
 #![tactic(auto)]
+
 ghost use Rattle.std.specs.Prelude.{◌≡◌};
 ghost use Rattle.base_refusals.specs.Outcome.{said_by};
 ghost use Rattle.samples.specs.Sample.{samples_of16, samples_of_f32};
@@ -11,14 +12,14 @@ mod interleaving;
 pub mod parts;
 
 // How many frames there are.
-#[derive(Drop)]
+#[derive(Clone, Copy)]
 pub enum Frames {
     Whole(usize),
     Refused(u8),
 }
 
 // A channel's sample in a frame.
-#[derive(Drop)]
+#[derive(Clone, Copy)]
 pub enum Sample {
     At(f64),
     PastTheEnd,
