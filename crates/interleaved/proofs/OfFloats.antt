@@ -1,8 +1,10 @@
--- f32 samples as a kind of the walks. Assumes nothing.
+-- f32 samples as a kind of samples. Assumes nothing.
 use mathlib.Core.Path.{refl}
 use mathlib.Core.List.{[]}
+use lib.Ieee.{binary32}
 use mir.Syntax.{erased}
 use denote.Builtin.{f32}
+use denote.Floats.{float_row_laws}
 use denote.Ref.{NamedLft}
 use Rattle.samples.specs.Sample.{samples_of_f32}
 use Rattle.interleaved.specs.declared.floats.Interleaved.{Interleaved}
@@ -18,6 +20,7 @@ floats =
     record {
       Elem = f32;
       one = tt;
+      element_laws = float_row_laws binary32;
       floats = samples_of_f32;
       name = (struct.the_type any).name;
       Held = Interleaved;

@@ -1,8 +1,9 @@
--- i16 samples as a kind of the walks. Assumes nothing.
+-- i16 samples as a kind of samples. Assumes nothing.
 use mathlib.Core.Path.{refl}
 use mathlib.Core.List.{[]}
-use mir.Syntax.{erased}
+use mir.Syntax.{erased, w16}
 use denote.Builtin.{i16}
+use denote.Signed.{sint_row_laws}
 use denote.Ref.{NamedLft}
 use Rattle.samples.specs.Sample.{samples_of16}
 use Rattle.interleaved.specs.declared.ints.Interleaved.{Interleaved}
@@ -18,6 +19,7 @@ ints =
     record {
       Elem = i16;
       one = tt;
+      element_laws = sint_row_laws w16;
       floats = samples_of16;
       name = (struct.the_type any).name;
       Held = Interleaved;

@@ -1,6 +1,5 @@
-// Interleaved f32 samples: a struct that keeps its reference to the lent slice beside the number of channels. The borrow
-// checker covers no function over such a struct, so each is thin: it takes the struct apart and calls a function on the slice
-// and the numbers.
+// Interleaved f32 samples: a struct that keeps its reference to the lent slice beside the number of channels. Each function
+// is thin: it takes the struct apart and calls a function on the slice and the numbers.
 ghost use Rattle.std.specs.Prelude.{◌≡◌, length};
 ghost use Rattle.base_refusals.specs.Outcome.{said_by};
 ghost use Rattle.samples.specs.Sample.{samples_of_f32};
@@ -10,7 +9,7 @@ ghost use Rattle.interleaved_slices.specs.Parts.{up_to, from_on};
 
 use interleaved_slices::{Frames, Sample};
 
-#[derive(Drop)]
+#[derive(Clone, Copy)]
 pub struct Interleaved<'a> {
     pub samples: &'a [f32],
     pub channels: usize,
