@@ -9,7 +9,7 @@ ghost use Rattle.filter_checks.specs.Calls.{all_admitted, frame_rows, map_rows, 
 const MOST_CHANNELS: usize = 8;
 
 // What a call with a destination is checked by: how many samples it has, the destination's length, and the index in each part that it starts at.
-#[derive(Drop)]
+#[derive(Clone, Copy)]
 pub struct Sizes {
     pub channels: usize,
     pub samples: usize,

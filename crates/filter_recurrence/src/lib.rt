@@ -8,14 +8,14 @@ pub mod flushing;
 pub mod states;
 
 // The weighting's coefficients, as the Rust names them: `a` weighs the state, `b` the output.
-#[derive(Drop)]
+#[derive(Clone, Copy)]
 pub struct Coefficients {
     pub a: [f64; 5],
     pub b: [f64; 5],
 }
 
 // The memory of one channel.
-#[derive(Drop)]
+#[derive(Clone, Copy)]
 pub struct Memory {
     pub s0: f64,
     pub s1: f64,

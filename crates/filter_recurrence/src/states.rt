@@ -6,7 +6,7 @@ ghost use Rattle.filter_recurrence.specs.Channels.{memory_of, with_memory};
 use crate::Memory;
 
 // The weighting's memory: channel c's s0 to s4 at places 5c to 5c + 4.
-#[derive(Drop)]
+#[derive(Clone, Copy)]
 pub struct State {
     pub values: [f64; 40],
 }

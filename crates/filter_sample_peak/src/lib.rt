@@ -15,7 +15,7 @@ ghost use Rattle.filter_sample_peak.specs.Peak.{over_channels, raised};
 mod stretch;
 
 // The sample peaks, channel c's at place c.
-#[derive(Drop)]
+#[derive(Clone, Copy)]
 pub struct Peaks {
     pub values: [f64; 8],
 }
