@@ -1,6 +1,6 @@
 -- What energies add to running totals at a gate: what a queue holds is two parts, one after the other; and where no energy has a minus,
 -- adding 0 for one below the threshold is passing it over. Assumes nothing.
-use Rattle.std.proofs.Common.{◌≡◌, ℕ, suc, ◌+◌, ◌-◌, ◌≤◌, Bool, true, false, cond, not, T, List, [], ◌∷◌, length, sym, refl, ap, ◌∙◌, subst, arith}
+use Rattle.std.proofs.Common.{◌≡◌, ℕ, suc, ◌+◌, ◌≤◌, Bool, true, false, cond, not, T, List, [], ◌∷◌, length, sym, refl, ap, ◌∙◌, subst, arith}
 use borrow.Author.Tests.{not-true}
 use lib.Ieee.{Float, binary64, add}
 use Rattle.bins_tables.specs.Tables.{boundary_at}

@@ -94,6 +94,9 @@ to_nothing x p = ap (λ (z : Float). add binary64 z x) zero_pattern ∙ swapped 
 -- ---- no block times an energy is 0
 pub none_times : (x : Float) → T (positive x) → mul binary64 (of_int binary64 (pos 0)) x ≡ of_bits binary64 0
 unfolding mul of_int
+none_times nan p = elim p [ ]
+none_times (inf _) p = elim p [ ]
+none_times (fin true n d) p = elim p [ ]
 none_times (fin false n d) p =
     ap (λ (z : Float). mul binary64 z (fin false n d)) (round_zero binary64 false 1 (omega arith))
     ∙ ap (λ (k : ℕ). round binary64 false k (1 * down d)) (zero-mul (n * up d))
@@ -141,6 +144,11 @@ add_unsigned (inf false) (inf false) p q = tt
 add_unsigned (inf false) (fin t n d) p q = tt
 add_unsigned (fin s m e) nan p q = tt
 add_unsigned (fin s m e) (inf false) p q = tt
+add_unsigned (inf false) (inf true) p q = elim q [ ]
+add_unsigned (inf true) y p q = elim p [ ]
+add_unsigned (fin s m e) (inf true) p q = elim q [ ]
+add_unsigned (fin false m e) (fin true n d) p q = elim q [ ]
+add_unsigned (fin true m e) (fin t n d) p q = elim p [ ]
 add_unsigned (fin false m e) (fin false n d) p q = round_unsigned binary64 (m * up e * down d + n * up d * down e) (down e * down d)
 
 pub steady_added : (x y : Float) → Steady x → T (unsigned y) → Steady (add binary64 x y)
@@ -154,6 +162,13 @@ mul_unsigned (inf false) (inf false) p q = tt
 mul_unsigned (inf false) (fin false n d) p q = nan_or_infinity (eqb n 0)
 mul_unsigned (fin s m e) nan p q = tt
 mul_unsigned (fin false m e) (inf false) p q = nan_or_infinity (eqb m 0)
+mul_unsigned (inf false) (inf true) p q = elim q [ ]
+mul_unsigned (inf false) (fin true n d) p q = elim q [ ]
+mul_unsigned (inf true) y p q = elim p [ ]
+mul_unsigned (fin false m e) (inf true) p q = elim q [ ]
+mul_unsigned (fin true m e) (inf _) p q = elim p [ ]
+mul_unsigned (fin false m e) (fin true n d) p q = elim q [ ]
+mul_unsigned (fin true m e) (fin _ n d) p q = elim p [ ]
 mul_unsigned (fin false m e) (fin false n d) p q = round_unsigned binary64 (m * up e * (n * up d)) (down e * down d)
 
 pub nothing_steady : Steady (of_bits binary64 0)
@@ -162,6 +177,9 @@ nothing_steady = (of_bits-fits binary64 0, subst (λ (x : Float). T (unsigned x)
 -- ---- the energies of blocks have none
 positive_unsigned : (x : Float) → T (positive x) → T (unsigned x)
 unfolding unsigned
+positive_unsigned nan p = elim p [ ]
+positive_unsigned (inf _) p = elim p [ ]
+positive_unsigned (fin true m e) p = elim p [ ]
 positive_unsigned (fin false m e) p = tt
 
 pub table_unsigned : (bin : ℕ) → T (unsigned (energy_at bin))
@@ -177,6 +195,9 @@ count_unsigned n = round_unsigned binary64 n 1
 -- an energy that is not below a positive one
 pub not_below_unsigned : (least x : Float) → T (positive least) → lt x least ≡ false → T (unsigned x)
 unfolding lt unsigned
+not_below_unsigned nan _ p h = elim p [ ]
+not_below_unsigned (inf _) _ p h = elim p [ ]
+not_below_unsigned (fin true n d) _ p h = elim p [ ]
 not_below_unsigned (fin false n d) nan p h = tt
 not_below_unsigned (fin false n d) (inf true) p h = absurd (true≢false h)
 not_below_unsigned (fin false n d) (inf false) p h = tt

@@ -12,7 +12,7 @@ ghost use Rattle.gate.specs.Start.{start_bin};
 use bins::Count;
 
 // A running count of blocks and the sum of their energies.
-#[derive(Drop)]
+#[derive(Clone, Copy)]
 pub struct Totals {
     pub count: u64,
     pub sum: f64,
@@ -152,7 +152,7 @@ pub fn start_bin(threshold: f64) -> usize
 }
 
 // The blocks of a histogram, and the bin where a gate starts.
-#[derive(Drop)]
+#[derive(Clone, Copy)]
 pub struct Start {
     pub totals: Totals,
     pub bin: usize,

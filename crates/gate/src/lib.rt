@@ -1,6 +1,7 @@
 // The relative gate over a set of histories: the blocks at or above it and the sum of their energies.
 // A question takes the table of the bins' energies once, and lends it to all that it asks.
 #![tactic(auto)]
+
 ghost use Rattle.std.specs.Prelude.{◌≡◌, ◌≤◌, true, false, length};
 ghost use Rattle.base_refusals.specs.Outcome.{said_by};
 ghost use Rattle.base_refusals.specs.Rows.{number_of};
