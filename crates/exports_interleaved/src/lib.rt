@@ -1,6 +1,7 @@
 // The C interface of `Interleaved`. include/xelamphoun.h declares it. A C function can take no struct that holds a reference,
 // so each takes the slice and the numbers, makes the struct, and asks it; the modules have that part, for each kind.
 #![tactic(auto)]
+
 ghost use Rattle.std.specs.Prelude.{◌≡◌};
 ghost use Rattle.samples.specs.Sample.{samples_of16, samples_of_f32};
 ghost use Rattle.base_refusals.specs.Codes.{code, value_or};
