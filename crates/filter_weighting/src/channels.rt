@@ -14,7 +14,7 @@ ghost use Rattle.filter_weighting.specs.Inner.{memory_in, outs_in, given_in, pla
 use filter_recurrence::{Coefficients, Memory};
 
 // What a call's frames are weighed by, and where their outputs go: from `place` of each channel's part of the destination on.
-#[derive(Drop)]
+#[derive(Clone, Copy)]
 pub(crate) struct Work {
     pub(crate) c: Coefficients,
     pub(crate) channels: usize,
@@ -77,7 +77,7 @@ fn weigh(work: Work, m: Memory, ints: &[i16], floats: &[f32], k: usize, dest: &m
 }
 
 // The memories of two channels that are weighed side by side.
-#[derive(Drop)]
+#[derive(Clone, Copy)]
 struct Pair {
     one: Memory,
     two: Memory,

@@ -1,5 +1,6 @@
 // The weighting of a call: the state after it, and every used channel's outputs in the destination.
 #![tactic(auto)]
+
 ghost use Rattle.std.specs.Prelude.{◌≡◌};
 ghost use Rattle.base_refusals.specs.Answer.{said};
 ghost use Rattle.base_refusals.specs.Outcome.{said_by};

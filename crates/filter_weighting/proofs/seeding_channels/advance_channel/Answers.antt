@@ -1,0 +1,22 @@
+-- `seeding::advance_channel` meets its contract: a byte of 0 leaves all as it is, and any other puts the channel's memory through `advance`. Assumes nothing.
+use borrow.Author.Tests.{eq-eqb, ne_eqb}
+use mathlib.Core.Path.{refl, ap, ◌∙◌}
+use Rattle.samples.specs.Frames.{column}
+use Rattle.filter_recurrence.specs.declared.Memory.{Memory}
+use Rattle.filter_recurrence.specs.Recurrence.{after}
+use Rattle.filter_recurrence.specs.Channels.{with_memory}
+use Rattle.filter_weighting.proofs.seeding_channels.advance_channel.Goals as goal
+
+pub returns-then-byte-eq0 : goal.returns-then-byte-eq0
+returns-then-byte-eq0 c = simp (eq-eqb _ _ c.if-byte-eq0.true) refl
+
+pub returns : goal.returns
+returns c =
+    let v = c in
+    let l = v in
+    let q = l in
+    let a = q.args in
+    rw (ne_eqb a.byte 0 q.if-byte-eq0.false)
+    (c.store.ensures
+    ∙ ap (with_memory a.state.now a.k)
+    (v.advance-m.ensures ∙ ap (λ (m : Memory). after a.a m (column a.samples.now a.k a.channels a.count)) l.load.ensures))

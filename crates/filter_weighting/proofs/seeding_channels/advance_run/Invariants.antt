@@ -1,0 +1,20 @@
+use Prim.Native.Nat.{ℕ, ◌-◌, ◌≤◌}
+use mathlib.Core.Path.{◌≡◌}
+use mathlib.Core.List.{List}
+use lib.ListN.{drop}
+use lib.Ieee.{Float}
+use Rattle.samples.specs.Frames.{column}
+use Rattle.filter_recurrence.specs.Recurrence.{after}
+use Rattle.filter_recurrence.specs.Channels.{memory_of, with_memory, each_used}
+use Rattle.filter_weighting.proofs.seeding_channels.advance_run.Given as goal
+
+-- channel k's memory after its frames, in the state
+abbrev moves : List Float → List Float → ℕ → ℕ → ℕ → List Float → List Float
+moves a samples channels count k v = with_memory v k (after a (memory_of v k) (column samples k channels count))
+
+abbrev pub invariant-loop-k : goal.invariant-loop-k
+invariant-loop-k l =
+    (l.k ≤ l.channels) × (each_used (moves l.a l.samples l.channels l.count) (drop l.k l.map) l.k l.state ≡ each_used (moves l.a l.samples l.channels l.count) l.map 0 l.initial.state)
+
+abbrev pub decreases-loop-k : goal.decreases-loop-k
+decreases-loop-k l = l.channels - l.k
