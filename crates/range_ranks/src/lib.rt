@@ -1,5 +1,6 @@
 // The two ranks of the loudness range, by whole numbers. Each is the whole number nearest to a share of n, a tie upwards, for every n: no sum can wrap.
 #![tactic(auto)]
+
 ghost use Rattle.std.specs.Prelude.{◌≡◌};
 ghost use Rattle.range_ranks.specs.Ranks.{low_rank, high_rank};
 
