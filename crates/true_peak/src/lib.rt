@@ -1,5 +1,6 @@
 // True peak: the largest absolute phase of each channel, over interleaved samples.
 #![tactic(auto)]
+
 ghost use Rattle.std.specs.Prelude.{◌≡◌, ◌+◌, ◌*◌, ◌<◌, ◌≤◌, ◌^◌, length};
 ghost use Rattle.std.proofs.lemmas.List.Edits.{sets};
 ghost use Rattle.base_refusals.specs.Answer.{said};
@@ -52,7 +53,7 @@ fn recall(memory: &[f32; 184], c: usize, line: &mut [f32; true_peak_scan::LINE])
     requires memory_len { length memory.now ≡ most_channels * past }
     requires line_len { length line.old ≡ room }
     ensures past_after { back line.new 0 past ≡ history_at memory.now c }
-    ensures line_len_2 { length line.new ≡ room }
+    ensures line_len_after { length line.new ≡ room }
 {
     let mut k = 0;
     while k < TruePeak::PAST {
@@ -117,7 +118,7 @@ fn carry(line: &mut [f32; true_peak_scan::LINE], n: usize)
     requires n_le_stretch { n ≤ stretch }
     requires line_len { length line.old ≡ room }
     ensures past_after { back line.new 0 past ≡ back line.old n past }
-    ensures line_len_2 { length line.new ≡ room }
+    ensures line_len_after { length line.new ≡ room }
 {
     let mut k = 0;
     while k < TruePeak::PAST {
@@ -156,7 +157,7 @@ fn hear_stretch(
     requires channels_len_bound { length samples.now + channels < 2 ^ 64 }
     requires line_len { length line.old ≡ room }
     ensures result_after { channel (back line.new 0 past) result ≡ heard i (channel (back line.old 0 past) peak) (column samples.now first channels n) }
-    ensures line_len_2 { length line.new ≡ room }
+    ensures line_len_after { length line.new ≡ room }
 {
     gather(samples, first, channels, n, line);
     let loud = scan(i, taps, line, n, peak);
