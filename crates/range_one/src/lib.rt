@@ -1,5 +1,6 @@
 // The loudness range of one histogram: the bins of the two ranks among the blocks that the gate leaves.
 #![tactic(auto)]
+
 ghost use Rattle.std.specs.Prelude.{◌≡◌, ◌+◌, ◌-◌, ◌≤◌, length, take};
 ghost use Rattle.base_refusals.specs.Outcome.{says};
 ghost use Rattle.bins.specs.Bin.{bins};
@@ -14,7 +15,7 @@ use range_ranks::spans::Span;
 const GROUP: usize = 20;
 
 // A bin, and how many blocks stand below it.
-#[derive(Drop)]
+#[derive(Clone, Copy)]
 pub struct Place {
     pub bin: usize,
     pub before: u64,
