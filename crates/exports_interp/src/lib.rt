@@ -1,5 +1,6 @@
 // The C interface of the interpolator. include/xelamphoun.h declares it.
 #![tactic(auto)]
+
 ghost use Rattle.std.specs.Prelude.{◌≡◌};
 ghost use Rattle.true_peak_interp.specs.Interp.{fourfold, twofold};
 ghost use Rattle.true_peak_interp.specs.Phase.{phases};
