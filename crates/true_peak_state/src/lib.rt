@@ -7,7 +7,7 @@ ghost use Rattle.true_peak_state.specs.TruePeak.{silent};
 use true_peak_interp::Interp;
 
 // The memory and the peaks of eight channels.
-#[derive(Drop)]
+#[derive(Clone, Copy)]
 pub struct TruePeak {
     // Channel c's last 23 samples, newest first, from place c * 23 on.
     pub memory: [f32; 184],
