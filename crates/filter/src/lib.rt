@@ -1,5 +1,6 @@
 // The filter of a measurement: what it keeps between its calls, at rest and afterwards. Crates `filter_process` and `filter_seed` have its calls, `peaks` what is read of it.
 #![tactic(auto)]
+
 ghost use Rattle.std.specs.Prelude.{◌≡◌};
 ghost use Rattle.true_peak_state.specs.TruePeak.{silent};
 ghost use Rattle.filter.specs.Filter.{at_rest, no_peaks, resting, moved};
@@ -12,7 +13,7 @@ use true_peak_state::TruePeak;
 pub mod peaks;
 
 // What a call works out. What is off alters nothing.
-#[derive(Drop)]
+#[derive(Clone, Copy)]
 pub struct Switches {
     pub loudness: bool,
     pub peak: bool,
@@ -20,7 +21,7 @@ pub struct Switches {
 }
 
 // Everything that a measurement keeps between its calls. `true_peak` has the true peaks and the interpolator's memory.
-#[derive(Drop)]
+#[derive(Clone, Copy)]
 pub struct Filter {
     pub channels: usize,
     pub rate: u32,
