@@ -19,6 +19,6 @@ blocks_all_most [] b = zero-le
 blocks_all_most (x ∷ l) b = omega (arith, b 0, blocks_all_most l (λ (k : ℕ). b (suc k)))
 
 -- what a bin of 16 histograms has is a float exactly
-pub in_float : (blocks : ℕ) → blocks ≤ most_in_bin → T (in_float binary64 (pos blocks))
+pub few_in_float : (blocks : ℕ) → blocks ≤ most_in_bin → T (in_float binary64 (pos blocks))
 unfolding in_float
-in_float blocks h = le→leb blocks (2 ^ 53) (omega (arith, h))
+few_in_float blocks h = le→leb blocks (2 ^ 53) (omega (arith, h))
