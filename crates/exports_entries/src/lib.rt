@@ -1,5 +1,6 @@
 // A set of histories as the C interface takes it: five numbers an entry.
 #![tactic(auto)]
+
 ghost use Rattle.std.specs.Prelude.{◌≡◌, ◌≤◌, get_or};
 ghost use Rattle.history_set.specs.Set.{most_histories};
 ghost use Rattle.exports_entries.specs.Sets.{entry_at, entries_from};
