@@ -1,5 +1,6 @@
 // The loudness range over the queues of a set: their energies are put in rising order in a lent work slice.
 #![tactic(auto)]
+
 ghost use Rattle.std.specs.Prelude.{◌≡◌, true, ◌&&◌, ◌+◌, ◌-◌, ◌≤◌, length, take};
 ghost use Rattle.std.proofs.lemmas.List.Edits.{sets};
 ghost use Rattle.base_refusals.specs.Outcome.{said_by, kept_by};
