@@ -1,5 +1,6 @@
 // One call of the filter: sample peak, true peak and weighting over interleaved samples, each switched on by itself.
 #![tactic(auto)]
+
 ghost use Rattle.std.specs.Prelude.{◌≡◌, cond};
 ghost use Rattle.base_refusals.specs.Answer.{said};
 ghost use Rattle.base_refusals.specs.Outcome.{said_by, kept_by};
