@@ -1,5 +1,6 @@
 // Records of kinds 2 and 258: the energies of a queue, oldest first, written.
 #![tactic(auto)]
+
 ghost use Rattle.std.specs.Prelude.{◌≡◌, true, ◌+◌, ◌*◌, ◌≤◌, length};
 ghost use Rattle.std.proofs.lemmas.List.Edits.{sets};
 ghost use Rattle.base_refusals.specs.Outcome.{said_by, kept_by};
