@@ -1,5 +1,6 @@
 // A call of the filter that moves the weighting's state and the interpolator's memory: no peak and no destination is written.
 #![tactic(auto)]
+
 ghost use Rattle.std.specs.Prelude.{◌≡◌, cond};
 ghost use Rattle.base_refusals.specs.Answer.{said};
 ghost use Rattle.base_refusals.specs.Outcome.{said_by, kept_by};
