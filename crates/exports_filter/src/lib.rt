@@ -1,5 +1,6 @@
 // The C interface of the filter. include/xelamphoun.h declares it.
 #![tactic(auto)]
+
 ghost use Rattle.std.specs.Prelude.{◌≡◌};
 ghost use Rattle.samples.specs.Kinds.{i16s, f32s};
 ghost use Rattle.base_refusals.specs.Codes.{code};
