@@ -1,5 +1,6 @@
 // The C interface of the gate question, of gated energy and of the relative threshold. include/xelamphoun.h declares it.
 #![tactic(auto)]
+
 ghost use Rattle.std.specs.Prelude.{◌≡◌};
 ghost use Rattle.base_refusals.specs.Outcome.{said_by};
 ghost use Rattle.gate.specs.Gate.{gate_of, said};
@@ -51,8 +52,7 @@ fn gated_energy_of(entries: &[usize], counters: &[Count], energies: &[f64]) -> E
     )
 }
 
-#[unsafe(no_mangle)]
-pub extern "C" fn xel_gate(
+pub fn xel_gate(
     entries: &[usize],
     counters: &[Count],
     energies: &[f64],
@@ -76,8 +76,7 @@ pub extern "C" fn xel_gate(
     }
 }
 
-#[unsafe(no_mangle)]
-pub extern "C" fn xel_gated_energy(
+pub fn xel_gated_energy(
     entries: &[usize],
     counters: &[Count],
     energies: &[f64],
@@ -98,8 +97,7 @@ pub extern "C" fn xel_gated_energy(
     }
 }
 
-#[unsafe(no_mangle)]
-pub extern "C" fn xel_relative_threshold(
+pub fn xel_relative_threshold(
     entry: &[usize],
     counters: &[Count],
     energies: &[f64],
