@@ -8,16 +8,14 @@ ghost use Rattle.true_peak_interp.specs.Phase.{phases};
 use true_peak_interp::Interp;
 
 // The phases of a frame by factor 4, from its own sample and the 11 before it, newest first.
-#[unsafe(no_mangle)]
-pub extern "C" fn xel_phases_fourfold(samples: &[f32; 12], out: &mut [f32; 4])
+pub fn xel_phases_fourfold(samples: &[f32; 12], out: &mut [f32; 4])
     ensures { out.new ≡ phases fourfold samples.now }
 {
     *out = Interp::fourfold_phases(samples);
 }
 
 // The phases of a frame by factor 2, from its own sample and the 23 before it, newest first.
-#[unsafe(no_mangle)]
-pub extern "C" fn xel_phases_twofold(samples: &[f32; 24], out: &mut [f32; 2])
+pub fn xel_phases_twofold(samples: &[f32; 24], out: &mut [f32; 2])
     ensures { out.new ≡ phases twofold samples.now }
 {
     *out = Interp::twofold_phases(samples);
