@@ -1,5 +1,6 @@
 // `process` and `seed` over an `Interleaved` of each kind, in the modules: thin above the filter's calls over a slice.
 #![tactic(auto)]
+
 ghost use Rattle.std.specs.Prelude.{◌≡◌};
 ghost use Rattle.base_refusals.specs.Answer.{said};
 ghost use Rattle.interleaved_filter.specs.Said.{said_of, as_taken};
@@ -10,7 +11,7 @@ use filter::{Filter, Filtered};
 pub mod floats;
 pub mod ints;
 
-#[derive(Drop)]
+#[derive(Clone, Copy)]
 pub enum Took {
     Done,
     OtherChannels,
@@ -18,7 +19,7 @@ pub enum Took {
 }
 
 // What a call comes to, with the filter as it is afterwards.
-#[derive(Drop)]
+#[derive(Clone, Copy)]
 pub struct Heard {
     pub answer: Took,
     pub filter: Filter,

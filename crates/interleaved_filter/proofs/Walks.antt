@@ -1,2 +1,0 @@
-pub mod Seed
-pub mod Process
