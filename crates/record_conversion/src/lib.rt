@@ -1,5 +1,6 @@
 // Records converted over their bytes alone: kinds 1 and 257 to each other, and kinds 2 and 258.
 #![tactic(auto)]
+
 ghost use Rattle.std.specs.Prelude.{◌≡◌, reverse, ◌+◌, ◌*◌, ◌≤◌, length, take, drop};
 ghost use Rattle.std.proofs.lemmas.List.Edits.{sets};
 ghost use Rattle.base_refusals.specs.Outcome.{said_by, kept_by};
@@ -15,7 +16,7 @@ use record_layout::{Kind, Known, Model, Written};
 use record_queue_reader::Received;
 
 // The fields that records have: a counter or a number of four bytes, an energy of eight.
-#[derive(Drop)]
+#[derive(Clone, Copy)]
 enum Field {
     Word,
     DoubleWord,
