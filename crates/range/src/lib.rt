@@ -1,5 +1,6 @@
 // The loudness range over a set of histories: over its histograms or over its queues, which may not be mixed.
 #![tactic(auto)]
+
 ghost use Rattle.std.specs.Prelude.{◌≡◌, List, ℕ, ◌≤◌, Float, take};
 ghost use Rattle.base_refusals.specs.Outcome.{said_by, kept_by};
 ghost use Rattle.history_set.specs.Set.{most_histories, histories, shows, all_show};
