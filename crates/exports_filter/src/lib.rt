@@ -23,8 +23,7 @@ fn switches_of(on: u8) -> Switches
     }
 }
 
-#[unsafe(no_mangle)]
-pub extern "C" fn xel_process_i16(
+pub fn xel_process_i16(
     channels: usize,
     rate: u32,
     on: u8,
@@ -65,8 +64,7 @@ pub extern "C" fn xel_process_i16(
     number_of(answer)
 }
 
-#[unsafe(no_mangle)]
-pub extern "C" fn xel_process_f32(
+pub fn xel_process_f32(
     channels: usize,
     rate: u32,
     on: u8,
@@ -108,8 +106,7 @@ pub extern "C" fn xel_process_f32(
 }
 
 // A seed call looks at no output coefficient and at no peak.
-#[unsafe(no_mangle)]
-pub extern "C" fn xel_seed_i16(
+pub fn xel_seed_i16(
     channels: usize,
     rate: u32,
     on: u8,
@@ -145,8 +142,7 @@ pub extern "C" fn xel_seed_i16(
     number_of(answer)
 }
 
-#[unsafe(no_mangle)]
-pub extern "C" fn xel_seed_f32(
+pub fn xel_seed_f32(
     channels: usize,
     rate: u32,
     on: u8,

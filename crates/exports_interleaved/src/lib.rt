@@ -15,8 +15,7 @@ mod ints;
 // The code of a channel or a frame past the end.
 const PAST_THE_END: u8 = 130;
 
-#[unsafe(no_mangle)]
-pub extern "C" fn xel_interleaved_channels_i16(
+pub fn xel_interleaved_channels_i16(
     data: &[i16],
     channels: usize,
     first: usize,
@@ -27,8 +26,7 @@ pub extern "C" fn xel_interleaved_channels_i16(
     ints::channels(data, channels, first, end)
 }
 
-#[unsafe(no_mangle)]
-pub extern "C" fn xel_interleaved_frames_i16(
+pub fn xel_interleaved_frames_i16(
     data: &[i16],
     channels: usize,
     first: usize,
@@ -47,8 +45,7 @@ pub extern "C" fn xel_interleaved_frames_i16(
     }
 }
 
-#[unsafe(no_mangle)]
-pub extern "C" fn xel_interleaved_sample_i16(
+pub fn xel_interleaved_sample_i16(
     data: &[i16],
     channels: usize,
     first: usize,
@@ -70,8 +67,7 @@ pub extern "C" fn xel_interleaved_sample_i16(
     }
 }
 
-#[unsafe(no_mangle)]
-pub extern "C" fn xel_interleaved_channels_f32(
+pub fn xel_interleaved_channels_f32(
     data: &[f32],
     channels: usize,
     first: usize,
@@ -82,8 +78,7 @@ pub extern "C" fn xel_interleaved_channels_f32(
     floats::channels(data, channels, first, end)
 }
 
-#[unsafe(no_mangle)]
-pub extern "C" fn xel_interleaved_frames_f32(
+pub fn xel_interleaved_frames_f32(
     data: &[f32],
     channels: usize,
     first: usize,
@@ -102,8 +97,7 @@ pub extern "C" fn xel_interleaved_frames_f32(
     }
 }
 
-#[unsafe(no_mangle)]
-pub extern "C" fn xel_interleaved_sample_f32(
+pub fn xel_interleaved_sample_f32(
     data: &[f32],
     channels: usize,
     first: usize,

@@ -1,0 +1,106 @@
+// The C functions of exports_filter, for the archive: each calls that crate's of its name, with the same clauses. include/xelamphoun.h declares them.
+#![tactic(auto)]
+
+ghost use Rattle.std.specs.Prelude.{◌≡◌};
+ghost use Rattle.samples.specs.Kinds.{i16s, f32s};
+ghost use Rattle.base_refusals.specs.Codes.{code};
+ghost use Rattle.filter.specs.Filter.{no_peaks, resting, with_arrays};
+ghost use Rattle.filter.specs.Call.{Call, seed_of, standing, kept};
+ghost use Rattle.filter.specs.Process.{processed};
+ghost use Rattle.filter.specs.Seed.{seeded};
+ghost use Rattle.exports_filter.specs.Switches.{switches_of};
+
+#[unsafe(no_mangle)]
+pub extern "C" fn xel_process_i16(
+    channels: usize,
+    rate: u32,
+    on: u8,
+    a: &[f64; 5],
+    b: &[f64; 5],
+    state: &mut [f64; 40],
+    peaks: &mut [f64; 8],
+    memory: &mut [f32; 184],
+    true_peaks: &mut [f32; 8],
+    data: &[i16],
+    map: &[u8],
+    dest: &mut [f64],
+    start: usize,
+) -> u8
+    ensures { (let rest = resting channels rate (switches_of on) (record { a = a.entry.now; b = b.now }) in
+        let filter = with_arrays rest (record { state = state.entry.now; peaks = peaks.old; memory = memory.old; true_peaks = true_peaks.old }) in
+        let left = standing rest (record { state = state.exit.now; peaks = peaks.new; memory = memory.new; true_peaks = true_peaks.new }) dest.new in
+        let call : Call = record { filter = filter; samples = i16s «data».now; map = map.now; dest = dest.old; start = start } in
+        (result ≡ code (processed call)) × (left ≡ kept processed call)) }
+{
+    exports_filter::xel_process_i16(
+        channels, rate, on, a, b, state, peaks, memory, true_peaks, data, map, dest, start,
+    )
+}
+
+#[unsafe(no_mangle)]
+pub extern "C" fn xel_process_f32(
+    channels: usize,
+    rate: u32,
+    on: u8,
+    a: &[f64; 5],
+    b: &[f64; 5],
+    state: &mut [f64; 40],
+    peaks: &mut [f64; 8],
+    memory: &mut [f32; 184],
+    true_peaks: &mut [f32; 8],
+    data: &[f32],
+    map: &[u8],
+    dest: &mut [f64],
+    start: usize,
+) -> u8
+    ensures { (let rest = resting channels rate (switches_of on) (record { a = a.entry.now; b = b.now }) in
+        let filter = with_arrays rest (record { state = state.entry.now; peaks = peaks.old; memory = memory.old; true_peaks = true_peaks.old }) in
+        let left = standing rest (record { state = state.exit.now; peaks = peaks.new; memory = memory.new; true_peaks = true_peaks.new }) dest.new in
+        let call : Call = record { filter = filter; samples = f32s «data».now; map = map.now; dest = dest.old; start = start } in
+        (result ≡ code (processed call)) × (left ≡ kept processed call)) }
+{
+    exports_filter::xel_process_f32(
+        channels, rate, on, a, b, state, peaks, memory, true_peaks, data, map, dest, start,
+    )
+}
+
+// A seed call looks at no output coefficient and at no peak.
+#[unsafe(no_mangle)]
+pub extern "C" fn xel_seed_i16(
+    channels: usize,
+    rate: u32,
+    on: u8,
+    a: &[f64; 5],
+    state: &mut [f64; 40],
+    memory: &mut [f32; 184],
+    data: &[i16],
+    map: &[u8],
+) -> u8
+    ensures { let rest = resting channels rate (switches_of on) (record { a = a.entry.now; b = a.entry.now }) in
+        let filter = with_arrays rest (record { state = state.entry.now; peaks = no_peaks; memory = memory.old; true_peaks = no_peaks }) in
+        let left = with_arrays rest (record { state = state.exit.now; peaks = no_peaks; memory = memory.new; true_peaks = no_peaks }) in
+        let call = seed_of filter (i16s «data».now) map.now in
+        (result ≡ code (seeded call)) × (left ≡ (kept seeded call).filter) }
+{
+    exports_filter::xel_seed_i16(channels, rate, on, a, state, memory, data, map)
+}
+
+#[unsafe(no_mangle)]
+pub extern "C" fn xel_seed_f32(
+    channels: usize,
+    rate: u32,
+    on: u8,
+    a: &[f64; 5],
+    state: &mut [f64; 40],
+    memory: &mut [f32; 184],
+    data: &[f32],
+    map: &[u8],
+) -> u8
+    ensures { let rest = resting channels rate (switches_of on) (record { a = a.entry.now; b = a.entry.now }) in
+        let filter = with_arrays rest (record { state = state.entry.now; peaks = no_peaks; memory = memory.old; true_peaks = no_peaks }) in
+        let left = with_arrays rest (record { state = state.exit.now; peaks = no_peaks; memory = memory.new; true_peaks = no_peaks }) in
+        let call = seed_of filter (f32s «data».now) map.now in
+        (result ≡ code (seeded call)) × (left ≡ (kept seeded call).filter) }
+{
+    exports_filter::xel_seed_f32(channels, rate, on, a, state, memory, data, map)
+}
