@@ -1,5 +1,6 @@
 // The C interface of the histories. include/xelamphoun.h declares it.
 #![tactic(auto)]
+
 ghost use Rattle.std.specs.Prelude.{◌≡◌};
 ghost use Rattle.base_refusals.specs.Outcome.{kept_by};
 ghost use Rattle.base_refusals.specs.Codes.{code};
@@ -13,24 +14,21 @@ use base_refusals::codes::number_of;
 use bins::Count;
 use history_queue::Queue;
 
-#[unsafe(no_mangle)]
-pub extern "C" fn xel_histogram_add(counters: &mut [Count], energy: f64) -> u8
+pub fn xel_histogram_add(counters: &mut [Count], energy: f64) -> u8
     ensures { (result ≡ code (add_to counters.old energy))
         × (counters.new ≡ kept_by counters.old (add_to counters.old energy)) }
 {
     number_of(history_histogram::add(counters, energy))
 }
 
-#[unsafe(no_mangle)]
-pub extern "C" fn xel_histogram_merge(into: &mut [Count], from: &[Count]) -> u8
+pub fn xel_histogram_merge(into: &mut [Count], from: &[Count]) -> u8
     ensures { (result ≡ code (merge_into into.old from.now))
         × (into.new ≡ kept_by into.old (merge_into into.old from.now)) }
 {
     number_of(history_histogram::merging::merge(into, from))
 }
 
-#[unsafe(no_mangle)]
-pub extern "C" fn xel_histogram_reset(counters: &mut [Count]) -> u8
+pub fn xel_histogram_reset(counters: &mut [Count]) -> u8
     ensures { (result ≡ code (cleared counters.old))
         × (counters.new ≡ kept_by counters.old (cleared counters.old)) }
 {
@@ -38,8 +36,7 @@ pub extern "C" fn xel_histogram_reset(counters: &mut [Count]) -> u8
 }
 
 // A refused call stores nothing: head, held and store may be read-only, or be read meanwhile.
-#[unsafe(no_mangle)]
-pub extern "C" fn xel_queue_add(
+pub fn xel_queue_add(
     maximum: usize,
     head: &mut usize,
     held: &mut usize,

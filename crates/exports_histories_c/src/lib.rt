@@ -1,0 +1,53 @@
+// The C functions of exports_histories, for the archive: each calls that crate's of its name, with the same clauses. include/xelamphoun.h declares them.
+#![tactic(auto)]
+
+ghost use Rattle.std.specs.Prelude.{◌≡◌};
+ghost use Rattle.base_refusals.specs.Outcome.{kept_by};
+ghost use Rattle.base_refusals.specs.Codes.{code};
+ghost use Rattle.history_histogram.specs.Histogram.{add_to, cleared};
+ghost use Rattle.history_histogram.specs.Merge.{merge_into};
+ghost use Rattle.history_queue.specs.Adding.{enqueued};
+ghost use Rattle.exports_histories.specs.Queues.{queue_over, after_add};
+
+use bins::Count;
+
+#[unsafe(no_mangle)]
+pub extern "C" fn xel_histogram_add(counters: &mut [Count], energy: f64) -> u8
+    ensures { (result ≡ code (add_to counters.old energy))
+        × (counters.new ≡ kept_by counters.old (add_to counters.old energy)) }
+{
+    exports_histories::xel_histogram_add(counters, energy)
+}
+
+#[unsafe(no_mangle)]
+pub extern "C" fn xel_histogram_merge(into: &mut [Count], from: &[Count]) -> u8
+    ensures { (result ≡ code (merge_into into.old from.now))
+        × (into.new ≡ kept_by into.old (merge_into into.old from.now)) }
+{
+    exports_histories::xel_histogram_merge(into, from)
+}
+
+#[unsafe(no_mangle)]
+pub extern "C" fn xel_histogram_reset(counters: &mut [Count]) -> u8
+    ensures { (result ≡ code (cleared counters.old))
+        × (counters.new ≡ kept_by counters.old (cleared counters.old)) }
+{
+    exports_histories::xel_histogram_reset(counters)
+}
+
+// A refused call stores nothing: head, held and store may be read-only, or be read meanwhile.
+#[unsafe(no_mangle)]
+pub extern "C" fn xel_queue_add(
+    maximum: usize,
+    head: &mut usize,
+    held: &mut usize,
+    store: &mut [f64],
+    energy: f64,
+) -> u8
+    ensures { (result ≡ code (enqueued (queue_over maximum head.old held.old store.old) energy))
+        × (head.new ≡ (after_add (queue_over maximum head.old held.old store.old) energy).queue.head)
+        × (held.new ≡ (after_add (queue_over maximum head.old held.old store.old) energy).queue.held)
+        × (store.new ≡ (after_add (queue_over maximum head.old held.old store.old) energy).store) }
+{
+    exports_histories::xel_queue_add(maximum, head, held, store, energy)
+}
