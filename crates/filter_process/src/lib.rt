@@ -49,10 +49,10 @@ fn listen(
     ints: &[i16],
     floats: &[f32],
 )
-    ensures { (let stored : TruePeak = record { memory = memory.entry.now; peaks = peaks.old } in
+    ensures { (let stored : TruePeak = record { memory = memory.old; peaks = peaks.old } in
         let heard : Heard = record { channels = channels; samples = as_f32 (lent ints.now floats.now) } in
         let after = cond on (kept_by stored (trues.processed rate heard stored)) stored in
-        (memory.exit.now ≡ after.memory) × (peaks.new ≡ after.peaks)) }
+        (memory.new ≡ after.memory) × (peaks.new ≡ after.peaks)) }
 {
     if !on {
         return;
@@ -110,9 +110,9 @@ pub fn process_lent(
     dest: &mut [f64],
     start: usize,
 ) -> Answer
-    ensures { (let rest = resting channels rate switches (record { a = a.entry.now; b = b.now }) in
-        let filter = with_arrays rest (record { state = state.entry.now; peaks = peaks.old; memory = memory.old; true_peaks = true_peaks.old }) in
-        let left = standing rest (record { state = state.exit.now; peaks = peaks.new; memory = memory.new; true_peaks = true_peaks.new }) dest.new in
+    ensures { (let rest = resting channels rate switches (record { a = a.now; b = b.now }) in
+        let filter = with_arrays rest (record { state = state.old; peaks = peaks.old; memory = memory.old; true_peaks = true_peaks.old }) in
+        let left = standing rest (record { state = state.new; peaks = peaks.new; memory = memory.new; true_peaks = true_peaks.new }) dest.new in
         let samples = lent ints.now floats.now in
         let call : Call = record { filter = filter; samples = samples; map = map.now; dest = dest.old; start = start } in
         (said result ≡ said_by (processed call)) × (left ≡ kept processed call)) }

@@ -32,9 +32,9 @@ fn remember(
     ints: &[i16],
     floats: &[f32],
 )
-    ensures { (let stored : TruePeak = record { memory = memory.entry.now; peaks = peaks.now } in
+    ensures { (let stored : TruePeak = record { memory = memory.old; peaks = peaks.now } in
         let heard : Heard = record { channels = channels; samples = as_f32 (lent ints.now floats.now) } in
-        memory.exit.now ≡ (cond on (kept_by stored (trues.seeded rate heard stored)) stored).memory) }
+        memory.new ≡ (cond on (kept_by stored (trues.seeded rate heard stored)) stored).memory) }
 {
     if !on {
         return;
@@ -61,7 +61,7 @@ fn advance(
 )
     ensures { (let stored : State = record { values = state.old } in
         let samples = as_f64 (lent ints.now floats.now) in
-        let call = recurrence.weighing_of (record { a = a.entry.now; b = b.now }) stored channels samples map.now in
+        let call = recurrence.weighing_of (record { a = a.now; b = b.now }) stored channels samples map.now in
         state.new ≡ (cond on (kept_by stored (seeding.moved call)) stored).values) }
 {
     if !on {
@@ -90,9 +90,9 @@ pub fn seed_lent(
     floats: &[f32],
     map: &[u8],
 ) -> Answer
-    ensures { let rest = resting channels rate switches (record { a = a.entry.now; b = b.now }) in
-        let filter = with_arrays rest (record { state = state.entry.now; peaks = peaks.now; memory = memory.old; true_peaks = true_peaks.now }) in
-        let left = with_arrays rest (record { state = state.exit.now; peaks = peaks.now; memory = memory.new; true_peaks = true_peaks.now }) in
+    ensures { let rest = resting channels rate switches (record { a = a.now; b = b.now }) in
+        let filter = with_arrays rest (record { state = state.old; peaks = peaks.now; memory = memory.old; true_peaks = true_peaks.now }) in
+        let left = with_arrays rest (record { state = state.new; peaks = peaks.now; memory = memory.new; true_peaks = true_peaks.now }) in
         let call = seed_of filter (lent ints.now floats.now) map.now in
         (said result ≡ said_by (seeded call)) × (left ≡ (kept seeded call).filter) }
 {
