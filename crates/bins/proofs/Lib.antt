@@ -1,3 +1,4 @@
 pub mod Bins
+pub mod Halving
 pub mod Readings
 pub mod Scanning
