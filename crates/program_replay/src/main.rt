@@ -53,12 +53,7 @@ fn print_same(rt: &impl Print, same: u64, cases: u64) -> io::Result<bool> {
 }
 
 // How many cases were the same before the first that was not.
-fn replay_cases(
-    list: &mut impl Read,
-    operation: u64,
-    cases: u64,
-    size: u64,
-) -> io::Result<u64> {
+fn replay_cases(list: &mut impl Read, operation: u64, cases: u64, size: u64) -> io::Result<u64> {
     for same in 0..cases {
         if !replay_case(list, operation, size)? {
             return Ok(same);
