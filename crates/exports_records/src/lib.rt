@@ -1,5 +1,6 @@
 // The C interface of the records of histograms and of queues, of our own and of the third model's. include/xelamphoun.h declares it.
 #![tactic(auto)]
+
 ghost use Rattle.std.specs.Prelude.{◌≡◌};
 ghost use Rattle.base_refusals.specs.Outcome.{kept_by};
 ghost use Rattle.base_refusals.specs.Codes.{code, value_or};
@@ -35,9 +36,9 @@ fn tell_written(answer: Written, written: &mut usize) -> u8
 // The queue's numbers go behind theirs.
 fn tell_queue(answer: Received, maximum: &mut usize, head: &mut usize, held: &mut usize) -> u8
     ensures { (result ≡ code_said (said_received answer))
-        × (maximum.exit.now ≡ (value_said (record { maximum = maximum.entry.now; head = head.old; held = held.old }) (said_received answer)).maximum)
-        × (head.new ≡ (value_said (record { maximum = maximum.entry.now; head = head.old; held = held.old }) (said_received answer)).head)
-        × (held.new ≡ (value_said (record { maximum = maximum.entry.now; head = head.old; held = held.old }) (said_received answer)).held) }
+        × (maximum.new ≡ (value_said (record { maximum = maximum.old; head = head.old; held = held.old }) (said_received answer)).maximum)
+        × (head.new ≡ (value_said (record { maximum = maximum.old; head = head.old; held = held.old }) (said_received answer)).head)
+        × (held.new ≡ (value_said (record { maximum = maximum.old; head = head.old; held = held.old }) (said_received answer)).held) }
 {
     match answer {
         Received::Held(queue) => {
@@ -51,24 +52,21 @@ fn tell_queue(answer: Received, maximum: &mut usize, head: &mut usize, held: &mu
 }
 
 // ---- histograms
-#[unsafe(no_mangle)]
-pub extern "C" fn xel_histogram_read(bytes: &[u8], counters: &mut [Count]) -> u8
+pub fn xel_histogram_read(bytes: &[u8], counters: &mut [Count]) -> u8
     ensures { (result ≡ code (read_histogram bytes.now counters.old))
         × (counters.new ≡ kept_by counters.old (read_histogram bytes.now counters.old)) }
 {
     number_of(record_histogram::reader::read_histogram(bytes, counters))
 }
 
-#[unsafe(no_mangle)]
-pub extern "C" fn xel_third_histogram_read(bytes: &[u8], counters: &mut [Count]) -> u8
+pub fn xel_third_histogram_read(bytes: &[u8], counters: &mut [Count]) -> u8
     ensures { (result ≡ code (read_third_histogram bytes.now counters.old))
         × (counters.new ≡ kept_by counters.old (read_third_histogram bytes.now counters.old)) }
 {
     number_of(record_histogram::reader::read_third_histogram(bytes, counters))
 }
 
-#[unsafe(no_mangle)]
-pub extern "C" fn xel_histogram_write(counters: &[Count], out: &mut [u8], written: &mut usize) -> u8
+pub fn xel_histogram_write(counters: &[Count], out: &mut [u8], written: &mut usize) -> u8
     ensures { (result ≡ code (write_histogram counters.now out.old))
         × (written.new ≡ value_or written.old (write_histogram counters.now out.old))
         × (out.new ≡ kept_by out.old (write_histogram counters.now out.old)) }
@@ -77,12 +75,7 @@ pub extern "C" fn xel_histogram_write(counters: &[Count], out: &mut [u8], writte
     tell_written(answer, written)
 }
 
-#[unsafe(no_mangle)]
-pub extern "C" fn xel_third_histogram_write(
-    counters: &[Count],
-    out: &mut [u8],
-    written: &mut usize,
-) -> u8
+pub fn xel_third_histogram_write(counters: &[Count], out: &mut [u8], written: &mut usize) -> u8
     ensures { (result ≡ code (write_third_histogram counters.now out.old))
         × (written.new ≡ value_or written.old (write_third_histogram counters.now out.old))
         × (out.new ≡ kept_by out.old (write_third_histogram counters.now out.old)) }
@@ -92,8 +85,7 @@ pub extern "C" fn xel_third_histogram_write(
 }
 
 // ---- queues
-#[unsafe(no_mangle)]
-pub extern "C" fn xel_queue_read(
+pub fn xel_queue_read(
     bytes: &[u8],
     maximum: &mut usize,
     head: &mut usize,
@@ -101,17 +93,16 @@ pub extern "C" fn xel_queue_read(
     store: &mut [f64],
 ) -> u8
     ensures { (result ≡ code (read_queue bytes.now store.old))
-        × (maximum.exit.now ≡ (value_or (record { maximum = maximum.entry.now; head = head.old; held = held.old }) (read_queue bytes.now store.old)).maximum)
-        × (head.new ≡ (value_or (record { maximum = maximum.entry.now; head = head.old; held = held.old }) (read_queue bytes.now store.old)).head)
-        × (held.new ≡ (value_or (record { maximum = maximum.entry.now; head = head.old; held = held.old }) (read_queue bytes.now store.old)).held)
+        × (maximum.new ≡ (value_or (record { maximum = maximum.old; head = head.old; held = held.old }) (read_queue bytes.now store.old)).maximum)
+        × (head.new ≡ (value_or (record { maximum = maximum.old; head = head.old; held = held.old }) (read_queue bytes.now store.old)).head)
+        × (held.new ≡ (value_or (record { maximum = maximum.old; head = head.old; held = held.old }) (read_queue bytes.now store.old)).held)
         × (store.new ≡ kept_by store.old (read_queue bytes.now store.old)) }
 {
     let answer = record_queue_reader::read_queue(bytes, store);
     tell_queue(answer, maximum, head, held)
 }
 
-#[unsafe(no_mangle)]
-pub extern "C" fn xel_third_queue_read(
+pub fn xel_third_queue_read(
     bytes: &[u8],
     maximum: &mut usize,
     head: &mut usize,
@@ -119,17 +110,16 @@ pub extern "C" fn xel_third_queue_read(
     store: &mut [f64],
 ) -> u8
     ensures { (result ≡ code (read_third_queue bytes.now store.old))
-        × (maximum.exit.now ≡ (value_or (record { maximum = maximum.entry.now; head = head.old; held = held.old }) (read_third_queue bytes.now store.old)).maximum)
-        × (head.new ≡ (value_or (record { maximum = maximum.entry.now; head = head.old; held = held.old }) (read_third_queue bytes.now store.old)).head)
-        × (held.new ≡ (value_or (record { maximum = maximum.entry.now; head = head.old; held = held.old }) (read_third_queue bytes.now store.old)).held)
+        × (maximum.new ≡ (value_or (record { maximum = maximum.old; head = head.old; held = held.old }) (read_third_queue bytes.now store.old)).maximum)
+        × (head.new ≡ (value_or (record { maximum = maximum.old; head = head.old; held = held.old }) (read_third_queue bytes.now store.old)).head)
+        × (held.new ≡ (value_or (record { maximum = maximum.old; head = head.old; held = held.old }) (read_third_queue bytes.now store.old)).held)
         × (store.new ≡ kept_by store.old (read_third_queue bytes.now store.old)) }
 {
     let answer = record_queue_reader::read_third_queue(bytes, store);
     tell_queue(answer, maximum, head, held)
 }
 
-#[unsafe(no_mangle)]
-pub extern "C" fn xel_queue_write(
+pub fn xel_queue_write(
     maximum: usize,
     head: usize,
     held: usize,
@@ -150,8 +140,7 @@ pub extern "C" fn xel_queue_write(
     tell_written(answer, written)
 }
 
-#[unsafe(no_mangle)]
-pub extern "C" fn xel_third_queue_write(
+pub fn xel_third_queue_write(
     maximum: usize,
     head: usize,
     held: usize,
@@ -173,13 +162,7 @@ pub extern "C" fn xel_third_queue_write(
 }
 
 // ---- conversion
-#[unsafe(no_mangle)]
-pub extern "C" fn xel_record_convert(
-    kind: u16,
-    bytes: &[u8],
-    out: &mut [u8],
-    written: &mut usize,
-) -> u8
+pub fn xel_record_convert(kind: u16, bytes: &[u8], out: &mut [u8], written: &mut usize) -> u8
     ensures { (result ≡ code (converted_asked kind bytes.now out.old))
         × (written.new ≡ value_or written.old (converted_asked kind bytes.now out.old))
         × (out.new ≡ kept_by out.old (converted_asked kind bytes.now out.old)) }

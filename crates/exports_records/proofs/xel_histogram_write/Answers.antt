@@ -1,0 +1,15 @@
+-- `exports_records::xel_histogram_write` meets its contract: the answer is told as the C interface tells it. Assumes nothing.
+use mathlib.Core.Path.{◌∙◌}
+use Rattle.record_histogram.specs.Writing.{write_histogram}
+use Rattle.record_layout.specs.Written.{said}
+use Rattle.exports_records.proofs.Told.{code_told, value_told}
+use Rattle.exports_records.proofs.xel_histogram_write.Goals as goal
+
+pub returns : goal.returns
+returns c =
+    let a = c.args in
+    let outcome = write_histogram a.counters.now a.out.now in
+    let answer = said c.write_histogram-answer.result in
+    let given = c.write_histogram-answer.ensures in
+    let told = c.tell_written.ensures in
+    (code_told answer outcome c.tell_written.result told.0 given.0, told.1 ∙ value_told answer outcome a.written.now given.0, given.1)

@@ -1,0 +1,15 @@
+-- `exports_records::xel_record_convert` meets its contract: the answer is told as the C interface tells it. Assumes nothing.
+use mathlib.Core.Path.{◌∙◌}
+use Rattle.record_conversion.specs.Conversion.{converted_asked}
+use Rattle.record_layout.specs.Written.{said}
+use Rattle.exports_records.proofs.Told.{code_told, value_told}
+use Rattle.exports_records.proofs.xel_record_convert.Goals as goal
+
+pub returns : goal.returns
+returns c =
+    let a = c.args in
+    let outcome = converted_asked a.kind a.bytes.now a.out.now in
+    let answer = said c.convert_asked-answer.result in
+    let given = c.convert_asked-answer.ensures in
+    let told = c.tell_written.ensures in
+    (code_told answer outcome c.tell_written.result told.0 given.0, told.1 ∙ value_told answer outcome a.written.now given.0, given.1)
