@@ -11,7 +11,7 @@ use Rattle.gate.specs.Sums.{totals_of, all_of, alone}
 use Rattle.gate.specs.Relative.{level_of, level_rows, relative_of}
 use Rattle.gate.specs.Gate.{left_of, gating_rows, gate_rows, gate_over, gate_of}
 use Rattle.gate.specs.GatedEnergy.{gated_energy_of}
-use Rattle.acceptance_meaning.specs.Bs1770.{equals_kept, mean_of, mean_of_these, measured, measured_gate, Feed, material_of}
+use Rattle.acceptance_meaning.specs.Bs1770.{equals_kept, mean_of_these, measured, measured_gate, Feed, material_of}
 use Rattle.acceptance_meaning.specs.Gate.{Fed, GateIsBs1770}
 use Rattle.acceptance_meaning.proofs.Meaning.{gate_is_bs1770, threshold_is_gate}
 use Rattle.acceptance_meaning.proofs.Equals.{strict_same}

@@ -1,5 +1,5 @@
 -- Demand 2, the gate: "ITU-R BS.1770 and EBU Tech 3342 decide the meaning of gating and range." `measured` is BS.1770's measurement over blocks, by its two gates;
--- Bs1770.antt says what it rests on. Departures: the Rust keeps a block that stands at a gate (`equalsKept`) where the document leaves it
+-- Bs1770.antt says what it rests on. Departures: the Rust keeps a block that stands at a gate (`equals_kept`) where the document leaves it
 -- out (`strict`), and a histogram's block stands at the energy of its bin. proofs/Gate.antt proves `GateIsBs1770`.
 use Rattle.std.specs.Prelude.{ℕ, ◌≡◌, true, false, List, [], ◌∷◌, Float}
 use Rattle.std.specs.Float.Ieee.{is_nan}

@@ -1,6 +1,6 @@
--- Demand 2, the range: "ITU-R BS.1770 and EBU Tech 3342 decide the meaning of gating and range." `loudnessRange` is Tech 3342's over blocks: its two gates, then its
+-- Demand 2, the range: "ITU-R BS.1770 and EBU Tech 3342 decide the meaning of gating and range." `loudness_range` is Tech 3342's over blocks: its two gates, then its
 -- two percentiles; Tech3342.antt says what it rests on. Departures: blocks at a gate are kept; a histogram's block stands at the energy of
--- its bin, and the mean of its gate is from count times energy, bins upward (`binsGate`). proofs/Range.antt proves `RangeIsTech3342`.
+-- its bin, and the mean of its gate is from count times energy, bins upward (`bins_gate`). proofs/Range.antt proves `RangeIsTech3342`.
 use Rattle.std.specs.Prelude.{ℕ, ◌≤◌, ◌≡◌, true, false, List, ◌++◌, length, drop, Float}
 use Rattle.base_refusals.specs.Outcome.{went}
 use Rattle.history_histogram.specs.Histogram.{empty}
