@@ -1,5 +1,6 @@
 // The figures of a report on one histogram's record: how many blocks, the bins of the range's two energies, and the range in tenths.
 #![tactic(auto)]
+
 ghost use Rattle.std.specs.Prelude.{◌≡◌, ◌-◌, length};
 ghost use Rattle.base_refusals.specs.Outcome.{said_by};
 ghost use Rattle.bins.specs.Bin.{bins};

@@ -1,0 +1,33 @@
+-- `record_summary::figures` meets its contract, by each answer of the range. Assumes nothing.
+use mathlib.Core.Path.{sym}
+use mathlib.Core.List.{[]}
+use Rattle.range_histograms.specs.Counted.{blocks_in}
+use Rattle.range.specs.Range.{found, nothing, not_a_number, range_of}
+use Rattle.record_summary.specs.Summary.{alone, figures_of}
+use Rattle.record_summary.proofs.Ranges.{span_figures, refused_figures}
+use Rattle.record_summary.proofs.figures.Goals as goal
+
+pub returns-in-Found : goal.returns-in-Found
+unfolding figures_of alone
+returns-in-Found c =
+    let counters = c.args.counters.now in
+    rw (c.between.ensures, c.find_histogram_index-low.ensures, c.find_histogram_index-high.ensures, c.blocks_in-blocks.ensures)
+    (sym (span_figures (blocks_in counters) (range_of (alone counters) []) (found c.in-Found.low c.in-Found.high) c.in-Found.ensures.0))
+
+pub returns-in-Nothing : goal.returns-in-Nothing
+unfolding figures_of alone
+returns-in-Nothing c =
+    let counters = c.args.counters.now in
+    rw c.blocks_in-blocks.ensures (sym (span_figures (blocks_in counters) (range_of (alone counters) []) nothing c.in-Nothing.ensures.0))
+
+pub returns-in-NotANumber : goal.returns-in-NotANumber
+unfolding figures_of alone
+returns-in-NotANumber c =
+    let counters = c.args.counters.now in
+    rw c.blocks_in-blocks.ensures (sym (span_figures (blocks_in counters) (range_of (alone counters) []) not_a_number c.in-NotANumber.ensures.0))
+
+pub returns-in-Refused : goal.returns-in-Refused
+unfolding figures_of alone
+returns-in-Refused c =
+    let counters = c.args.counters.now in
+    sym (refused_figures (blocks_in counters) (range_of (alone counters) []) c.in-Refused.number c.in-Refused.ensures.0)
