@@ -1,5 +1,5 @@
 -- `exports_histories::xel_queue_add` meets its contract: the queue's numbers are taken together, and each is handed back where the call went.
--- Where it is refused they stay, as `refused-stays` says of every outcome that tells a refusal. Assumes nothing.
+-- Where it is refused they stay, as `refused_stays` says of every outcome that tells a refusal. Assumes nothing.
 use mathlib.Core.Path.{◌≡◌, refl, sym, ap, ◌∙◌}
 use Prim.Native.Nat.{ℕ}
 use native.Mathlib.Omega.{arith}
