@@ -1,5 +1,6 @@
 // The C interface of the range. include/xelamphoun.h declares it.
 #![tactic(auto)]
+
 ghost use Rattle.std.specs.Prelude.{◌≡◌, length};
 ghost use Rattle.base_refusals.specs.Outcome.{said_by, kept_by};
 ghost use Rattle.range_ranks.specs.Span.{said};
@@ -71,8 +72,7 @@ fn asked(entries: &[usize], counters: &[Count], energies: &[f64], work: &mut [f6
     of_set(entries, counters, energies, work)
 }
 
-#[unsafe(no_mangle)]
-pub extern "C" fn xel_loudness_range(
+pub fn xel_loudness_range(
     entries: &[usize],
     counters: &[Count],
     energies: &[f64],

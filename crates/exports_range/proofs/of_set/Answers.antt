@@ -8,19 +8,14 @@ use Rattle.history_set.specs.declared.set.Entry.{Entry}
 use Rattle.history_set.specs.Set.{histories}
 use Rattle.range.specs.Range.{range_of}
 use Rattle.exports_entries.specs.Sets.{numbers_an_entry}
-use borrow.Author.Rules.{rules}
-use Rattle.exports_range.proofs.of_set.Statement.{statement}
-use Rattle.exports_range.proofs.of_set.Tie as tie
+use Rattle.exports_range.proofs.of_set.Goals as goal
 
-returns : tie.Need-returns
+pub returns : goal.returns
 returns c =
-    let call = c.before.before in
-    let made = call.before.before in
-    let a = made.before.before.before.before.before.args in
+    let call = c in
+    let made = call in
+    let a = made.args in
     let same =
     ap (λ (entries : List Entry). range_of (histories entries (length a.entries.now / numbers_an_entry) a.counters.now a.energies.now) a.work.now)
-    made.entries-of.ensures in
-    (call.loudness-range.ensures.0 ∙ ap said_by same, call.loudness-range.ensures.1 ∙ ap (kept_by a.work.now) same)
-
-pub of_set_spec : {M : Type 1} → statement M
-of_set_spec = tie.close (tie.spec (λ c. search rules) (λ c. search rules) (λ c. search rules) returns)
+    made.entries_of.ensures in
+    (call.loudness_range.ensures.0 ∙ ap said_by same, call.loudness_range.ensures.1 ∙ ap (kept_by a.work.now) same)
