@@ -26,9 +26,9 @@ pub extern "C" fn xel_process_i16(
     dest: &mut [f64],
     start: usize,
 ) -> u8
-    ensures { (let rest = resting channels rate (switches_of on) (record { a = a.entry.now; b = b.now }) in
-        let filter = with_arrays rest (record { state = state.entry.now; peaks = peaks.old; memory = memory.old; true_peaks = true_peaks.old }) in
-        let left = standing rest (record { state = state.exit.now; peaks = peaks.new; memory = memory.new; true_peaks = true_peaks.new }) dest.new in
+    ensures { (let rest = resting channels rate (switches_of on) (record { a = a.now; b = b.now }) in
+        let filter = with_arrays rest (record { state = state.old; peaks = peaks.old; memory = memory.old; true_peaks = true_peaks.old }) in
+        let left = standing rest (record { state = state.new; peaks = peaks.new; memory = memory.new; true_peaks = true_peaks.new }) dest.new in
         let call : Call = record { filter = filter; samples = i16s «data».now; map = map.now; dest = dest.old; start = start } in
         (result ≡ code (processed call)) × (left ≡ kept processed call)) }
 {
@@ -53,9 +53,9 @@ pub extern "C" fn xel_process_f32(
     dest: &mut [f64],
     start: usize,
 ) -> u8
-    ensures { (let rest = resting channels rate (switches_of on) (record { a = a.entry.now; b = b.now }) in
-        let filter = with_arrays rest (record { state = state.entry.now; peaks = peaks.old; memory = memory.old; true_peaks = true_peaks.old }) in
-        let left = standing rest (record { state = state.exit.now; peaks = peaks.new; memory = memory.new; true_peaks = true_peaks.new }) dest.new in
+    ensures { (let rest = resting channels rate (switches_of on) (record { a = a.now; b = b.now }) in
+        let filter = with_arrays rest (record { state = state.old; peaks = peaks.old; memory = memory.old; true_peaks = true_peaks.old }) in
+        let left = standing rest (record { state = state.new; peaks = peaks.new; memory = memory.new; true_peaks = true_peaks.new }) dest.new in
         let call : Call = record { filter = filter; samples = f32s «data».now; map = map.now; dest = dest.old; start = start } in
         (result ≡ code (processed call)) × (left ≡ kept processed call)) }
 {
@@ -76,9 +76,9 @@ pub extern "C" fn xel_seed_i16(
     data: &[i16],
     map: &[u8],
 ) -> u8
-    ensures { let rest = resting channels rate (switches_of on) (record { a = a.entry.now; b = a.entry.now }) in
-        let filter = with_arrays rest (record { state = state.entry.now; peaks = no_peaks; memory = memory.old; true_peaks = no_peaks }) in
-        let left = with_arrays rest (record { state = state.exit.now; peaks = no_peaks; memory = memory.new; true_peaks = no_peaks }) in
+    ensures { let rest = resting channels rate (switches_of on) (record { a = a.now; b = a.entry.now }) in
+        let filter = with_arrays rest (record { state = state.old; peaks = no_peaks; memory = memory.old; true_peaks = no_peaks }) in
+        let left = with_arrays rest (record { state = state.new; peaks = no_peaks; memory = memory.new; true_peaks = no_peaks }) in
         let call = seed_of filter (i16s «data».now) map.now in
         (result ≡ code (seeded call)) × (left ≡ (kept seeded call).filter) }
 {
@@ -96,9 +96,9 @@ pub extern "C" fn xel_seed_f32(
     data: &[f32],
     map: &[u8],
 ) -> u8
-    ensures { let rest = resting channels rate (switches_of on) (record { a = a.entry.now; b = a.entry.now }) in
-        let filter = with_arrays rest (record { state = state.entry.now; peaks = no_peaks; memory = memory.old; true_peaks = no_peaks }) in
-        let left = with_arrays rest (record { state = state.exit.now; peaks = no_peaks; memory = memory.new; true_peaks = no_peaks }) in
+    ensures { let rest = resting channels rate (switches_of on) (record { a = a.now; b = a.entry.now }) in
+        let filter = with_arrays rest (record { state = state.old; peaks = no_peaks; memory = memory.old; true_peaks = no_peaks }) in
+        let left = with_arrays rest (record { state = state.new; peaks = no_peaks; memory = memory.new; true_peaks = no_peaks }) in
         let call = seed_of filter (f32s «data».now) map.now in
         (result ≡ code (seeded call)) × (left ≡ (kept seeded call).filter) }
 {
