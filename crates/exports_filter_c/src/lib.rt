@@ -76,7 +76,7 @@ pub extern "C" fn xel_seed_i16(
     data: &[i16],
     map: &[u8],
 ) -> u8
-    ensures { let rest = resting channels rate (switches_of on) (record { a = a.now; b = a.entry.now }) in
+    ensures { let rest = resting channels rate (switches_of on) (record { a = a.now; b = a.now }) in
         let filter = with_arrays rest (record { state = state.old; peaks = no_peaks; memory = memory.old; true_peaks = no_peaks }) in
         let left = with_arrays rest (record { state = state.new; peaks = no_peaks; memory = memory.new; true_peaks = no_peaks }) in
         let call = seed_of filter (i16s «data».now) map.now in
@@ -96,7 +96,7 @@ pub extern "C" fn xel_seed_f32(
     data: &[f32],
     map: &[u8],
 ) -> u8
-    ensures { let rest = resting channels rate (switches_of on) (record { a = a.now; b = a.entry.now }) in
+    ensures { let rest = resting channels rate (switches_of on) (record { a = a.now; b = a.now }) in
         let filter = with_arrays rest (record { state = state.old; peaks = no_peaks; memory = memory.old; true_peaks = no_peaks }) in
         let left = with_arrays rest (record { state = state.new; peaks = no_peaks; memory = memory.new; true_peaks = no_peaks }) in
         let call = seed_of filter (f32s «data».now) map.now in
