@@ -3,7 +3,7 @@
 -- merge is refused; each merged counter is the number of listed energies that 01 puts in that bin; the range of the merged store, and the range over the
 -- parts together as a set of entries in the order dealt, are both what 01's histogram gate and whole-number ranks give for the list's bins. The block total
 -- reported is the length of the list less the dropped energies."
--- `addTo`, `mergeInto` and `range_of` are what the contracts of the code cite: so this speaks of the code. proofs/Dealing.antt proves `Demand3`.
+-- `add_to`, `merge_into` and `range_of` are what the contracts of the code cite: so this speaks of the code. proofs/Dealing.antt proves `Demand3`.
 use Rattle.std.specs.Prelude.{ℕ, zero, suc, ◌+◌, ◌-◌, ◌≤◌, ◌<◌, ◌≡◌, Bool, not, ◌&&◌, cond, List, [], ◌∷◌, ◌++◌, eqb, length, get_or, Float}
 use Rattle.base_refusals.specs.Outcome.{Outcome, went, refused, NoValues, done, kept_by}
 use Rattle.bins.specs.Bin.{bins, bin_of}
