@@ -1,4 +1,4 @@
--- Demand 1, proved: "Given exactly when". Each operation is defined by its rows, so that `refused-by` is all there is to say. Assumes nothing.
+-- Demand 1, proved: "Given exactly when". Each operation is defined by its rows, so that `refused_by` is all there is to say. Assumes nothing.
 use Rattle.base_refusals.specs.Outcome.{done}
 use Rattle.base_refusals.proofs.Rows.{refused_by}
 use Rattle.bins.specs.Reading.{reading_rows, reading_of, tenths_of}
