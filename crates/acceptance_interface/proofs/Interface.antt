@@ -4,7 +4,6 @@ use mathlib.Core.List.{List, ◌∷◌}
 use Prim.Native.Nat.{ℕ}
 use lib.ListN.{length}
 use lib.Ieee.{Float}
-use Rattle.base_refusals.specs.Refusal.{number}
 use Rattle.base_refusals.specs.Outcome.{Outcome, Question, went, refused, Said, says, refusal, said_by, kept_by}
 use Rattle.base_refusals.specs.Rows.{Row, RefusedBy}
 use Rattle.base_refusals.proofs.Rows.{refused_by}

@@ -1,5 +1,5 @@
 -- Demand 1 at the C interface: a function's result is 0, or n exactly when row n of its operation holds and no earlier one does; and then every value behind a pointer,
--- and all that was lent, is as given. A contract of the `exports_` crates says that the result is `code` of an outcome (a range's `spanCode`, a sample's `placeCode`); here
+-- and all that was lent, is as given. A contract of the `exports_` crates says that the result is `code` of an outcome (a range's `span_code`, a sample's `place_code`); here
 -- these outcomes stand with their rows. proofs/Interface.antt proves `Interface`.
 use Rattle.std.specs.Prelude.{ℕ, ◌≡◌, List, ◌∷◌, length, Float}
 use Rattle.base_refusals.specs.Outcome.{Outcome, Question, kept_by}
