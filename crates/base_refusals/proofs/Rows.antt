@@ -1,4 +1,4 @@
--- An operation that is stated by its rows is refused exactly when 01 says, and then nothing has changed (`refused-by`). For code that works out the number of the first
+-- An operation that is stated by its rows is refused exactly when 01 says, and then nothing has changed (`refused_by`). For code that works out the number of the first
 -- row that holds: a number other than 0 is the refusal, 0 lets the call go, and then no row holds. Assumes nothing.
 use mathlib.Core.Path.{◌≡◌, refl, sym, ap, ◌∙◌}
 use mathlib.Core.Logic.{◌⊎◌, inl, inr}

@@ -1,5 +1,5 @@
 -- What a call of an operation comes to, and what is read off it: the answer, and what lent memory and states hold afterwards.
--- "A refusal answers its number only. Lent memory and states passed by value come back as given." So `saidBy` and `keptBy` say it, for every operation at once.
+-- "A refusal answers its number only. Lent memory and states passed by value come back as given." So `said_by` and `kept_by` say it, for every operation at once.
 use Rattle.std.specs.Prelude.{ℕ}
 use Rattle.base_refusals.specs.Refusal.{Refusal, number}
 

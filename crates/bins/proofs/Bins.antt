@@ -1,6 +1,6 @@
 -- The laws of the bin of an energy, for every crate above: it is below 1,000; it rises with the energy; an energy between two boundaries is in that bin,
 -- so boundary i and energy i are in bin i; NaN goes to bin 0 and infinity to bin 999.
--- Every law comes from `last-is`: the bin is the one place whose boundary is not above the energy while each later one is. Assumes nothing.
+-- Every law comes from `last_is`: the bin is the one place whose boundary is not above the energy while each later one is. Assumes nothing.
 use mathlib.Core.Path.{◌≡◌, refl, sym, ap, ◌∙◌, subst}
 use mathlib.Core.Logic.{◌⊎◌, inl, inr}
 use mathlib.Core.Bool.{Bool, true, false, cond, true≢false}

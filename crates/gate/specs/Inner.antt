@@ -46,7 +46,7 @@ Steady sum = T (fits binary64 sum) × T (unsigned sum)
 abbrev pub Past : Float → ℕ → Type 0
 Past threshold bin = (bin ≡ 0) ⊎ ((0 < bin) × (lt (energy_at (bin - 1)) threshold ≡ true))
 
--- ---- what energies add at a gate with none passed over: an energy below the threshold adds 0. On a sum that 0 leaves as it is this is `keptFrom` (proofs/Keeping.antt)
+-- ---- what energies add at a gate with none passed over: an energy below the threshold adds 0. On a sum that 0 leaves as it is this is `kept_from` (proofs/Keeping.antt)
 abbrev pub energy_kept : Float → Float → Float
 energy_kept threshold energy = cond (counts threshold energy) energy none.sum
 

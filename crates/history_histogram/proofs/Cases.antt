@@ -1,4 +1,4 @@
--- What `mergeInto` comes to, case by case. It picks its case by tests on numbers, and each law settles those tests. Assumes nothing.
+-- What `merge_into` comes to, case by case. It picks its case by tests on numbers, and each law settles those tests. Assumes nothing.
 use mathlib.Core.Path.{◌≡◌}
 use mathlib.Core.Bool.{true, false}
 use mathlib.Core.List.{List}

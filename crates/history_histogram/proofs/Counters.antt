@@ -1,4 +1,4 @@
--- What `addTo` and `cleared` come to, case by case. Each picks its case by tests on numbers, and each law settles those tests.
+-- What `add_to` and `cleared` come to, case by case. Each picks its case by tests on numbers, and each law settles those tests.
 -- Assumes nothing.
 use mathlib.Core.Path.{◌≡◌, ap, ◌∙◌}
 use mathlib.Core.Bool.{true, false}

@@ -1,4 +1,4 @@
--- The laws of `inOrder`: it has the same energies, and they rise; and whatever has the same energies and rises is `inOrder` of them.
+-- The laws of `in_order`: it has the same energies, and they rise; and whatever has the same energies and rises is `in_order` of them.
 -- Putting two energies in gives the same list either way round, since of two one is at most the other, and two that are at most each other are the same value.
 -- Assumes nothing.
 use mathlib.Core.Path.{◌≡◌, refl, sym, ap, ◌∙◌, subst}

@@ -1,4 +1,4 @@
--- `threshold::level` meets its contract: its tests are those of the rows and of `levelOf`. Assumes nothing.
+-- `threshold::level` meets its contract: its tests are those of the rows and of `level_of`. Assumes nothing.
 use Rattle.std.proofs.Common.{◌≡◌, sym, refl, ◌∙◌, eq-eqb, ne_eqb}
 use lib.Ieee.{binary64, of_bits, round}
 use Rattle.gate.specs.Relative.{lowest}
