@@ -34,7 +34,7 @@ pub const CONTENT: u8 = 14;
 pub const ROOM: u8 = 15;
 
 // The answer of an operation that answers no values.
-#[derive(Drop)]
+#[derive(Clone, Copy)]
 pub enum Answer {
     Done,
     Refused(u8),

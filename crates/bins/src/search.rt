@@ -5,7 +5,7 @@ ghost use Rattle.bins.specs.Bin.{bin_of};
 ghost use Rattle.bins.specs.Reading.{nearest_tenth, reading_of, said};
 
 // The answer of `reading`.
-#[derive(Drop)]
+#[derive(Clone, Copy)]
 pub enum Level {
     Tenths(i32),
     Refused(u8),

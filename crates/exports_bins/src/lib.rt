@@ -1,4 +1,4 @@
-// The C interface of the tables, the bins and the readings. include/xelamphoun.h declares it.
+// The functions of the C interface of the tables, the bins and the readings; exports_bins_c has them for C, as include/xelamphoun.h declares them.
 #![tactic(auto)]
 
 ghost use Rattle.std.specs.Prelude.{◌≡◌};

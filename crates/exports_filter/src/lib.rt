@@ -1,4 +1,4 @@
-// The C interface of the filter. include/xelamphoun.h declares it.
+// The functions of the C interface of the filter; exports_filter_c has them for C, as include/xelamphoun.h declares them.
 #![tactic(auto)]
 
 ghost use Rattle.std.specs.Prelude.{◌≡◌};

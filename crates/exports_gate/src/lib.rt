@@ -1,4 +1,4 @@
-// The C interface of the gate question, of gated energy and of the relative threshold. include/xelamphoun.h declares it.
+// The functions of the C interface of the gate question, of gated energy and of the relative threshold; exports_gate_c has them for C, as include/xelamphoun.h declares them.
 #![tactic(auto)]
 
 ghost use Rattle.std.specs.Prelude.{◌≡◌};

@@ -1,4 +1,4 @@
-// The C interface of the histories. include/xelamphoun.h declares it.
+// The functions of the C interface of the histories; exports_histories_c has them for C, as include/xelamphoun.h declares them.
 #![tactic(auto)]
 
 ghost use Rattle.std.specs.Prelude.{◌≡◌};

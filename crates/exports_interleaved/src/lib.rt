@@ -1,5 +1,5 @@
-// The C interface of `Interleaved`. include/xelamphoun.h declares it. A C function can take no struct that holds a reference,
-// so each takes the slice and the numbers, makes the struct, and asks it; the modules have that part, for each kind.
+// The functions of the C interface of `Interleaved`; exports_interleaved_c has them for C, as include/xelamphoun.h declares them. C hands over
+// no `Interleaved`: each takes the slice and the numbers, makes the struct, and asks it; the modules have that part, for each kind.
 #![tactic(auto)]
 
 ghost use Rattle.std.specs.Prelude.{◌≡◌};

@@ -1,4 +1,4 @@
-// The C interface of the range. include/xelamphoun.h declares it.
+// The functions of the C interface of the range; exports_range_c has them for C, as include/xelamphoun.h declares them.
 #![tactic(auto)]
 
 ghost use Rattle.std.specs.Prelude.{◌≡◌, length};

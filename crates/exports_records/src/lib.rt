@@ -1,4 +1,4 @@
-// The C interface of the records of histograms and of queues, of our own and of the third model's. include/xelamphoun.h declares it.
+// The functions of the C interface of the records of histograms and of queues, of our own and of the third model's; exports_records_c has them for C, as include/xelamphoun.h declares them.
 #![tactic(auto)]
 
 ghost use Rattle.std.specs.Prelude.{◌≡◌};

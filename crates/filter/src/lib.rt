@@ -33,7 +33,7 @@ pub struct Filter {
 }
 
 // What a call comes to, with the filter as it is afterwards. A refused call leaves it as given.
-#[derive(Drop)]
+#[derive(Clone, Copy)]
 pub struct Filtered {
     pub answer: base_refusals::Answer,
     pub filter: Filter,

@@ -21,7 +21,7 @@ pub struct Peaks {
 }
 
 // What a call answers, beside the peaks. A refused call leaves them as given.
-#[derive(Drop)]
+#[derive(Clone, Copy)]
 pub struct Peaked {
     pub answer: base_refusals::Answer,
     pub peaks: Peaks,

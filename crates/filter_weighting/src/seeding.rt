@@ -10,7 +10,7 @@ use filter_recurrence::Coefficients;
 use filter_recurrence::states::State;
 
 // What a call answers, beside the state. A refused call leaves it as given.
-#[derive(Drop)]
+#[derive(Clone, Copy)]
 pub struct Seeded {
     pub answer: base_refusals::Answer,
     pub state: State,

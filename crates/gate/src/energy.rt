@@ -12,7 +12,7 @@ use bins::Count;
 use history_set::set::{Entry, MOST};
 
 // The answer.
-#[derive(Drop)]
+#[derive(Clone, Copy)]
 pub enum Energy {
     Of(f64),
     Refused(u8),

@@ -24,7 +24,7 @@ mod sums;
 pub mod threshold;
 
 // The answer: the blocks at or above the gate and the sum of their energies.
-#[derive(Drop)]
+#[derive(Clone, Copy)]
 pub enum Gated {
     Blocks(u64, f64),
     Refused(u8),

@@ -12,7 +12,7 @@ use history_set::set::Entry;
 const LOWEST: f64 = -70.0;
 
 // The answer: an energy, or where there is no block a loudness.
-#[derive(Drop)]
+#[derive(Clone, Copy)]
 pub enum Threshold {
     Loudness(f64),
     Energy(f64),

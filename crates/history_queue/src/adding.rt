@@ -9,7 +9,7 @@ use crate::Queue;
 use base_refusals::Answer;
 
 // The answer of `add`, with the queue as it is afterwards.
-#[derive(Drop)]
+#[derive(Clone, Copy)]
 pub struct Queued {
     pub answer: Answer,
     pub queue: Queue,

@@ -16,7 +16,7 @@ pub struct Interleaved<'a> {
 }
 
 impl<'a> Interleaved<'a> {
-    // What the Rust refuses here, the questions refuse: no answer by cases can hold a reference.
+    // What the Rust refuses here, the questions refuse.
     pub fn new(samples: &'a [f32], channels: usize) -> Interleaved<'a>
         ensures { (result.samples ≡ samples.entry) × (result.channels ≡ channels) }
     {

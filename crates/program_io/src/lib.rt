@@ -8,7 +8,7 @@ ghost use Rattle.std.specs.Io.KnownBytes.{Consumes, IsAtEnd};
 use std::io;
 use std::io::Read;
 
-// Zeros, more than any record or case has bytes.
+// Zeros, more than a record of a histogram has bytes.
 pub fn buffer() -> [u8; 4096]
     ensures { result ≡ replicate 4096 0 }
 {

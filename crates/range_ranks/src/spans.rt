@@ -7,7 +7,7 @@ ghost use Rattle.range_ranks.specs.Span.{found, hundredth, gate_energy, said};
 use gate::blocks::Totals;
 
 // The answer: the energies at the low and at the high rank.
-#[derive(Drop)]
+#[derive(Clone, Copy)]
 pub enum Span {
     Found(f64, f64),
     Nothing,

@@ -34,14 +34,14 @@ pub enum Kind {
 }
 
 // The kind that has a number.
-#[derive(Drop)]
+#[derive(Clone, Copy)]
 pub enum Known {
     Of(Kind),
     Unknown,
 }
 
 // What a writer answers: how many bytes the record has.
-#[derive(Drop)]
+#[derive(Clone, Copy)]
 pub enum Written {
     Bytes(usize),
     Refused(u8),

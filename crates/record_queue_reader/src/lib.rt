@@ -40,7 +40,7 @@ pub const HELD_AT: usize = MAXIMUM_AT + NUMBER;
 pub const ENERGIES_AT: usize = HELD_AT + NUMBER;
 
 // What a reader answers.
-#[derive(Drop)]
+#[derive(Clone, Copy)]
 pub enum Received {
     Held(Queue),
     Refused(u8),

@@ -13,7 +13,7 @@ use history_set::set::{Entry, Shape};
 use range_ranks::spans::Span;
 
 // What a report says.
-#[derive(Drop)]
+#[derive(Clone, Copy)]
 pub enum Summary {
     Ranged {
         blocks: u64,

@@ -22,7 +22,7 @@ use true_peak_state::TruePeak;
 pub mod calls;
 
 // What a call answers, beside the state.
-#[derive(Drop)]
+#[derive(Clone, Copy)]
 pub struct Measured {
     pub answer: Answer,
     pub state: TruePeak,

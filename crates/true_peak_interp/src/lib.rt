@@ -14,7 +14,7 @@ pub struct Interp {
 }
 
 // What a rate has: an interpolator, or no true peak.
-#[derive(Drop)]
+#[derive(Clone, Copy)]
 pub enum Scan {
     By(Interp),
     Off,
