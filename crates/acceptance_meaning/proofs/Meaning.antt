@@ -8,7 +8,7 @@ use native.Mathlib.Omega.{arith}
 use lib.Dec.{eqb}
 use lib.ListN.{length, length-append}
 use lib.Ieee.{Float, binary64, add, lt, is_nan, round}
-use Rattle.base_refusals.specs.Refusal.{NONE, NAN}
+use Rattle.base_refusals.specs.declared.Refusal.TheVariants.{NONE, NAN}
 use Rattle.base_refusals.specs.Outcome.{answers, refused}
 use Rattle.base_refusals.specs.Rows.{by_rows}
 use Rattle.bins.specs.Energy.{dropped}

@@ -8,7 +8,7 @@
 use Rattle.std.specs.Prelude.{ℕ, suc, ◌+◌, ◌≤◌, ◌≡◌, Bool, true, not, ◌&&◌, cond, List, [], ◌∷◌, ◌++◌, eqb, pos, length, Float}
 use Rattle.std.specs.Float.{binary64}
 use Rattle.std.specs.Float.Ieee.{add, mul, of_int, lt, eq, is_nan, round}
-use Rattle.base_refusals.specs.Refusal.{NONE, NAN}
+use Rattle.base_refusals.specs.declared.Refusal.TheVariants.{NONE, NAN}
 use Rattle.base_refusals.specs.Outcome.{Question, went, answers, refused}
 use Rattle.bins_tables.specs.Tables.{energy_at}
 use Rattle.history_queue.specs.Queue.{longest, over, started, held_of}

@@ -10,7 +10,7 @@ use lib.Dec.{eqb}
 use lib.ListN.{length, take, drop}
 use lib.Seq.{take_at}
 use lib.Ieee.{Float}
-use Rattle.base_refusals.specs.Refusal.{STORE}
+use Rattle.base_refusals.specs.declared.Refusal.TheVariants.{STORE}
 use Rattle.base_refusals.specs.Outcome.{went, Said, said_by, kept_by}
 use Rattle.base_refusals.specs.Rows.{Row, row, by_rows, number_of}
 use Rattle.base_refusals.proofs.Rows.{goes, not_held, number_parts}

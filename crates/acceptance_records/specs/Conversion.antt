@@ -3,7 +3,8 @@
 use Rattle.std.specs.Prelude.{ℕ, ◌^◌, ◌<◌, ◌≤◌, ◌≡◌, List, [], ◌∷◌, ◌++◌, T, length, get_or, take, drop, Float}
 use Rattle.std.specs.Float.{binary64}
 use Rattle.std.specs.Float.Ieee.{fits}
-use Rattle.base_refusals.specs.Refusal.{KIND, number}
+use Rattle.base_refusals.specs.Refusal.{number}
+use Rattle.base_refusals.specs.declared.Refusal.TheVariants.{KIND}
 use Rattle.base_refusals.specs.Outcome.{went}
 use Rattle.base_refusals.specs.Rows.{number_of}
 use Rattle.history_queue.specs.Queue.{Stored, held_of}

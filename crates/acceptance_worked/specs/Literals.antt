@@ -3,7 +3,8 @@
 use Rattle.std.specs.Prelude.{ℕ, ◌≡◌, Bool, true, false, List, [], ◌∷◌, map, get_or, ℤ, pos, negsuc, Float}
 use Rattle.std.specs.Float.{nan, binary64}
 use Rattle.std.specs.Float.Ieee.{of_bits, to_bits}
-use Rattle.base_refusals.specs.Refusal.{number, CHANNELS, SAMPLES, MAP, DEST, STORE, FULL, SET, MODE, NONE, NAN, SCALE, LENGTH, KIND, CONTENT, ROOM}
+use Rattle.base_refusals.specs.Refusal.{number}
+use Rattle.base_refusals.specs.declared.Refusal.TheVariants.{CHANNELS, SAMPLES, MAP, DEST, STORE, FULL, SET, MODE, NONE, NAN, SCALE, LENGTH, KIND, CONTENT, ROOM}
 use Rattle.bins.specs.Bin.{bins}
 use Rattle.bins.specs.Reading.{lowest}
 use Rattle.history_histogram.specs.Histogram.{largest_count}

@@ -1,8 +1,8 @@
--- What each case of `Answer` says.
-use Rattle.base_refusals.specs.declared.Answer.{Answer}
-use Rattle.base_refusals.specs.declared.Answer.TheVariants.{Done, Refused}
-use Rattle.base_refusals.specs.Outcome.{Said, says, refusal, NoValues, done}
+-- What an answer says: its value, or a refusal's number and nothing else.
+use Rattle.std.specs.Prelude.{Result, Ok, Err}
+use Rattle.base_refusals.specs.Refusal.{Refusal, number}
+use Rattle.base_refusals.specs.Outcome.{Said, says, refusal}
 
-abbrev pub said : Answer → Said NoValues
-said Done = says done
-said (Refused n) = refusal n
+abbrev pub said : {Values : Type 0} → Result Values Refusal → Said Values
+said (Ok values) = says values
+said (Err r) = refusal (number r)

@@ -1,9 +1,7 @@
 -- How the C interface tells an outcome: its result is 0, or the refusal's number; a value goes through a pointer, and a refusal leaves there what was there.
-use Rattle.std.specs.Prelude.{ℕ}
-use Rattle.base_refusals.specs.Refusal.{number}
+use Rattle.std.specs.Prelude.{ℕ, Result, Ok, Err}
+use Rattle.base_refusals.specs.Refusal.{Refusal, number}
 use Rattle.base_refusals.specs.Outcome.{Outcome, went, refused}
-use Rattle.base_refusals.specs.declared.Answer.{Answer}
-use Rattle.base_refusals.specs.declared.Answer.TheVariants.{Done, Refused}
 
 abbrev pub code : {Kept Values : Type 0} → Outcome Kept Values → ℕ
 code (went kept values) = 0
@@ -13,7 +11,7 @@ abbrev pub value_or : {Kept Values : Type 0} → Values → Outcome Kept Values 
 value_or old (went kept values) = values
 value_or old (refused r) = old
 
--- the same of an answer without values
-abbrev pub number_said : Answer → ℕ
-number_said Done = 0
-number_said (Refused n) = n
+-- the same of an answer
+abbrev pub number_said : {Values : Type 0} → Result Values Refusal → ℕ
+number_said (Ok values) = 0
+number_said (Err r) = number r

@@ -14,8 +14,11 @@ pub data Said (Values : Type 0) : Type 0 where
   refusal : ℕ → Said Values
 
 -- an answer without values
-pub data NoValues : Type 0 where
-  done : NoValues
+abbrev pub NoValues : Type 0
+NoValues = Unit
+
+abbrev pub done : NoValues
+done = tt
 
 abbrev pub said_by : {Kept Values : Type 0} → Outcome Kept Values → Said Values
 said_by (went kept values) = says values

@@ -1,8 +1,7 @@
 -- The refusals, by the names and numbers of document 01.
 use Rattle.std.specs.Prelude.{ℕ}
-
-pub data Refusal : Type 0 where
-  CHANNELS SAMPLES MAP DEST STORE FULL SET MODE NONE NAN SCALE LENGTH KIND CONTENT ROOM : Refusal
+pub use Rattle.base_refusals.specs.declared.Refusal.{Refusal}
+use Rattle.base_refusals.specs.declared.Refusal.TheVariants.{CHANNELS, SAMPLES, MAP, DEST, STORE, FULL, SET, MODE, NONE, NAN, SCALE, LENGTH, KIND, CONTENT, ROOM}
 
 abbrev pub number : Refusal → ℕ
 number CHANNELS = 1

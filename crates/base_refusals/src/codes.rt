@@ -9,7 +9,7 @@ pub fn number_of(answer: Answer) -> u8
     ensures { result ≡ number_said answer }
 {
     match answer {
-        Answer::Done => 0,
-        Answer::Refused(number) => number,
+        Ok(()) => 0,
+        Err(refusal) => refusal as u8,
     }
 }

@@ -1,41 +1,38 @@
-// The refusals of document 01, by number. Every crate answers these and no others.
+// The refusals of document 01, by name, with its numbers. Every crate answers these and no others.
 #![tactic(auto)]
+
+ghost use Rattle.std.specs.Prelude.{◌≡◌};
+ghost use Rattle.base_refusals.specs.Refusal.{number};
 
 pub mod codes;
 
-pub const CHANNELS: u8 = 1;
-
-pub const SAMPLES: u8 = 2;
-
-pub const MAP: u8 = 3;
-
-pub const DEST: u8 = 4;
-
-pub const STORE: u8 = 5;
-
-pub const FULL: u8 = 6;
-
-pub const SET: u8 = 7;
-
-pub const MODE: u8 = 8;
-
-pub const NONE: u8 = 9;
-
-pub const NAN: u8 = 10;
-
-pub const SCALE: u8 = 11;
-
-pub const LENGTH: u8 = 12;
-
-pub const KIND: u8 = 13;
-
-pub const CONTENT: u8 = 14;
-
-pub const ROOM: u8 = 15;
+// A refusal keeps the name that document 01 gives it, and `as u8` its number.
+#[derive(Clone, Copy, Debug, PartialEq, Eq)]
+pub enum Refusal {
+    CHANNELS = 1,
+    SAMPLES = 2,
+    MAP = 3,
+    DEST = 4,
+    STORE = 5,
+    FULL = 6,
+    SET = 7,
+    MODE = 8,
+    NONE = 9,
+    NAN = 10,
+    SCALE = 11,
+    LENGTH = 12,
+    KIND = 13,
+    CONTENT = 14,
+    ROOM = 15,
+}
 
 // The answer of an operation that answers no values.
-#[derive(Clone, Copy)]
-pub enum Answer {
-    Done,
-    Refused(u8),
+pub type Answer = Result<(), Refusal>;
+
+impl From<Refusal> for u8 {
+    ghost from_gives = { λ refusal n. n ≡ number refusal };
+
+    fn from(refusal: Refusal) -> u8 {
+        refusal as u8
+    }
 }

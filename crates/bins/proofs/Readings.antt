@@ -9,7 +9,7 @@ use lib.IntN.{pos, negsuc, ◌+ℤ◌}
 use lib.Ieee.{Float, lt, le, is_nan}
 use mir.Syntax.{w32}
 use mir.Val.{SFits}
-use Rattle.base_refusals.specs.Refusal.{SCALE}
+use Rattle.base_refusals.specs.declared.Refusal.TheVariants.{SCALE}
 use Rattle.base_refusals.specs.Outcome.{refused, answers}
 use Rattle.bins_tables.specs.Tables.{boundary_at, energy_at}
 use Rattle.bins.specs.Bin.{bin_of}

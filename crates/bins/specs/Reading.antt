@@ -2,11 +2,9 @@
 -- now run from -700 to 300." 01 had "-700 + its bin". SCALE "as before" (01): "of NaN, below boundary 0, or at or above boundary 1000".
 use Rattle.std.specs.Prelude.{ℕ, ◌+◌, Bool, ◌||◌, cond, List, [], ◌∷◌, ℤ, pos, neg_ℤ, ◌+ℤ◌, Float}
 use Rattle.std.specs.Float.Ieee.{lt, le, is_nan}
-use Rattle.base_refusals.specs.Refusal.{SCALE}
-use Rattle.base_refusals.specs.Outcome.{Question, answers, Said, says, refusal}
+use Rattle.base_refusals.specs.declared.Refusal.TheVariants.{SCALE}
+use Rattle.base_refusals.specs.Outcome.{Question, answers}
 use Rattle.base_refusals.specs.Rows.{Row, row, by_rows}
-use Rattle.bins.specs.declared.search.Level.{Level}
-use Rattle.bins.specs.declared.search.Level.TheVariants.{Tenths, Refused}
 use Rattle.bins_tables.specs.Tables.{boundary_at, energy_at}
 use Rattle.bins.specs.Bin.{bin_of, bins}
 
@@ -31,8 +29,3 @@ reading_rows energy = row SCALE (off_scale energy) ∷ []
 
 unfoldable pub reading_of : Float → Question ℤ
 reading_of energy = by_rows (reading_rows energy) (answers (tenths_of energy))
-
--- what each case of `Level` says
-abbrev pub said : Level → Said ℤ
-said (Tenths t) = says t
-said (Refused n) = refusal n

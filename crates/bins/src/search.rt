@@ -2,14 +2,10 @@
 ghost use Rattle.std.specs.Prelude.{◌≡◌};
 ghost use Rattle.base_refusals.specs.Outcome.{said_by};
 ghost use Rattle.bins.specs.Bin.{bin_of};
-ghost use Rattle.bins.specs.Reading.{nearest_tenth, reading_of, said};
+ghost use Rattle.base_refusals.specs.Answer.{said};
+ghost use Rattle.bins.specs.Reading.{nearest_tenth, reading_of};
 
-// The answer of `reading`.
-#[derive(Clone, Copy)]
-pub enum Level {
-    Tenths(i32),
-    Refused(u8),
-}
+use base_refusals::Refusal;
 
 // The bin of an energy, as a hand finds it in the printed table (BOUNDARIES in bins_tables): go down the boundaries from place 1 on and stop at the first one above the energy;
 // the bin is the place before. At place 1000 the table ends: an energy that comes so far is in bin 999. NaN is neither above nor below a boundary, and goes to bin 0.
@@ -46,18 +42,18 @@ fn nearest_tenth(energy: f64) -> usize
 }
 
 // The reading of an energy in tenths of a LUFS, or SCALE where the energy is off the table's scale.
-pub fn reading(energy: f64) -> Level
+pub fn reading(energy: f64) -> Result<i32, Refusal>
     ensures { said result ≡ said_by (reading_of energy) }
 {
     if energy != energy {
-        return Level::Refused(base_refusals::SCALE);
+        return Err(Refusal::SCALE);
     }
     if energy < crate::lowest_boundary() {
-        return Level::Refused(base_refusals::SCALE);
+        return Err(Refusal::SCALE);
     }
     if energy >= crate::highest_boundary() {
-        return Level::Refused(base_refusals::SCALE);
+        return Err(Refusal::SCALE);
     }
     let tenth = nearest_tenth(energy);
-    Level::Tenths(-700 + tenth as i32)
+    Ok(-700 + tenth as i32)
 }

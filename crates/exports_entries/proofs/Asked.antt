@@ -6,7 +6,7 @@ use Prim.Native.Nat.{ℕ, ◌%◌}
 use borrow.Author.Tests.{eq-eqb, ne_eqb}
 use lib.ListN.{length}
 use lib.Ieee.{Float}
-use Rattle.base_refusals.specs.Refusal.{SET}
+use Rattle.base_refusals.specs.declared.Refusal.TheVariants.{SET}
 use Rattle.base_refusals.specs.Outcome.{Outcome, Question, refused}
 use Rattle.history_queue.specs.declared.Queue.{Queue}
 use Rattle.history_set.specs.declared.set.Entry.{Entry}

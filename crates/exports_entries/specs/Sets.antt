@@ -1,6 +1,6 @@
 -- A set of histories as the C interface takes it: five numbers an entry, which are its kind (0 a histogram, 1 a queue), start, maximum, head and held.
 use Rattle.std.specs.Prelude.{ℕ, zero, suc, ◌+◌, ◌/◌, ◌%◌, not, cond, List, [], ◌∷◌, eqb, length, get_or, Float}
-use Rattle.base_refusals.specs.Refusal.{SET}
+use Rattle.base_refusals.specs.declared.Refusal.TheVariants.{SET}
 use Rattle.base_refusals.specs.Outcome.{Outcome, Question}
 use Rattle.base_refusals.specs.Rows.{Row, row, by_rows}
 use Rattle.history_queue.specs.declared.Queue.{Queue}

@@ -7,7 +7,8 @@ use borrow.Author.Tests.{ltb-false}
 use lib.Dec.{ltb}
 use lib.Ieee.{Float}
 use lib.ListN.{length}
-use Rattle.base_refusals.specs.Refusal.{SET, number}
+use Rattle.base_refusals.specs.Refusal.{number}
+use Rattle.base_refusals.specs.declared.Refusal.TheVariants.{SET}
 use Rattle.base_refusals.specs.Outcome.{went, refused, answers, said_by, kept_by}
 use Rattle.base_refusals.proofs.Numbers.{no_number}
 use Rattle.bins.specs.Bin.{bins}

@@ -1,6 +1,7 @@
 -- How the C interface tells a range.
 use Rattle.std.specs.Prelude.{ℕ, ◌+◌, cond, List, ltb, Float, length}
-use Rattle.base_refusals.specs.Refusal.{SET, number}
+use Rattle.base_refusals.specs.Refusal.{number}
+use Rattle.base_refusals.specs.declared.Refusal.TheVariants.{SET}
 use Rattle.base_refusals.specs.Outcome.{Outcome, went, refused, Question, answers}
 use Rattle.bins.specs.Bin.{bins}
 use Rattle.history_set.specs.Set.{Histories}

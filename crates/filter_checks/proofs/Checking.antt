@@ -11,7 +11,7 @@ use borrow.Author.Tests.{eqb-true, eqb-false, eq-eqb, ne_eqb, ltb-false, not-fal
 use lib.Dec.{ltb, eqb}
 use lib.ListN.{length, get_or, drop}
 use lib.Seq.{drop-cons}
-use Rattle.base_refusals.specs.Refusal.{CHANNELS, SAMPLES, MAP, DEST}
+use Rattle.base_refusals.specs.declared.Refusal.TheVariants.{CHANNELS, SAMPLES, MAP, DEST}
 use Rattle.base_refusals.specs.Rows.{number_of}
 use Rattle.base_refusals.proofs.Rows.{not_held, number_parts}
 use Rattle.filter_checks.specs.declared.Sizes.{Sizes}

@@ -1,6 +1,6 @@
 -- When a call over samples is refused (01, 'Numbers of the refusals'): the rows of the table that apply to it, in table order. Each stands here and nowhere else.
 use Rattle.std.specs.Prelude.{ℕ, ◌+◌, ◌/◌, ◌%◌, Bool, true, not, ◌&&◌, ◌||◌, List, [], ◌∷◌, ◌++◌, leb, ltb, eqb, length}
-use Rattle.base_refusals.specs.Refusal.{CHANNELS, SAMPLES, MAP, DEST}
+use Rattle.base_refusals.specs.declared.Refusal.TheVariants.{CHANNELS, SAMPLES, MAP, DEST}
 use Rattle.base_refusals.specs.Rows.{Row, row}
 use Rattle.filter_checks.specs.declared.Sizes.{Sizes}
 use Rattle.samples.specs.Frames.{most_channels}

@@ -4,7 +4,7 @@
 -- threshold is above that bin's energy; below boundary 0 from bin 0; the start may be 1000. Queue energies count if not below the threshold. One running
 -- sum passes over all histories in order."
 use Rattle.std.specs.Prelude.{not, ◌&&◌, ◌||◌, List, [], ◌∷◌, ◌++◌, drop, ◌==◌, is_nan, Float}
-use Rattle.base_refusals.specs.Refusal.{NONE, NAN}
+use Rattle.base_refusals.specs.declared.Refusal.TheVariants.{NONE, NAN}
 use Rattle.base_refusals.specs.Outcome.{Question, answers, Said, says, refusal}
 use Rattle.base_refusals.specs.Rows.{Row, row, by_rows}
 use Rattle.history_set.specs.Set.{History, counted, listed, Histories, histories_of, set_rows}

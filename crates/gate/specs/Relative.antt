@@ -3,7 +3,7 @@
 use Rattle.std.specs.Prelude.{ℕ, true, false, cond, not, ◌&&◌, List, [], ◌∷◌, ◌++◌, ◌==◌, is_nan, Float}
 use Rattle.std.specs.Float.{binary64}
 use Rattle.std.specs.Float.Ieee.{mul, round}
-use Rattle.base_refusals.specs.Refusal.{NAN}
+use Rattle.base_refusals.specs.declared.Refusal.TheVariants.{NAN}
 use Rattle.base_refusals.specs.Outcome.{Question, answers, Said, says, refusal}
 use Rattle.base_refusals.specs.Rows.{Row, row, by_rows}
 use Rattle.history_set.specs.declared.set.Entry.{Entry}

@@ -5,7 +5,7 @@ use mathlib.Core.List.{List}
 use Prim.Native.Nat.{ℕ}
 use borrow.Author.Tests.{eq-eqb, ne_eqb}
 use lib.ListN.{length}
-use Rattle.base_refusals.specs.Refusal.{STORE, FULL}
+use Rattle.base_refusals.specs.declared.Refusal.TheVariants.{STORE, FULL}
 use Rattle.base_refusals.specs.Outcome.{went, refused, done}
 use Rattle.bins.specs.Bin.{bins}
 use Rattle.history_histogram.specs.Histogram.{sums}

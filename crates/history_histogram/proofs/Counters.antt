@@ -8,7 +8,7 @@ use borrow.Author.Tests.{eq-eqb, ne_eqb, le-leb, lt-leb}
 use lib.ListN.{length, get_or, drop, replicate}
 use lib.Seq.{drop-length}
 use lib.Ieee.{Float}
-use Rattle.base_refusals.specs.Refusal.{STORE, FULL}
+use Rattle.base_refusals.specs.declared.Refusal.TheVariants.{STORE, FULL}
 use Rattle.base_refusals.specs.Outcome.{went, refused, done}
 use Rattle.bins.specs.Bin.{bins, bin_of}
 use Rattle.bins.specs.Energy.{dropped}

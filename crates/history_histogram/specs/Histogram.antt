@@ -1,6 +1,6 @@
 -- The histogram, 1,000 counters (01, step 7): what adding an energy comes to, and clearing one; and the sums of two histograms.
 use Rattle.std.specs.Prelude.{ℕ, ◌+◌, Bool, not, ◌&&◌, List, [], ◌∷◌, eqb, leb, length, get_or, set, replicate, Float}
-use Rattle.base_refusals.specs.Refusal.{STORE, FULL}
+use Rattle.base_refusals.specs.declared.Refusal.TheVariants.{STORE, FULL}
 use Rattle.base_refusals.specs.Outcome.{Outcome, went, NoValues, done}
 use Rattle.base_refusals.specs.Rows.{Row, row, by_rows}
 use Rattle.bins.specs.Bin.{bins, bin_of}

@@ -1,6 +1,6 @@
 -- One histogram merged into another (01, 'Merge'): what it comes to.
 use Rattle.std.specs.Prelude.{ℕ, ◌+◌, Bool, true, not, ◌&&◌, ◌||◌, List, [], ◌∷◌, leb}
-use Rattle.base_refusals.specs.Refusal.{STORE, FULL}
+use Rattle.base_refusals.specs.declared.Refusal.TheVariants.{STORE, FULL}
 use Rattle.base_refusals.specs.Outcome.{Outcome, went, NoValues, done}
 use Rattle.base_refusals.specs.Rows.{Row, row, by_rows}
 use Rattle.history_histogram.specs.Histogram.{largest_count, is_histogram, sums}

@@ -8,7 +8,7 @@ use native.Mathlib.Omega.{arith}
 use borrow.Author.Tests.{lt-ltb, le-ltb}
 use lib.ListN.{length, set}
 use lib.Ieee.{Float}
-use Rattle.base_refusals.specs.Refusal.{STORE}
+use Rattle.base_refusals.specs.declared.Refusal.TheVariants.{STORE}
 use Rattle.base_refusals.specs.Outcome.{went, refused, done}
 use Rattle.bins.specs.Energy.{dropped}
 use Rattle.history_queue.specs.declared.Queue.{Queue}

@@ -1,7 +1,7 @@
 -- An energy added to a queue (01, step 7): "A new energy goes to place (head + held) mod maximum; a full queue drops its oldest, and head moves on by one, mod maximum.
 -- Other places stay. NaN enters a queue."
 use Rattle.std.specs.Prelude.{ℕ, ◌+◌, ◌%◌, not, cond, List, [], ◌∷◌, ◌++◌, ltb, length, set, drop, Float}
-use Rattle.base_refusals.specs.Refusal.{STORE}
+use Rattle.base_refusals.specs.declared.Refusal.TheVariants.{STORE}
 use Rattle.base_refusals.specs.Outcome.{Outcome, went, NoValues, done, kept_by}
 use Rattle.base_refusals.specs.Rows.{Row, row, by_rows}
 use Rattle.bins.specs.Energy.{dropped, received}

@@ -5,7 +5,8 @@ use Prim.Native.Nat.{◌≤◌, ◌<◌}
 use borrow.Author.Tests.{lt-ltb, le-ltb, ltb-false, not-false}
 use lib.Dec.{ltb}
 use lib.ListN.{length}
-use Rattle.base_refusals.specs.Refusal.{STORE, SET, number}
+use Rattle.base_refusals.specs.Refusal.{number}
+use Rattle.base_refusals.specs.declared.Refusal.TheVariants.{STORE, SET}
 use Rattle.base_refusals.specs.Rows.{number_of}
 use Rattle.base_refusals.proofs.Rows.{not_held}
 use Rattle.history_set.proofs.Entries.{either_not}

@@ -1,6 +1,6 @@
 -- A set of histories (01, 'Numbers of the refusals' and 'What must change shape'): what its entries show of the lent slices, and what refuses it.
 use Rattle.std.specs.Prelude.{ℕ, ◌+◌, ◌≤◌, Bool, true, false, not, ◌&&◌, ◌||◌, List, [], ◌∷◌, ltb, length, take, drop, Float}
-use Rattle.base_refusals.specs.Refusal.{STORE, SET}
+use Rattle.base_refusals.specs.declared.Refusal.TheVariants.{STORE, SET}
 use Rattle.base_refusals.specs.Rows.{Row, row}
 use Rattle.bins.specs.Bin.{bins}
 use Rattle.history_queue.specs.declared.Queue.{Queue}

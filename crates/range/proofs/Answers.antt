@@ -6,7 +6,7 @@ use native.Mathlib.Omega.{arith}
 use borrow.Author.Tests.{eq-eqb, ne_eqb}
 use lib.ListN.{length, get_or, take, drop, length-take}
 use lib.Ieee.{Float}
-use Rattle.base_refusals.specs.Refusal.{MODE}
+use Rattle.base_refusals.specs.declared.Refusal.TheVariants.{MODE}
 use Rattle.base_refusals.specs.Outcome.{Outcome, went, refused, answers, Said, said_by, kept_by}
 use Rattle.base_refusals.specs.Rows.{by_rows, number_of}
 use Rattle.base_refusals.proofs.Rows.{Refuses, goes, rows_then}

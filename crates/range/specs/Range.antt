@@ -1,7 +1,7 @@
 -- The range over a set of histories (01, step 9): "No histories or no blocks: Nothing. Histograms: counters added bin by bin; queues: all held energies in
 -- rising order." What it comes to over histograms stands in `range_histograms`, over queues in `range_queues`.
 use Rattle.std.specs.Prelude.{ℕ, ◌+◌, Bool, not, ◌&&◌, cond, List, [], ◌∷◌, ◌++◌, eqb, ltb, length, Float}
-use Rattle.base_refusals.specs.Refusal.{MODE, ROOM}
+use Rattle.base_refusals.specs.declared.Refusal.TheVariants.{MODE, ROOM}
 use Rattle.base_refusals.specs.Outcome.{Outcome, went}
 use Rattle.base_refusals.specs.Rows.{Row, row, by_rows}
 use Rattle.history_histogram.specs.Histogram.{empty}

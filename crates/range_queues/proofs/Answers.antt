@@ -6,7 +6,7 @@ use Prim.Native.Nat.{ℕ, ◌≤◌, ◌<◌}
 use borrow.Author.Tests.{lt-ltb, le-ltb}
 use lib.ListN.{length, drop}
 use lib.Ieee.{Float}
-use Rattle.base_refusals.specs.Refusal.{ROOM}
+use Rattle.base_refusals.specs.declared.Refusal.TheVariants.{ROOM}
 use Rattle.base_refusals.specs.Outcome.{went, refused}
 use Rattle.base_refusals.specs.Rows.{number_of}
 use Rattle.base_refusals.proofs.Rows.{Refuses}

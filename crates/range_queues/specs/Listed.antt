@@ -2,7 +2,7 @@
 -- all held energies in rising order, the others stay. A queue holding NaN answers not-a-number, after all refusals, and the work slice stays."
 use Rattle.std.specs.Prelude.{Bool, false, ◌||◌, cond, List, [], ◌∷◌, ◌++◌, ltb, length, drop, Float}
 use Rattle.std.specs.Float.Ieee.{is_nan}
-use Rattle.base_refusals.specs.Refusal.{ROOM}
+use Rattle.base_refusals.specs.declared.Refusal.TheVariants.{ROOM}
 use Rattle.base_refusals.specs.Outcome.{Outcome, went}
 use Rattle.base_refusals.specs.Rows.{Row, row, by_rows}
 use Rattle.history_set.specs.Set.{History, counted, listed, Histories, histories_of, set_rows}

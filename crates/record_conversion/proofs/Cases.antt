@@ -7,7 +7,7 @@ use native.Mathlib.Omega.{arith}
 use borrow.Author.Tests.{lt-ltb, le-ltb}
 use lib.ListN.{length, get_or, drop, length-append, length-drop}
 use lib.Seq.{sets, drop-drop, get_or-drop}
-use Rattle.base_refusals.specs.Refusal.{ROOM}
+use Rattle.base_refusals.specs.declared.Refusal.TheVariants.{ROOM}
 use Rattle.base_refusals.specs.Outcome.{refused}
 use Rattle.base_refusals.specs.Rows.{number_of, by_rows}
 use Rattle.base_refusals.proofs.Rows.{number_parts}

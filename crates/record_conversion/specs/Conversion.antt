@@ -1,6 +1,6 @@
 -- Conversion (02, CR 3): "a conversion each way that keeps every count and energy". Kinds 1 and 257 are converted to each other, and kinds 2 and 258.
 use Rattle.std.specs.Prelude.{ℕ, true, List, [], ◌∷◌, ◌++◌, ltb, length}
-use Rattle.base_refusals.specs.Refusal.{LENGTH, KIND}
+use Rattle.base_refusals.specs.declared.Refusal.TheVariants.{LENGTH, KIND}
 use Rattle.base_refusals.specs.Outcome.{Outcome}
 use Rattle.base_refusals.specs.Rows.{Row, row, by_rows}
 use Rattle.record_layout.specs.declared.Model.{Model}

@@ -1,7 +1,7 @@
 -- The record of a histogram (01, 'Records'): "Kind 1: 1,000 u32 counters (length 4,002)"; and the third model's, kind 257
 -- (02, CR 3): "the old body with each field high byte first". One statement over the model, and so over the byte order.
 use Rattle.std.specs.Prelude.{ℕ, ◌+◌, not, List, [], ◌∷◌, ◌++◌}
-use Rattle.base_refusals.specs.Refusal.{STORE}
+use Rattle.base_refusals.specs.declared.Refusal.TheVariants.{STORE}
 use Rattle.base_refusals.specs.Outcome.{Outcome, went, NoValues, done}
 use Rattle.base_refusals.specs.Rows.{Row, row, by_rows}
 use Rattle.bins.specs.Bin.{bins}

@@ -1,6 +1,6 @@
 -- Writing a histogram's record (01, 'Records'): the same counters as in reading, bin 0 first.
 use Rattle.std.specs.Prelude.{ℕ, not, List, [], ◌∷◌}
-use Rattle.base_refusals.specs.Refusal.{STORE}
+use Rattle.base_refusals.specs.declared.Refusal.TheVariants.{STORE}
 use Rattle.base_refusals.specs.Outcome.{Outcome}
 use Rattle.base_refusals.specs.Rows.{Row, row, by_rows}
 use Rattle.history_histogram.specs.Histogram.{is_histogram}

@@ -6,7 +6,7 @@ use Prim.Native.Nat.{ℕ, ◌-◌, ◌≤◌}
 use borrow.Author.Tests.{le-ltb, ltb-false, eq-eqb, eqb-true, not-false}
 use lib.Dec.{eqb}
 use lib.ListN.{length}
-use Rattle.base_refusals.specs.Refusal.{LENGTH, KIND}
+use Rattle.base_refusals.specs.declared.Refusal.TheVariants.{LENGTH, KIND}
 use Rattle.base_refusals.specs.Rows.{number_of}
 use Rattle.base_refusals.proofs.Rows.{not_held}
 use Rattle.record_layout.specs.declared.Kind.{Kind}

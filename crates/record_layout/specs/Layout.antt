@@ -1,7 +1,7 @@
 -- What records have in common (01, 'Records'): "little-endian: u32 length of what follows, u16 kind", then a body of fields. One description of these
 -- fields stands behind readers, writers and their statements.
 use Rattle.std.specs.Prelude.{ℕ, zero, suc, ◌+◌, ◌-◌, ◌*◌, Bool, not, cond, List, [], ◌∷◌, ◌++◌, eqb, leb, ltb, length, drop}
-use Rattle.base_refusals.specs.Refusal.{LENGTH, KIND, ROOM}
+use Rattle.base_refusals.specs.declared.Refusal.TheVariants.{LENGTH, KIND, ROOM}
 use Rattle.base_refusals.specs.Outcome.{Outcome, went, Question, answers, NoValues, done}
 use Rattle.base_refusals.specs.Rows.{Row, row, by_rows}
 use Rattle.base_fields.specs.declared.Order.{Order}

@@ -9,7 +9,7 @@ use lib.Dec.{eqb, leb}
 use lib.ListN.{length, length-map, drop}
 use lib.Seq.{sets, sets-eq}
 use lib.Ieee.{Float, of_bits, binary64}
-use Rattle.base_refusals.specs.Refusal.{STORE, LENGTH, CONTENT}
+use Rattle.base_refusals.specs.declared.Refusal.TheVariants.{STORE, LENGTH, CONTENT}
 use Rattle.base_refusals.specs.Outcome.{went, answers}
 use Rattle.base_refusals.specs.Rows.{number_of, by_rows}
 use Rattle.base_refusals.proofs.Rows.{goes, not_held, not_held_after}

@@ -4,7 +4,7 @@
 use Rattle.std.specs.Prelude.{ℕ, ◌+◌, ◌*◌, Bool, true, not, ◌&&◌, ◌||◌, List, [], ◌∷◌, ◌++◌, map, eqb, leb, length, drop, Float}
 use Rattle.std.specs.Float.{binary64}
 use Rattle.std.specs.Float.Ieee.{of_bits, to_bits, is_nan}
-use Rattle.base_refusals.specs.Refusal.{STORE, LENGTH, CONTENT}
+use Rattle.base_refusals.specs.declared.Refusal.TheVariants.{STORE, LENGTH, CONTENT}
 use Rattle.base_refusals.specs.Outcome.{Outcome, went, Question, answers, Said, says, refusal}
 use Rattle.base_refusals.specs.Rows.{Row, row, by_rows}
 use Rattle.history_queue.specs.declared.Queue.{Queue}

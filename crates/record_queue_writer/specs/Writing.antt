@@ -1,6 +1,6 @@
 -- Writing a queue's record (01, 'Records'): the same fields as in reading, oldest energy first.
 use Rattle.std.specs.Prelude.{ℕ, not, ◌&&◌, List, [], ◌∷◌, ◌++◌, length, Float}
-use Rattle.base_refusals.specs.Refusal.{STORE}
+use Rattle.base_refusals.specs.declared.Refusal.TheVariants.{STORE}
 use Rattle.base_refusals.specs.Outcome.{Outcome}
 use Rattle.base_refusals.specs.Rows.{Row, row, by_rows}
 use Rattle.base_fields.specs.Field.{bytes_of}

@@ -2,7 +2,8 @@
 use mathlib.Core.Path.{◌≡◌, refl, sym, ◌∙◌}
 use native.Mathlib.Omega.{arith}
 use lib.ListN.{length}
-use Rattle.base_refusals.specs.Refusal.{SET, number}
+use Rattle.base_refusals.specs.Refusal.{number}
+use Rattle.base_refusals.specs.declared.Refusal.TheVariants.{SET}
 use Rattle.base_refusals.proofs.Numbers.{no_number}
 use Rattle.history_set.specs.Set.{histories, histories_of}
 use Rattle.history_set.proofs.Rows.{too_many, set_refused}

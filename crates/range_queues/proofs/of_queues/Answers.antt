@@ -4,7 +4,8 @@ use mathlib.Core.Bool.{true, false}
 use mathlib.Core.List.{List}
 use lib.Ieee.{Float}
 use lib.ListN.{length}
-use Rattle.base_refusals.specs.Refusal.{SET, STORE, number}
+use Rattle.base_refusals.specs.Refusal.{number}
+use Rattle.base_refusals.specs.declared.Refusal.TheVariants.{SET, STORE}
 use Rattle.base_refusals.proofs.Numbers.{no_number}
 use Rattle.history_set.specs.Set.{histories, chosen, outside_set, all_sound}
 use Rattle.history_set.proofs.Entries.{stores_inside_lem}

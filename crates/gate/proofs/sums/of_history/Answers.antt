@@ -1,6 +1,6 @@
 -- `sums::of_history` meets its contract: SET, STORE, or what was seen of the history. Assumes nothing.
 use Rattle.std.proofs.Common.{◌≡◌, false, sym, ◌∙◌}
-use Rattle.base_refusals.specs.Refusal.{STORE, SET}
+use Rattle.base_refusals.specs.declared.Refusal.TheVariants.{STORE, SET}
 use Rattle.history_set.specs.Set.{chosen, outside_set, all_sound}
 use Rattle.history_set.proofs.Rows.{set_refused, one_unsound, all_well}
 use Rattle.gate.specs.Sums.{alone}

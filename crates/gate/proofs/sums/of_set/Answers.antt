@@ -1,7 +1,7 @@
 -- `sums::of_set` meets its contract. The invariant: the stores and the totals of the histories from `i` on, on top of what was added, give what all
 -- give. Assumes nothing.
 use Rattle.std.proofs.Common.{ℕ, ◌≡◌, ◌+◌, ◌≤◌, false, length, get_or, drop, sym, refl, ap, ◌∙◌, arith}
-use Rattle.base_refusals.specs.Refusal.{STORE, SET}
+use Rattle.base_refusals.specs.declared.Refusal.TheVariants.{STORE, SET}
 use lib.Ieee.{Float}
 use Rattle.history_set.specs.Set.{most_histories, histories, chosen, any_outside, outside_set, is_sound, all_show}
 use Rattle.history_set.proofs.Entries.{past_the_last, inside_at, all_found, all_passed, all_end, shows_next, shows_end}
