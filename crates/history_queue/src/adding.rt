@@ -6,7 +6,7 @@ ghost use Rattle.history_queue.specs.Queue.{over};
 ghost use Rattle.history_queue.specs.Adding.{enqueued};
 
 use crate::Queue;
-use base_refusals::Answer;
+use base_refusals::{Answer, Refusal};
 
 // The answer of `add`, with the queue as it is afterwards.
 #[derive(Clone, Copy)]
@@ -47,7 +47,7 @@ pub fn add(queue: Queue, store: &mut [f64], energy: f64) -> Queued
     if queue.suits(store.len()) {
         if energy < bins::lowest_boundary() {
             return Queued {
-                answer: Answer::Done,
+                answer: Ok(()),
                 queue,
             };
         }
@@ -58,7 +58,7 @@ pub fn add(queue: Queue, store: &mut [f64], energy: f64) -> Queued
             let place = on_ring(head + held, maximum);
             store[place] = energy;
             return Queued {
-                answer: Answer::Done,
+                answer: Ok(()),
                 queue: Queue {
                     maximum,
                     head,
@@ -68,7 +68,7 @@ pub fn add(queue: Queue, store: &mut [f64], energy: f64) -> Queued
         }
         store[head] = energy;
         Queued {
-            answer: Answer::Done,
+            answer: Ok(()),
             queue: Queue {
                 maximum,
                 head: after(head, maximum),
@@ -77,7 +77,7 @@ pub fn add(queue: Queue, store: &mut [f64], energy: f64) -> Queued
         }
     } else {
         Queued {
-            answer: Answer::Refused(base_refusals::STORE),
+            answer: Err(Refusal::STORE),
             queue,
         }
     }

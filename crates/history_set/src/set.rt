@@ -1,6 +1,7 @@
 // A set of histories, as a question takes it: up to 16 entries by value, over one lent slice of counters and one of energies. Entries may overlap or repeat.
-ghost use Rattle.std.specs.Prelude.{◌≡◌, ◌≤◌, take};
-ghost use Rattle.history_set.specs.Set.{most_histories, histories, is_outside, any_outside, outside_set};
+ghost use Rattle.std.specs.Prelude.{◌≡◌};
+ghost use Rattle.history_set.specs.Lent.{lent};
+ghost use Rattle.history_set.specs.Set.{is_outside, any_outside, outside_set};
 
 use bins::Count;
 use history_queue::Queue;
@@ -43,33 +44,34 @@ fn outside(entry: Entry, counters: usize, energies: usize) -> bool
     }
 }
 
-// Whether any of the first `count` entries does.
-fn any_outside(entries: [Entry; MOST], count: usize, counters: usize, energies: usize) -> bool
-    requires { count ≤ most_histories }
-    ensures { result ≡ any_outside counters energies (take count entries) }
+// A set of histories: up to 16 entries, over one lent slice of counters and one of energies. Entries may overlap or repeat.
+#[derive(Clone, Copy)]
+pub struct Histories<'a> {
+    pub entries: &'a [Entry],
+    pub counters: &'a [Count],
+    pub energies: &'a [f64],
+}
+
+// Whether any of the entries does.
+fn any_outside(entries: &[Entry], counters: usize, energies: usize) -> bool
+    ensures { result ≡ any_outside counters energies entries.now }
 {
-    let mut i = 0;
-    while i < count {
-        let entry = entries[i];
-        if outside(entry, counters, energies) {
+    for entry in entries {
+        if outside(*entry, counters, energies) {
             return true;
         }
-        i += 1;
     }
     false
 }
 
-// Whether SET refuses a set: too many entries, or one that reaches outside.
-pub fn outside_set(
-    entries: [Entry; MOST],
-    count: usize,
-    counters: &[Count],
-    energies: &[f64],
-) -> bool
-    ensures { result ≡ outside_set (histories entries count counters.now energies.now) }
-{
-    if count > MOST {
-        return true;
+impl<'a> Histories<'a> {
+    // Whether SET refuses the set: too many entries, or one that reaches outside.
+    pub fn outside(self) -> bool
+        ensures { result ≡ outside_set (lent self.entry) }
+    {
+        if self.entries.len() > MOST {
+            return true;
+        }
+        any_outside(self.entries, self.counters.len(), self.energies.len())
     }
-    any_outside(entries, count, counters.len(), energies.len())
 }
