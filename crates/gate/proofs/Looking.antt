@@ -1,7 +1,8 @@
 -- Energies looked at and added in one pass: what a queue holds is two parts, one after the other, and so is what is seen of them. Assumes nothing.
 use Rattle.std.proofs.Common.{◌≡◌, ℕ, ◌+◌, ◌≤◌, Bool, true, ◌&&◌, List, [], ◌∷◌, ◌++◌, length, take, drop, sym, refl, ap, ◌∙◌, arith}
 use lib.Ieee.{Float, binary64, add}
-use Rattle.base_refusals.specs.Refusal.{Refusal, number}
+use Rattle.base_refusals.specs.Refusal.{number}
+use Rattle.base_refusals.specs.declared.Refusal.{Refusal}
 use Rattle.base_refusals.specs.Rows.{Row, number_of}
 use Rattle.base_refusals.proofs.Numbers.{no_number}
 use Rattle.history_queue.specs.declared.Queue.{Queue}
