@@ -1,47 +1,28 @@
--- The checks of a call: what a call that passes has, found by the refusal's name. Each test of the code is a test of the definition, or its contrary; the room of a part is
--- compared with no sum. Assumes nothing.
-use Prim.Native.Nat.{ℕ, suc, ◌+◌, ◌-◌, ◌*◌, ◌/◌, ◌%◌, ◌≤◌, ◌<◌}
-use native.Mathlib.Numerals.{add-one}
+-- The checks of a call: what a call that passes has, found by the refusal's name. All bytes of a map are admitted where each is. Assumes nothing.
+use Prim.Native.Nat.{ℕ, ◌+◌, ◌*◌, ◌/◌, ◌%◌, ◌≤◌, ◌<◌}
 use native.Mathlib.Nat.{div-add-mod'}
 use native.Mathlib.Omega.{arith}
-use mathlib.Core.Path.{◌≡◌, refl, ap, sym, ◌∙◌}
-use mathlib.Core.List.{List}
+use mathlib.Core.Path.{◌≡◌, refl, ap, sym}
+use mathlib.Core.List.{List, [], ◌∷◌}
+use Rattle.std.specs.List.{list_all}
 use mathlib.Core.Bool.{Bool, true, false, not, ◌&&◌, ◌||◌, true≢false}
-use borrow.Author.Tests.{eqb-true, eqb-false, eq-eqb, ne_eqb, ltb-false, not-false, lt-leb, le-leb, lt-ltb, le-ltb}
+use borrow.Author.Tests.{eqb-true, eqb-false, eq-eqb, ne_eqb, ltb-false, not-false, le-ltb}
 use lib.Dec.{ltb, eqb}
-use lib.ListN.{length, get_or, drop}
-use lib.Seq.{drop-cons}
+use lib.ListN.{length}
 use Rattle.base_refusals.specs.declared.Refusal.TheVariants.{CHANNELS, SAMPLES, MAP, DEST}
 use Rattle.base_refusals.specs.Rows.{number_of}
 use Rattle.base_refusals.proofs.Rows.{not_held, number_parts}
 use Rattle.filter_checks.specs.declared.Sizes.{Sizes}
-use Rattle.filter_checks.specs.Calls.{all_admitted, wrong_channels, wrong_samples, wrong_map, wrong_dest, frame_rows, map_rows, dest_rows, seed_rows, process_rows}
+use Rattle.filter_checks.specs.Calls.{admits, all_admitted, wrong_channels, wrong_samples, wrong_map, wrong_dest, frame_rows, map_rows, dest_rows, seed_rows, process_rows}
 use Rattle.samples.specs.Frames.{most_channels}
 use Rattle.samples.proofs.Cutting.{Framed}
 
 -- ---- map bytes
 
-pub admitted_not : (map : List ℕ) (i : ℕ) → i < length map → 1 < get_or map i 0 → all_admitted (drop i map) ≡ false
+pub all_of_each : (map : List ℕ) → all_admitted map ≡ list_all admits map
 unfolding all_admitted
-admitted_not map i h g = ap all_admitted (drop-cons map i 0 h) ∙ ap (λ (t : Bool). t && all_admitted (drop (suc i) map)) (lt-leb (get_or map i 0) 1 g)
-
-pub admitted_next : (map : List ℕ) (i : ℕ) → i < length map → get_or map i 0 ≤ 1 → all_admitted (drop i map) ≡ all_admitted (drop (i + 1) map)
-unfolding all_admitted
-admitted_next map i h g =
-    ap all_admitted (drop-cons map i 0 h)
-    ∙ ap (λ (t : Bool). t && all_admitted (drop (suc i) map)) (le-leb (get_or map i 0) 1 g)
-    ∙ ap (λ (n : ℕ). all_admitted (drop n map)) (sym (add-one i))
-
--- ---- the room of a part: f frames from s on, in p places
-
-pub too_short : (p f s : ℕ) → p < f → ltb p (s + f) ≡ true
-too_short p f s h = lt-ltb p (s + f) (omega arith)
-
-pub too_late : (p f s : ℕ) → f ≤ p → p - f < s → ltb p (s + f) ≡ true
-too_late p f s h g = lt-ltb p (s + f) (omega arith)
-
-pub has_room : (p f s : ℕ) → f ≤ p → s ≤ p - f → ltb p (s + f) ≡ false
-has_room p f s h g = le-ltb p (s + f) (omega arith)
+all_of_each [] = refl
+all_of_each (byte ∷ bytes) = ap (λ (b : Bool). admits byte && b) (all_of_each bytes)
 
 -- ---- what is not wrong
 

@@ -1,9 +1,12 @@
-// The checks of a call over samples, in the order of the table. Each answers the number of the first refusal, and 0 where there is none.
+// The checks of a call over samples, in the order of the table. Each answers the first refusal.
 #![tactic(auto)]
 
 ghost use Rattle.std.specs.Prelude.{◌≡◌, ◌<◌};
+ghost use Rattle.base_refusals.specs.Codes.{number_said};
 ghost use Rattle.base_refusals.specs.Rows.{number_of};
 ghost use Rattle.filter_checks.specs.Calls.{all_admitted, frame_rows, map_rows, dest_rows, seed_rows, process_rows};
+
+use base_refusals::{Answer, Refusal};
 
 // The channels that states and peaks have places for.
 const MOST_CHANNELS: usize = 8;
@@ -20,87 +23,65 @@ pub struct Sizes {
 fn all_admitted(map: &[u8]) -> bool
     ensures { result ≡ all_admitted map.now }
 {
-    let mut i = 0;
-    while i < map.len() {
-        if 1 < map[i] {
-            return false;
-        }
-        i += 1;
-    }
-    true
+    map.iter().all(|byte| *byte <= 1)
 }
 
 // CHANNELS and SAMPLES, for every call. `samples` is their number.
-pub fn refused_frames(channels: usize, samples: usize) -> u8
-    ensures { result ≡ number_of (frame_rows channels samples) }
+#[tactic(auto, unfolding(crate::specs::Calls::frame_rows))]
+pub fn refused_frames(channels: usize, samples: usize) -> Answer
+    ensures { number_said result ≡ number_of (frame_rows channels samples) }
 {
-    if channels == 0 {
-        return base_refusals::CHANNELS;
-    }
-    if MOST_CHANNELS < channels {
-        return base_refusals::CHANNELS;
+    if channels == 0 || MOST_CHANNELS < channels {
+        return Err(Refusal::CHANNELS);
     }
     if samples % channels != 0 {
-        return base_refusals::SAMPLES;
+        return Err(Refusal::SAMPLES);
     }
-    0
+    Ok(())
 }
 
-fn refused_map(channels: usize, map: &[u8]) -> u8
-    ensures { result ≡ number_of (map_rows channels map.now) }
+#[tactic(auto, unfolding(crate::specs::Calls::map_rows))]
+fn refused_map(channels: usize, map: &[u8]) -> Answer
+    ensures { number_said result ≡ number_of (map_rows channels map.now) }
 {
-    if map.len() != channels {
-        return base_refusals::MAP;
+    if map.len() != channels || !all_admitted(map) {
+        return Err(Refusal::MAP);
     }
-    if !all_admitted(map) {
-        return base_refusals::MAP;
-    }
-    0
+    Ok(())
 }
 
 // No sum is formed that could wrap.
-fn refused_dest(loudness: bool, sizes: Sizes) -> u8
+#[tactic(auto, unfolding(crate::specs::Calls::dest_rows))]
+fn refused_dest(loudness: bool, sizes: Sizes) -> Answer
     requires { 0 < sizes.channels }
-    ensures { result ≡ number_of (dest_rows loudness sizes) }
+    ensures { number_said result ≡ number_of (dest_rows loudness sizes) }
 {
     if !loudness {
-        return 0;
+        return Ok(());
     }
-    if sizes.room == 0 {
-        return base_refusals::DEST;
-    }
-    if sizes.room % sizes.channels != 0 {
-        return base_refusals::DEST;
+    if sizes.room == 0 || sizes.room % sizes.channels != 0 {
+        return Err(Refusal::DEST);
     }
     let frames = sizes.samples / sizes.channels;
     let part = sizes.room / sizes.channels;
-    if part < frames {
-        return base_refusals::DEST;
+    if part < frames || part - frames < sizes.start {
+        return Err(Refusal::DEST);
     }
-    if part - frames < sizes.start {
-        return base_refusals::DEST;
-    }
-    0
+    Ok(())
 }
 
 // CHANNELS, SAMPLES and MAP, for a call without a destination.
-pub fn refused_seed(channels: usize, samples: usize, map: &[u8]) -> u8
-    ensures { result ≡ number_of (seed_rows channels samples map.now) }
+pub fn refused_seed(channels: usize, samples: usize, map: &[u8]) -> Answer
+    ensures { number_said result ≡ number_of (seed_rows channels samples map.now) }
 {
-    let number = refused_frames(channels, samples);
-    if number != 0 {
-        return number;
-    }
+    refused_frames(channels, samples)?;
     refused_map(channels, map)
 }
 
 // CHANNELS, SAMPLES, MAP and, with loudness on, DEST.
-pub fn refused_process(loudness: bool, sizes: Sizes, map: &[u8]) -> u8
-    ensures { result ≡ number_of (process_rows loudness sizes map.now) }
+pub fn refused_process(loudness: bool, sizes: Sizes, map: &[u8]) -> Answer
+    ensures { number_said result ≡ number_of (process_rows loudness sizes map.now) }
 {
-    let number = refused_seed(sizes.channels, sizes.samples, map);
-    if number != 0 {
-        return number;
-    }
+    refused_seed(sizes.channels, sizes.samples, map)?;
     refused_dest(loudness, sizes)
 }
