@@ -9,7 +9,9 @@ use Rattle.base_refusals.specs.Refusal.{number}
 use Rattle.base_refusals.specs.declared.Refusal.TheVariants.{STORE, SET}
 use Rattle.base_refusals.specs.Rows.{number_of}
 use Rattle.base_refusals.proofs.Rows.{not_held}
-use Rattle.history_set.proofs.Entries.{either_not}
+use Rattle.history_set.proofs.Entries.{all_chosen, either_not}
+use Rattle.history_set.specs.declared.set.Histories.{Histories as Lent}
+use Rattle.history_set.specs.Lent.{lent}
 use Rattle.history_set.specs.Set.{most_histories, Histories, chosen, any_outside, outside_set, all_sound, set_rows}
 
 module _ (h : Histories) where
@@ -45,3 +47,15 @@ pub kept : (h : Histories) → number_of (set_rows h) ≡ 0 → Kept h
 kept h e =
     let w = none_outside h (not_held SET (set_rows h) e) in
     record { few = w.0; inside = w.1; stores = not-false (all_sound h.energies (chosen h)) (not_held STORE (set_rows h) e) }
+
+-- ---- the same of a set as it is lent, whose entries all count
+pub none_reaches : (set : Lent) → outside_set (lent set) ≡ false → any_outside (length set.counters.now) (length set.energies.now) set.entries.now ≡ false
+none_reaches set e = rw all_chosen at (none_outside (lent set) e).1
+
+pub record KeptLent (set : Lent) : Type 0 where
+  pub few : length set.entries.now ≤ most_histories
+  pub inside : any_outside (length set.counters.now) (length set.energies.now) set.entries.now ≡ false
+  pub stores : all_sound set.energies.now set.entries.now ≡ true
+
+pub kept_lent : (set : Lent) → number_of (set_rows (lent set)) ≡ 0 → KeptLent set
+kept_lent set e = let k = kept (lent set) e in record { few = k.few; inside = rw all_chosen at k.inside; stores = rw all_chosen at k.stores }

@@ -14,6 +14,8 @@ pub use Rattle.history_queue.specs.Queue.{slice}
 use Rattle.history_queue.specs.Queue.{suits, held_of, parts_of, in_parts}
 pub use Rattle.history_queue.proofs.Standing.{slice_length, slice_next, slice_end}
 use Rattle.history_queue.proofs.Standing.{inside, held_in_parts}
+use Rattle.std.proofs.lemmas.List.{drop_more}
+use Rattle.std.proofs.Math.ListN.{drop_of_length-le}
 use Rattle.history_set.specs.Set.{counters_at, queue_at, none_below}
 
 pub counters_slice : (counters : List ℕ) (start : ℕ) → counters_at counters start ≡ slice start (start + bins) counters
@@ -23,13 +25,12 @@ pub held_slices : (energies : List Float) (start : ℕ) (queue : Queue) → star
     → held_of (queue_at energies start queue) ≡ in_parts (parts_of queue start (length energies)) energies
 held_slices energies start queue within fits = held_in_parts queue start energies (inside queue start (length energies) within ∙ fits)
 
--- ---- none of a slice is below boundary 0
-module _ (l : List Float) (i until : ℕ) (fine : Bool) where
-  pub fine_turn : (d : Float) → i < until → until ≤ length l
-      → (fine && not (dropped (get_or l i d))) && none_below (slice (i + 1) until l) ≡ fine && none_below (slice i until l)
+-- ---- none of the energies that are left is below boundary 0
+module _ (l : List Float) (i : ℕ) (fine : Bool) where
+  pub fine_turn : (d : Float) → i < length l → (fine && not (dropped (get_or l i d))) && none_below (drop (i + 1) l) ≡ fine && none_below (drop i l)
   unfolding none_below
-  fine_turn d h g = rw (and_assoc, slice_next l i until d h g)
+  fine_turn d h = rw (and_assoc, drop_more l i d h)
 
-  pub fine_end : until ≤ i → fine && none_below (slice i until l) ≡ fine
+  pub fine_end : length l ≤ i → fine && none_below (drop i l) ≡ fine
   unfolding none_below
-  fine_end h = rw (slice_end l i until h) (and-true fine)
+  fine_end h = rw (drop_of_length-le l h) (and-true fine)

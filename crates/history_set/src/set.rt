@@ -1,4 +1,4 @@
-// A set of histories, as a question takes it: up to 16 entries by value, over one lent slice of counters and one of energies. Entries may overlap or repeat.
+// A set of histories, as a question takes it: up to 16 entries, over one lent slice of counters and one of energies. Entries may overlap or repeat.
 ghost use Rattle.std.specs.Prelude.{◌≡◌};
 ghost use Rattle.history_set.specs.Lent.{lent};
 ghost use Rattle.history_set.specs.Set.{is_outside, any_outside, outside_set};
@@ -27,24 +27,13 @@ pub struct Entry {
 fn outside(entry: Entry, counters: usize, energies: usize) -> bool
     ensures { result ≡ is_outside counters energies entry }
 {
-    let shape = entry.shape;
-    match shape {
-        Shape::Histogram(start) => {
-            if counters < start {
-                return true;
-            }
-            counters - start < bins::BINS
-        }
-        Shape::Queue(start, queue) => {
-            if energies < start {
-                return true;
-            }
-            energies - start < queue.maximum
-        }
+    match entry.shape {
+        Shape::Histogram(start) => counters < start || counters - start < bins::BINS,
+        Shape::Queue(start, queue) => energies < start || energies - start < queue.maximum,
     }
 }
 
-// A set of histories: up to 16 entries, over one lent slice of counters and one of energies. Entries may overlap or repeat.
+// The entries, and the slices that they lie in.
 #[derive(Clone, Copy)]
 pub struct Histories<'a> {
     pub entries: &'a [Entry],
@@ -69,9 +58,7 @@ impl<'a> Histories<'a> {
     pub fn outside(self) -> bool
         ensures { result ≡ outside_set (lent self.entry) }
     {
-        if self.entries.len() > MOST {
-            return true;
-        }
-        any_outside(self.entries, self.counters.len(), self.energies.len())
+        self.entries.len() > MOST
+            || any_outside(self.entries, self.counters.len(), self.energies.len())
     }
 }

@@ -1,42 +1,25 @@
--- `stores::all_sound` meets its contract. The invariant: the entries from `i` on give what all give, so each before is sound.
--- Assumes nothing.
-use Prim.Native.Nat.{◌≤◌}
-use native.Mathlib.Omega.{arith}
-use mathlib.Core.Path.{◌≡◌, refl, sym, ◌∙◌}
-use mathlib.Core.Bool.{true, false}
-use lib.ListN.{length, get_or}
-use Rattle.history_set.specs.Set.{store_end, is_sound}
-use Rattle.history_set.proofs.Entries.{past_the_last, all_found, all_passed, all_end, every_at}
+-- `stores::all_sound` meets its contract. The invariant: the entries from here on give what all give, so each before is sound. Assumes nothing.
+use Rattle.std.proofs.Common.{◌≤◌, length, sym, ◌∙◌, arith}
+use Rattle.history_set.specs.Set.{store_end}
+use Rattle.history_set.proofs.Entries.{all_found, all_passed, all_end, every_at}
 use Rattle.history_set.proofs.stores.all_sound.Goals as goal
-
-pub loop-i-init : goal.loop-i-init
-loop-i-init c = (omega arith, refl)
 
 pub sound-requires : goal.sound-requires
 sound-requires c =
-    let l = c in
-    let s = l in
-    let a = s.args in
-    every_at (λ entry. store_end entry.shape ≤ length a.energies.now) a.entries a.count l.loop-i.i (omega arith) (omega arith) s.requires.1
+    let a = c.args in
+    every_at (λ entry. store_end entry.shape ≤ length a.energies.now) a.entries.now c.loop-entry.entry-index (omega arith) c.requires
 
-pub loop-i-preserved : goal.loop-i-preserved
-loop-i-preserved c =
-    let l = c in
-    let a = l.args in
-    let energies = a.energies.now in
-    let here : is_sound energies (get_or a.entries l.loop-i.i past_the_last) ≡ true = sym c.sound.ensures ∙ c.if-sound.true in
-    (omega arith, sym (all_passed energies a.entries a.count l.loop-i.i (omega arith) (omega arith) here) ∙ l.loop-i.invariant.1)
+pub loop-entry-preserved : goal.loop-entry-preserved
+loop-entry-preserved c =
+    let a = c.args in
+    sym (all_passed a.energies.now a.entries.now c.loop-entry.entry-index (omega arith) (sym c.sound.ensures ∙ c.if-not-sound.false)) ∙ c.loop-entry.invariant
 
-pub returns-else-sound : goal.returns-else-sound
-returns-else-sound c =
-    let l = c in
-    let a = l.args in
-    let energies = a.energies.now in
-    let here : is_sound energies (get_or a.entries l.loop-i.i past_the_last) ≡ false = sym c.sound.ensures ∙ c.if-sound.false in
-    sym (sym l.loop-i.invariant.1 ∙ all_found energies a.entries a.count l.loop-i.i (omega arith) (omega arith) here)
+pub returns-then-not-sound : goal.returns-then-not-sound
+returns-then-not-sound c =
+    let a = c.args in
+    sym (all_found a.energies.now a.entries.now c.loop-entry.entry-index (omega arith) (sym c.sound.ensures ∙ c.if-not-sound.true)) ∙ c.loop-entry.invariant
 
 pub returns : goal.returns
 returns c =
-    let l = c in
-    let a = l.args in
-    sym (sym l.loop-i.invariant.1 ∙ all_end a.energies.now a.entries a.count l.loop-i.i (omega arith))
+    let a = c.args in
+    sym (all_end a.energies.now a.entries.now c.loop-entry.entry-index (omega arith)) ∙ c.loop-entry.invariant

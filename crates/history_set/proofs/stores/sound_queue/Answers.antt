@@ -1,8 +1,6 @@
 -- `stores::sound_queue` meets its contract: the energies held are two slices, and none is below boundary 0 where none in either is.
 -- Assumes nothing.
-use mathlib.Core.Path.{◌≡◌, sym, ap, ◌∙◌}
-use mathlib.Core.Bool.{true, false}
-use lib.ListN.{length}
+use Rattle.std.proofs.Common.{◌≡◌, true, length, sym, ap, ◌∙◌, arith}
 use Rattle.history_queue.specs.declared.Parts.{Parts}
 use Rattle.history_queue.specs.Queue.{suits, slice, in_parts}
 use Rattle.history_queue.proofs.Standing.{Within, parts_within, held_in_store}
@@ -16,11 +14,29 @@ within c =
     let a = c.args in
     parts_within a.queue 0 (length a.store.now) c.parts-parts.result c.parts-parts.ensures
 
-pub none_below-requires : goal.none_below-requires
-none_below-requires c = let w = within (goal.at.none_below-requires c).After-parts-parts in (w.older, w.inside)
+pub offset_bounds-store-parts : goal.offset_bounds-store-parts
+offset_bounds-store-parts c = let w = within (goal.at.offset_bounds-store-parts c).After-parts-parts in omega arith
 
-pub none_below-requires-then-suits : goal.none_below-requires-then-suits
-none_below-requires-then-suits c = let w = within (goal.at.none_below-requires-then-suits c).After-parts-parts in (w.newer, w.within)
+pub slice_bounds-none_below-count : goal.slice_bounds-none_below-count
+slice_bounds-none_below-count c = let w = within (goal.at.slice_bounds-none_below-count c).After-parts-parts in omega arith
+
+pub slice_bounds-none_below-start : goal.slice_bounds-none_below-start
+slice_bounds-none_below-start c = let w = within (goal.at.slice_bounds-none_below-start c).After-parts-parts in omega arith
+
+pub slice_bounds-none_below-end : goal.slice_bounds-none_below-end
+slice_bounds-none_below-end c = let w = within (goal.at.slice_bounds-none_below-end c).After-parts-parts in omega arith
+
+pub offset_bounds-store-parts-then-suits : goal.offset_bounds-store-parts-then-suits
+offset_bounds-store-parts-then-suits c = let w = within (goal.at.offset_bounds-store-parts-then-suits c).After-parts-parts in omega arith
+
+pub slice_bounds-none_below-count-then-suits : goal.slice_bounds-none_below-count-then-suits
+slice_bounds-none_below-count-then-suits c = let w = within (goal.at.slice_bounds-none_below-count-then-suits c).After-parts-parts in omega arith
+
+pub slice_bounds-none_below-start-then-suits : goal.slice_bounds-none_below-start-then-suits
+slice_bounds-none_below-start-then-suits c = let w = within (goal.at.slice_bounds-none_below-start-then-suits c).After-parts-parts in omega arith
+
+pub slice_bounds-none_below-end-then-suits : goal.slice_bounds-none_below-end-then-suits
+slice_bounds-none_below-end-then-suits c = let w = within (goal.at.slice_bounds-none_below-end-then-suits c).After-parts-parts in omega arith
 
 pub returns-then-suits : goal.returns-then-suits
 returns-then-suits c =
@@ -36,9 +52,3 @@ returns-then-suits c =
       ← c.none_below.ensures,
       ← c.none_below-then-suits.ensures,
     )
-
-pub returns-else-suits : goal.returns-else-suits
-returns-else-suits c =
-    let a = c.args in
-    let h : suits a.queue (length a.store.now) ≡ false = sym c.suits.ensures ∙ c.if-suits.false in
-    rw h
