@@ -1,7 +1,7 @@
 // What the programs read standard input with, over std's `Read`.
 #![tactic(auto)]
 
-ghost use Rattle.std.specs.Prelude.{◌≡◌, ◌<◌, IfOk, length, replicate, take};
+ghost use Rattle.std.specs.Prelude.{◌≡◌, true, false, ◌<◌, ◌≤◌, ◌⊎◌, IfOk, length, replicate, take};
 ghost use Rattle.std.specs.Io.{ReadsAtMost};
 ghost use Rattle.std.specs.Io.KnownBytes.{Consumes, IsAtEnd};
 
@@ -30,4 +30,18 @@ pub fn read_full<R: Read>(input: &mut R, buf: &mut [u8]) -> io::Result<usize>
         done += n;
     }
     Ok(done)
+}
+
+// Reads `size` bytes to the buffer's start. Answers whether so many were there, and places for them.
+pub fn read_whole<R: Read>(input: &mut R, buf: &mut [u8], size: u64) -> io::Result<bool>
+    ensures places { IfOk result (λ whole. whole ≡ true → size ≤ length buf.new) }
+    ensures bytes { IfOk result (λ whole. whole ≡ true → Consumes (R.remaining input.old) (R.remaining input.new) (take size buf.new)) }
+    ensures short { IfOk result (λ whole. whole ≡ false → (length buf.new < size) ⊎ IsAtEnd (R.remaining input.new)) }
+{
+    let length = size as usize;
+    if buf.len() < length {
+        return Ok(false);
+    }
+    let read = read_full(input, &mut buf[..length])?;
+    Ok(read == length)
 }

@@ -2,7 +2,6 @@
 // An energy is the pattern of an f64, 8 bytes, low byte first.
 #![tactic(auto)]
 
-use bins::search::Level;
 use std::io;
 use std::io::Read;
 
@@ -20,7 +19,7 @@ fn main(rt: HostRuntime) -> io::Result<()> {
 // Whether there was a whole energy.
 fn read_one(rt: &impl Print, input: &mut impl Read) -> io::Result<bool> {
     let mut energy = [0u8; 8];
-    if program_io::read_full(input, &mut energy)? != 8 {
+    if !program_io::read_whole(input, &mut energy, 8)? {
         return Ok(false);
     }
     print_reading(
@@ -32,22 +31,7 @@ fn read_one(rt: &impl Print, input: &mut impl Read) -> io::Result<bool> {
 
 fn print_reading(rt: &impl Print, energy: f64) -> io::Result<()> {
     match bins::search::reading(energy) {
-        Level::Tenths(tenths) => print_tenths(rt, tenths as i64),
-        Level::Refused(number) => println!(rt; "refused {number}"),
+        Ok(tenths) => println!(rt; "{tenths}"),
+        Err(refused) => println!(rt; "refused {}", refused as u8),
     }
-}
-
-fn print_tenths(rt: &impl Print, tenths: i64) -> io::Result<()> {
-    if tenths < 0 {
-        print!(rt; "-")?;
-    }
-    println!(rt; "{}", magnitude(tenths))
-}
-
-fn magnitude(z: i64) -> u64 {
-    if 0 <= z {
-        return z as u64;
-    }
-    // A unit less than the magnitude of every negative i64 is an i64.
-    (-1 - z) as u64 + 1
 }

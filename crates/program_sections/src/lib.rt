@@ -28,16 +28,6 @@ impl Section {
     }
 }
 
-// Whether a whole case was there, and not longer than the buffer.
-fn read_case(list: &mut impl Read, case: &mut [u8], size: u64) -> io::Result<bool> {
-    let length = size as usize;
-    if case.len() < length {
-        return Ok(false);
-    }
-    let read = program_io::read_full(list, &mut case[..length])?;
-    Ok(read == length)
-}
-
 fn case_same<F: Fn(u64, &[u8]) -> bool>(
     list: &mut impl Read,
     section: Section,
@@ -46,7 +36,7 @@ fn case_same<F: Fn(u64, &[u8]) -> bool>(
     requires { F.IsAlwaysCallable same.now }
 {
     let mut case = program_io::buffer();
-    if !read_case(list, &mut case, section.size)? {
+    if !program_io::read_whole(list, &mut case, section.size)? {
         return Ok(false);
     }
     Ok(same(section.operation, &case))
@@ -88,7 +78,7 @@ fn section_same<F: Fn(u64, &[u8]) -> bool>(
     requires { F.IsAlwaysCallable same.now }
 {
     let mut head = [0u8; 32];
-    if program_io::read_full(list, &mut head)? != 32 {
+    if !program_io::read_whole(list, &mut head, 32)? {
         return Ok(false);
     }
     rt.write_all(&head[12..])?;
