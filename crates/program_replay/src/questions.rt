@@ -3,12 +3,12 @@
 // u64 patterns of 24 energies. Then the answers: u16 refusal of the gate (0: none), u64 blocks, u64 pattern of their sum; u16 code of the range, u64 patterns
 // of its two energies; u64 patterns of the 24 places to work in, all 0 before; u16 refusal of gated energy, u64 pattern of it; u16 code of the threshold
 // (130: a loudness), u64 pattern of it. What is not answered is 0.
+use base_refusals::Refusal;
 use bins::Count;
-use gate::Gated;
-use gate::energy::Energy;
+use gate::blocks::Totals;
 use gate::threshold::Threshold;
 use history_queue::Queue;
-use history_set::set::{Entry, Shape};
+use history_set::set::{Entry, Histories, Shape};
 use range_ranks::spans::Span;
 
 pub(crate) fn answers_same(case: &[u8]) -> bool {
@@ -16,9 +16,16 @@ pub(crate) fn answers_same(case: &[u8]) -> bool {
     let mut energies = [0.0; 24];
     fill_counters(case, &mut counters);
     fill_energies(case, &mut energies);
-    gate_same(case, &counters, &energies)
-        && range_same(case, &counters, &energies)
-        && energy_same(case, &counters, &energies)
+    let entries = entries_of(case);
+    let count = number_at(case, 0).min(entries.len());
+    let set = Histories {
+        entries: &entries[..count],
+        counters: &counters,
+        energies: &energies,
+    };
+    gated_same(case, gate::gate(set))
+        && range_same(case, set)
+        && energy_same(case, gate::energy::gated_energy(set))
         && threshold_same(case, &counters, &energies)
 }
 
@@ -54,102 +61,54 @@ fn entry_at(case: &[u8], at: usize) -> Entry {
     }
 }
 
-// The set has 16 places; those that do not count repeat the first.
-fn entries_of(case: &[u8]) -> [Entry; 16] {
-    let one = entry_at(case, 2);
-    [
-        one,
-        entry_at(case, 12),
-        entry_at(case, 22),
-        entry_at(case, 32),
-        one,
-        one,
-        one,
-        one,
-        one,
-        one,
-        one,
-        one,
-        one,
-        one,
-        one,
-        one,
-    ]
+// The first four places; those that do not count repeat the first. With all 17 the set has one history more than a set takes.
+fn entries_of(case: &[u8]) -> [Entry; 17] {
+    let mut entries = [entry_at(case, 2); 17];
+    entries[1] = entry_at(case, 12);
+    entries[2] = entry_at(case, 22);
+    entries[3] = entry_at(case, 32);
+    entries
 }
 
 fn fill_counters(case: &[u8], counters: &mut [Count]) {
-    let mut at = 42;
-    while at < 90 {
+    for at in (42..90).step_by(6) {
         let count = (base_fields::number_at(case, at + 2, 4) % 4294967296) as Count;
-        put_count(counters, number_at(case, at), count);
-        at += 6;
+        if let Some(counter) = counters.get_mut(number_at(case, at)) {
+            *counter = count;
+        }
     }
 }
 
-fn put_count(counters: &mut [Count], bin: usize, count: Count) {
-    if bin < counters.len() {
-        counters[bin] = count;
+fn fill_energies(case: &[u8], energies: &mut [f64; 24]) {
+    for (place, energy) in energies.iter_mut().enumerate() {
+        *energy = base_floats::float_of(base_fields::number_at(case, 90 + 8 * place, 8));
     }
 }
 
-fn fill_energies(case: &[u8], energies: &mut [f64]) {
-    let mut place = 0;
-    while place < 24 {
-        let energy = base_floats::float_of(base_fields::number_at(case, 90 + 8 * place, 8));
-        put(energies, place, energy);
-        place += 1;
-    }
-}
-
-fn put(energies: &mut [f64], place: usize, energy: f64) {
-    if place < energies.len() {
-        energies[place] = energy;
-    }
-}
-
-fn gate_same(case: &[u8], counters: &[Count], energies: &[f64]) -> bool {
-    gated_same(
-        case,
-        gate::gate(entries_of(case), number_at(case, 0), counters, energies),
-    )
-}
-
-fn gated_same(case: &[u8], gated: Gated) -> bool {
+fn gated_same(case: &[u8], gated: Result<Totals, Refusal>) -> bool {
     let refusal = base_fields::number_at(case, 282, 2);
     let blocks = base_fields::number_at(case, 284, 8);
     let sum = base_fields::number_at(case, 292, 8);
     match gated {
-        Gated::Blocks(count, total) => {
-            refusal == 0 && blocks == count && sum == base_floats::pattern_of(total)
+        Ok(totals) => {
+            refusal == 0 && blocks == totals.count && sum == base_floats::pattern_of(totals.sum)
         }
-        Gated::Refused(number) => refusal == number as u64,
+        Err(refused) => refusal == refused as u64,
     }
 }
 
-fn range_same(case: &[u8], counters: &[Count], energies: &[f64]) -> bool {
+fn range_same(case: &[u8], set: Histories<'_>) -> bool {
     let mut work = [0.0; 24];
-    let range = range::loudness_range(
-        entries_of(case),
-        number_at(case, 0),
-        counters,
-        energies,
-        &mut work,
-    );
+    let range = range::loudness_range(set, &mut work);
     ranged_same(case, range) && work_same(case, &work)
 }
 
 // Whether the places to work in have the case's patterns.
-fn work_same(case: &[u8], work: &[f64]) -> bool {
-    let mut place = 0;
-    while place < 24 {
-        if place < work.len() {
-            if base_floats::pattern_of(work[place])
-                != base_fields::number_at(case, 318 + 8 * place, 8)
-            {
-                return false;
-            }
+fn work_same(case: &[u8], work: &[f64; 24]) -> bool {
+    for (place, energy) in work.iter().enumerate() {
+        if base_floats::pattern_of(*energy) != base_fields::number_at(case, 318 + 8 * place, 8) {
+            return false;
         }
-        place += 1;
     }
     true
 }
@@ -166,17 +125,16 @@ fn ranged_same(case: &[u8], range: Span) -> bool {
         }
         Span::Nothing => code == 128,
         Span::NotANumber => code == 129,
-        Span::Refused(number) => code == number as u64,
+        Span::Refused(refused) => code == refused as u64,
     }
 }
 
-fn energy_same(case: &[u8], counters: &[Count], energies: &[f64]) -> bool {
+fn energy_same(case: &[u8], energy: Result<f64, Refusal>) -> bool {
     let refusal = base_fields::number_at(case, 510, 2);
     let pattern = base_fields::number_at(case, 512, 8);
-    let set = entries_of(case);
-    match gate::energy::gated_energy(set, number_at(case, 0), counters, energies) {
-        Energy::Of(mean) => refusal == 0 && pattern == base_floats::pattern_of(mean),
-        Energy::Refused(number) => refusal == number as u64,
+    match energy {
+        Ok(mean) => refusal == 0 && pattern == base_floats::pattern_of(mean),
+        Err(refused) => refusal == refused as u64,
     }
 }
 
@@ -184,9 +142,9 @@ fn threshold_same(case: &[u8], counters: &[Count], energies: &[f64]) -> bool {
     let code = base_fields::number_at(case, 520, 2);
     let pattern = base_fields::number_at(case, 522, 8);
     match gate::threshold::relative_threshold(entry_at(case, 2), counters, energies) {
-        Threshold::Energy(energy) => code == 0 && pattern == base_floats::pattern_of(energy),
-        Threshold::Loudness(loudness) => code == 130
+        Ok(Threshold::Energy(energy)) => code == 0 && pattern == base_floats::pattern_of(energy),
+        Ok(Threshold::Loudness(loudness)) => code == 130
             && pattern == base_floats::pattern_of(loudness),
-        Threshold::Refused(number) => code == number as u64,
+        Err(refused) => code == refused as u64,
     }
 }
