@@ -16,7 +16,7 @@ ghost use Rattle.true_peak_state.specs.TruePeak.{history_at, channel_of, with_ch
 ghost use Rattle.true_peak.specs.TruePeak.{processed};
 
 use base_refusals::Answer;
-use true_peak_interp::{Interp, Scan};
+use true_peak_interp::Interp;
 use true_peak_state::TruePeak;
 
 pub mod calls;
@@ -253,8 +253,8 @@ fn measure(rate: u32, t: TruePeak, channels: usize, samples: &[f32]) -> TruePeak
     ensures { result ≡ measured (kind_of rate) (record { channels = channels; samples = samples.now }) t }
 {
     match Interp::of_rate(rate) {
-        Scan::By(i) => all_channels(i, t, channels, samples),
-        Scan::Off => t,
+        Some(i) => all_channels(i, t, channels, samples),
+        None => t,
     }
 }
 

@@ -1,8 +1,6 @@
 -- The interpolator (01, step 5). "Rate below 96,000: factor 4, 12 taps; below 192,000: factor 2, 24 taps; else no true peak."
-use Rattle.std.specs.Prelude.{◌≡◌, ◌⊎◌, cond, ℕ, ltb}
+use Rattle.std.specs.Prelude.{◌≡◌, ◌⊎◌, cond, ℕ, ltb, Option, Some, None}
 use Rattle.true_peak_interp.specs.declared.Interp.{Interp}
-use Rattle.true_peak_interp.specs.declared.Scan.{Scan}
-use Rattle.true_peak_interp.specs.declared.Scan.TheVariants.{By, Off}
 
 abbrev pub fourfold : Interp
 fourfold = record { factor = 4; taps = 12 }
@@ -29,7 +27,7 @@ kind_of rate = cond (ltb rate fourfold_below) (upsampled fourfold) (cond (ltb ra
 abbrev pub Known : Interp → Type 0
 Known i = (i ≡ fourfold) ⊎ (i ≡ twofold)
 
--- what each case of `Scan` says
-abbrev pub said : Scan → Kind
-said (By i) = upsampled i
-said Off = no_true_peak
+-- what an answer says: an interpolator, or none
+abbrev pub said : Option Interp → Kind
+said (Some i) = upsampled i
+said None = no_true_peak

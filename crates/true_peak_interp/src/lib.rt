@@ -3,21 +3,15 @@
 
 ghost use Rattle.std.specs.Prelude.{◌≡◌, ◌*◌, ◌<◌, ◌≤◌, length};
 ghost use Rattle.true_peak_interp.specs.Interp.{fourfold, twofold, kind_of, said};
-ghost use Rattle.true_peak_interp.specs.Phase.{coefficients, phase, phases};
+ghost use Rattle.true_peak_interp.specs.Phase.{coefficients, phase, phases, phases_by};
 
 mod taps;
 
+// Document 01 names this form: a type of its own, with associated constants and constructors that take no self.
 #[derive(Clone, Copy)]
 pub struct Interp {
     pub factor: usize,
     pub taps: usize,
-}
-
-// What a rate has: an interpolator, or no true peak.
-#[derive(Clone, Copy)]
-pub enum Scan {
-    By(Interp),
-    Off,
 }
 
 impl Interp {
@@ -54,16 +48,17 @@ impl Interp {
         }
     }
 
-    pub fn of_rate(rate: u32) -> Scan
+    // The interpolator of a rate, or none where there is no true peak.
+    pub fn of_rate(rate: u32) -> Option<Interp>
         ensures { said result ≡ kind_of rate }
     {
         if rate < Interp::FOURFOLD_BELOW {
-            return Scan::By(Interp::fourfold());
+            return Some(Interp::fourfold());
         }
         if rate < Interp::TWOFOLD_BELOW {
-            return Scan::By(Interp::twofold());
+            return Some(Interp::twofold());
         }
-        Scan::Off
+        None
     }
 
     // All coefficients. NaN where there are none.
@@ -83,39 +78,40 @@ impl Interp {
     pub fn fourfold_phases(samples: &[f32; Interp::FOURFOLD_TAPS]) -> [f32; Interp::FOURFOLD]
         ensures { result ≡ phases fourfold samples.now }
     {
-        let taps = taps::FOURFOLD;
-        [
-            phase(&taps, Interp::FOURFOLD, samples, 0),
-            phase(&taps, Interp::FOURFOLD, samples, 1),
-            phase(&taps, Interp::FOURFOLD, samples, 2),
-            phase(&taps, Interp::FOURFOLD, samples, 3),
-        ]
+        phases(&taps::FOURFOLD, samples)
     }
 
     // The two phases by factor 2, from its own sample and the 23 before it.
     pub fn twofold_phases(samples: &[f32; Interp::TWOFOLD_TAPS]) -> [f32; Interp::TWOFOLD]
         ensures { result ≡ phases twofold samples.now }
     {
-        let taps = taps::TWOFOLD;
-        [
-            phase(&taps, Interp::TWOFOLD, samples, 0),
-            phase(&taps, Interp::TWOFOLD, samples, 1),
-        ]
+        phases(&taps::TWOFOLD, samples)
     }
 }
 
-// Phase f of these samples, newest first, by a table of taps. Product and sum are rounded each by itself.
+// The phases at a frame by a table of taps, from as many samples as the factor has taps, newest first.
+fn phases<const FACTOR: usize, const TAPS: usize>(
+    taps: &[f32; Interp::COEFFICIENTS],
+    samples: &[f32; TAPS],
+) -> [f32; FACTOR]
+    requires { TAPS * FACTOR ≤ 48 }
+    ensures { result ≡ phases_by taps.now (record { factor = FACTOR; taps = TAPS }) samples.now }
+{
+    let mut all = [0.0; FACTOR];
+    for (f, p) in all.iter_mut().enumerate() {
+        *p = phase(taps, FACTOR, samples, f);
+    }
+    all
+}
+
+// Phase f of these samples, newest first, by a table of taps. Product and sum are rounded each by itself, in the order that document 01 has.
 fn phase(taps: &[f32; Interp::COEFFICIENTS], factor: usize, samples: &[f32], f: usize) -> f32
     requires { (f < factor) × (length samples.now * factor ≤ 48) }
     ensures { result ≡ phase taps.now factor samples.now f }
 {
     let mut sum = 0.0;
-    let mut at = f;
-    let mut i = 0;
-    while i < samples.len() {
-        sum = sum + samples[i] * taps[at];
-        at += factor;
-        i += 1;
+    for (i, x) in samples.iter().enumerate() {
+        sum = sum + *x * taps[i * factor + f];
     }
     sum
 }

@@ -6,13 +6,13 @@ use Rattle.true_peak_interp.proofs.Rates.{rate_known}
 use Rattle.true_peak.proofs.measure.Goals as goal
 
 pub all_channels-requires-clause-known : goal.all_channels-requires-clause-known
-all_channels-requires-clause-known c = rate_known c.args.rate c.in-By.i c.in-By.ensures
+all_channels-requires-clause-known c = rate_known c.args.rate c.in-Some.i c.in-Some.ensures
 
-pub returns-in-By : goal.returns-in-By
-returns-in-By c =
+pub returns-in-Some : goal.returns-in-Some
+returns-in-Some c =
     let a = c.args in
-    c.all_channels.ensures ∙ ap (λ (k : Kind). measured k (record { channels = a.channels; samples = a.samples.now }) a.t) c.in-By.ensures
+    c.all_channels.ensures ∙ ap (λ (k : Kind). measured k (record { channels = a.channels; samples = a.samples.now }) a.t) c.in-Some.ensures
 
-pub returns-in-Off : goal.returns-in-Off
+pub returns-in-None : goal.returns-in-None
 unfolding measured
-returns-in-Off c = let a = c.args in ap (λ (k : Kind). measured k (record { channels = a.channels; samples = a.samples.now }) a.t) c.in-Off.ensures
+returns-in-None c = let a = c.args in ap (λ (k : Kind). measured k (record { channels = a.channels; samples = a.samples.now }) a.t) c.in-None.ensures

@@ -1,16 +1,8 @@
--- `true_peak_interp::Interp::twofold_phases` meets its contract: the phases look at twenty-four samples, which are all, and the constant is the table. Assumes nothing.
-use mathlib.Core.Path.{◌≡◌}
-use native.Mathlib.Omega.{arith}
-use lib.ListN.{take}
-use lib.Seq.{take_all}
+-- `true_peak_interp::Interp::twofold_phases` meets its contract: the constant is the table. Assumes nothing.
 use lib.Ieee.{of_bits}
 use Rattle.true_peak_interp.specs.Taps.{twofold}
-use Rattle.true_peak_interp.specs.Phase.{phases_by}
 use Rattle.true_peak_interp.proofs.Interp.twofold_phases.Goals as goal
 
 pub returns : goal.returns
-unfolding phases_by twofold of_bits
-returns c =
-    let samples = c.args.samples.now in
-    let whole : take 24 samples ≡ samples = take_all 24 samples (omega arith) in
-    cc
+unfolding twofold of_bits
+returns c = c.phases.ensures
