@@ -1,12 +1,11 @@
 -- What `add_to` and `cleared` come to, case by case. Each picks its case by tests on numbers, and each law settles those tests.
 -- Assumes nothing.
-use mathlib.Core.Path.{◌≡◌, ap, ◌∙◌}
+use mathlib.Core.Path.{◌≡◌, ap}
 use mathlib.Core.Bool.{true, false}
-use mathlib.Core.List.{List, ◌++◌, append-nil}
+use mathlib.Core.List.{List}
 use Prim.Native.Nat.{ℕ, ◌+◌, ◌≤◌, ◌<◌}
 use borrow.Author.Tests.{eq-eqb, ne_eqb, le-leb, lt-leb}
-use lib.ListN.{length, get_or, drop, replicate}
-use lib.Seq.{drop-length}
+use lib.ListN.{length, get_or, replicate}
 use lib.Ieee.{Float}
 use Rattle.base_refusals.specs.declared.Refusal.TheVariants.{STORE, FULL}
 use Rattle.base_refusals.specs.Outcome.{went, refused, done}
@@ -43,10 +42,6 @@ module _ (counters : List ℕ) where
   clear_went h = rw (eq-eqb (length counters) bins h)
 
 -- counters that are all 0 are those of an empty histogram
-pub all_zero : (counters : List ℕ) (n : ℕ) → length counters ≡ bins → n ≡ length counters → replicate n 0 ++ drop n counters ≡ empty
+pub all_zero : (counters : List ℕ) → length counters ≡ bins → replicate (length counters) 0 ≡ empty
 unfolding empty
-all_zero counters n h e =
-    ap (λ (k : ℕ). replicate k 0 ++ drop k counters) e
-    ∙ ap {B = List ℕ} (λ (l : List ℕ). replicate (length counters) 0 ++ l) (drop-length counters)
-    ∙ append-nil (replicate (length counters) 0)
-    ∙ ap (λ (k : ℕ). replicate k 0) h
+all_zero counters h = ap (λ (k : ℕ). replicate k 0) h

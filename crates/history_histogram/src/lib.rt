@@ -1,13 +1,12 @@
 // The histogram: 1,000 counters in a lent slice, one for each bin.
 #![tactic(auto)]
 
-ghost use Rattle.std.specs.Prelude.{◌≡◌, length};
+ghost use Rattle.std.specs.Prelude.{◌≡◌};
 ghost use Rattle.base_refusals.specs.Outcome.{said_by, kept_by};
 ghost use Rattle.base_refusals.specs.Answer.{said};
-ghost use Rattle.bins.specs.Bin.{bins};
-ghost use Rattle.history_histogram.specs.Histogram.{empty, add_to, cleared};
+ghost use Rattle.history_histogram.specs.Histogram.{add_to, cleared};
 
-use base_refusals::Answer;
+use base_refusals::{Answer, Refusal};
 use bins::Count;
 
 pub mod merging;
@@ -21,29 +20,18 @@ pub fn add(counters: &mut [Count], energy: f64) -> Answer
         × (counters.new ≡ kept_by counters.old (add_to counters.old energy)) }
 {
     if counters.len() != bins::BINS {
-        return Answer::Refused(base_refusals::STORE);
+        return Err(Refusal::STORE);
     }
     if energy < bins::lowest_boundary() {
-        return Answer::Done;
+        return Ok(());
     }
     let bin = bins::search::find_histogram_index(energy);
     let count = counters[bin];
     if count == LARGEST_COUNT {
-        return Answer::Refused(base_refusals::FULL);
+        return Err(Refusal::FULL);
     }
     counters[bin] = count + 1;
-    Answer::Done
-}
-
-fn clear(counters: &mut [Count])
-    requires { length counters.old ≡ bins }
-    ensures { counters.new ≡ empty }
-{
-    let mut bin = 0;
-    while bin < counters.len() {
-        counters[bin] = 0;
-        bin += 1;
-    }
+    Ok(())
 }
 
 // Every counter becomes 0.
@@ -52,8 +40,8 @@ pub fn reset(counters: &mut [Count]) -> Answer
         × (counters.new ≡ kept_by counters.old (cleared counters.old)) }
 {
     if counters.len() != bins::BINS {
-        return Answer::Refused(base_refusals::STORE);
+        return Err(Refusal::STORE);
     }
-    clear(counters);
-    Answer::Done
+    counters.fill(0);
+    Ok(())
 }

@@ -5,7 +5,7 @@ ghost use Rattle.base_refusals.specs.Answer.{said};
 ghost use Rattle.history_histogram.specs.Histogram.{sums};
 ghost use Rattle.history_histogram.specs.Merge.{room, merge_into};
 
-use base_refusals::Answer;
+use base_refusals::{Answer, Refusal};
 use bins::Count;
 
 // Whether no two counters add up to more than the largest count, by a look at every bin.
@@ -14,10 +14,8 @@ fn has_room(into: &[Count], from: &[Count]) -> bool
     ensures { result ≡ room into.now from.now }
 {
     let mut fits = true;
-    let mut bin = 0;
-    while bin < into.len() {
-        fits = fits & (from[bin] <= crate::LARGEST_COUNT - into[bin]);
-        bin += 1;
+    for (bin, count) in into.iter().enumerate() {
+        fits &= from[bin] <= crate::LARGEST_COUNT - *count;
     }
     fits
 }
@@ -26,10 +24,8 @@ fn add_all(into: &mut [Count], from: &[Count])
     requires { (length into.old ≡ length from.now) × (room into.old from.now ≡ true) }
     ensures { into.new ≡ sums into.old from.now }
 {
-    let mut bin = 0;
-    while bin < into.len() {
-        into[bin] = into[bin] + from[bin];
-        bin += 1;
+    for (bin, sum) in into.iter_mut().enumerate() {
+        *sum += from[bin];
     }
 }
 
@@ -39,15 +35,15 @@ pub fn merge(into: &mut [Count], from: &[Count]) -> Answer
         × (into.new ≡ kept_by into.old (merge_into into.old from.now)) }
 {
     if into.len() != bins::BINS {
-        return Answer::Refused(base_refusals::STORE);
+        return Err(Refusal::STORE);
     }
     if from.len() != bins::BINS {
-        return Answer::Refused(base_refusals::STORE);
+        return Err(Refusal::STORE);
     }
     if has_room(into, from) {
         add_all(into, from);
-        Answer::Done
+        Ok(())
     } else {
-        Answer::Refused(base_refusals::FULL)
+        Err(Refusal::FULL)
     }
 }
