@@ -11,11 +11,11 @@ pub const INFINITY_PATTERN: u64 = 0x7FF0_0000_0000_0000;
 // The one pattern that NaN is given, as document 01 writes it.
 pub const NAN_PATTERN: u64 = 0x7FF8_0000_0000_0000;
 
-// Whether x is a NaN: a NaN, and nothing else, differs from itself.
+// Whether x is a NaN.
 pub fn is_nan(x: f64) -> bool
     ensures { result ≡ is_nan x }
 {
-    x != x
+    x.is_nan()
 }
 
 // The float that a pattern stands for. Every NaN pattern stands for NaN: but for the sign they are those past infinity's.
@@ -25,15 +25,15 @@ pub fn float_of(pattern: u64) -> f64
     if pattern % 0x8000_0000_0000_0000 <= INFINITY_PATTERN {
         return f64::from_bits(pattern);
     }
-    0.0 / 0.0
+    f64::NAN
 }
 
 // The pattern of a float.
 pub fn pattern_of(x: f64) -> u64
     ensures { result ≡ to_bits binary64 x }
 {
-    if x != x {
+    if x.is_nan() {
         return NAN_PATTERN;
     }
-    f64::to_bits(x)
+    x.to_bits()
 }
