@@ -8,15 +8,5 @@ ghost use Rattle.order_rules.specs.Order.{all_above};
 pub fn all_above(energies: &[f64]) -> bool
     ensures { result ≡ all_above energies.now }
 {
-    let n = energies.len();
-    let mut i = 0;
-    while i < n {
-        let x = energies[i];
-        if 0.0 < x {
-            i += 1;
-        } else {
-            return false;
-        }
-    }
-    true
+    energies.iter().all(|x| 0.0 < *x)
 }
