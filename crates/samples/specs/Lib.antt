@@ -1,5 +1,6 @@
 pub mod Sample
 pub mod Kinds
+pub mod Laws
 pub mod Frames
 pub mod Source
 pub mod Stretches

@@ -21,13 +21,13 @@ pub fn fill(stretch: &mut [f64], ints: &[i16], floats: &[f32], at: usize)
         if floats.len() <= at {
             return;
         }
-        crate::fills::fill_f64_f32(stretch, &floats[at..]);
+        crate::fills::fill(stretch, &floats[at..]);
         return;
     }
     if ints.len() <= at {
         return;
     }
-    crate::fills::fill_f64_i16(stretch, &ints[at..]);
+    crate::fills::fill(stretch, &ints[at..]);
 }
 
 // The places of a run of samples on their way to a seed call's weighting. At eight channels they are 16 frames.

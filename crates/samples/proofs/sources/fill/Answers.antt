@@ -12,7 +12,7 @@ returns-then-floats-at c =
 pub returns-then-ints-eq0 : goal.returns-then-ints-eq0
 returns-then-ints-eq0 c =
     let a = c.args in
-    c.fill_f64_f32.ensures
+    c.fill.ensures
     ∙ rest_from sample_of_f32 a.floats.now (source_floats a.ints.now a.floats.now c.if-ints-eq0.true) a.stretch.now a.at
 
 pub returns-then-ints-at : goal.returns-then-ints-at
@@ -23,5 +23,5 @@ returns-then-ints-at c =
 pub returns : goal.returns
 returns c =
     let a = c.args in
-    c.fill_f64_i16.ensures
+    c.fill-2.ensures
     ∙ rest_from sample_of16 a.ints.now (source_ints a.ints.now a.floats.now c.if-ints-eq0.false) a.stretch.now a.at
