@@ -37,7 +37,7 @@ pub fn boundary(i: usize) -> f64
         let boundaries = bins_tables::all_boundaries();
         boundaries[i]
     } else {
-        0.0 / 0.0
+        f64::NAN
     }
 }
 
@@ -49,7 +49,7 @@ pub fn energy(i: usize) -> f64
         let energies = bins_tables::all_energies();
         energies[i]
     } else {
-        0.0 / 0.0
+        f64::NAN
     }
 }
 

@@ -9,6 +9,7 @@ use base_refusals::Refusal;
 
 // The bin of an energy, as a hand finds it in the printed table (BOUNDARIES in bins_tables): go down the boundaries from place 1 on and stop at the first one above the energy;
 // the bin is the place before. At place 1000 the table ends: an energy that comes so far is in bin 999. NaN is neither above nor below a boundary, and goes to bin 0.
+// Document 01 names this form: a loop that hands the place out by `break`.
 pub fn find_histogram_index(energy: f64) -> usize
     ensures { result ≡ bin_of energy }
 {
@@ -45,7 +46,7 @@ fn nearest_tenth(energy: f64) -> usize
 pub fn reading(energy: f64) -> Result<i32, Refusal>
     ensures { said result ≡ said_by (reading_of energy) }
 {
-    if energy != energy {
+    if energy.is_nan() {
         return Err(Refusal::SCALE);
     }
     if energy < crate::lowest_boundary() {

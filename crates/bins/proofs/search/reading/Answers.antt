@@ -8,13 +8,12 @@ use lib.IntN.{negsuc, pos, ◌+ℤ◌}
 use mir.Syntax.{w32}
 use mir.Val.{to_z}
 use mir.ValLaws.{to_z-of_z, to_z_pos}
-use Rattle.base_floats.proofs.Nan.{differs}
 use Rattle.bins.proofs.Readings.{off_scale_lem, on_scale, nan_off, low_off, high_off, none_off, tenth_most, tenths_fit}
 use Rattle.bins.proofs.search.reading.Goals as goal
 use Rattle.bins.proofs.search.reading.Goals.{After-nearest_tenth-tenth}
 
-pub returns-then-energy : goal.returns-then-energy
-returns-then-energy c = let e = c.args.energy in rw (off_scale_lem e (nan_off e (sym (differs e) ∙ c.if-energy.true)))
+pub returns-then-is_nan : goal.returns-then-is_nan
+returns-then-is_nan c = let e = c.args.energy in rw (off_scale_lem e (nan_off e (sym c.is_nan.ensures.value ∙ c.if-is_nan.true)))
 
 pub returns-then-energy-lowest_boundary : goal.returns-then-energy-lowest_boundary
 returns-then-energy-lowest_boundary c =
@@ -43,7 +42,7 @@ returns c =
     let e = c.args.energy in
     let tenth = c.nearest_tenth-tenth.result in
     rw (
-      on_scale e (none_off e (sym (differs e) ∙ c.if-energy.false)
+      on_scale e (none_off e (sym c.is_nan.ensures.value ∙ c.if-is_nan.false)
           (ap (lt e) (sym c.lowest_boundary.ensures) ∙ c.if-energy-lowest_boundary.false)
           (ap (λ (b : Float). le b e) (sym c.highest_boundary.ensures) ∙ c.if-energy-highest_boundary.false)),
       signed (goal.at.returns c).After-nearest_tenth-tenth,
