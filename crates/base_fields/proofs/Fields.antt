@@ -2,10 +2,10 @@
 use mathlib.Core.Path.{◌≡◌, refl, ap, ◌∙◌}
 use mathlib.Core.Bool.{Bool, true, false, cond}
 use mathlib.Core.List.{List}
-use Prim.Native.Nat.{ℕ, zero, suc, ◌+◌, ◌*◌, ◌^◌, ◌<◌, ◌≤◌}
+use Prim.Native.Nat.{ℕ, zero, suc, min, ◌+◌, ◌-◌, ◌*◌, ◌^◌, ◌<◌, ◌≤◌}
 use native.Mathlib.Nat.{lt_of_lt_of_le, mul_assoc}
 use native.Mathlib.Omega.{arith}
-use borrow.Author.Tests.{ltb-true}
+use borrow.Author.Tests.{ltb-true, ltb-false}
 use lib.Dec.{ltb}
 use lib.Pow.{pow_mono, pow-add}
 use lib.ListN.{length, get_or, get_or-eq_default}
@@ -41,15 +41,6 @@ none : (bytes : List ℕ) (at : ℕ) → field_at bytes at 0 ≡ 0
 unfolding field_at
 none bytes at = refl
 
-pub four_bytes : (bytes : List ℕ) (at : ℕ)
-    → get_or bytes at 0 + 256 * get_or bytes (at + 1) 0 + 65536 * get_or bytes (at + 2) 0 + 16777216 * get_or bytes (at + 3) 0 ≡ field_at bytes at 4
-four_bytes bytes at =
-    let a = first_byte bytes at (at + 1) 3 4 (omega arith) (omega arith) in
-    let b = first_byte bytes (at + 1) (at + 2) 2 3 (omega arith) (omega arith) in
-    let d = first_byte bytes (at + 2) (at + 3) 1 2 (omega arith) (omega arith) in
-    let e = first_byte bytes (at + 3) (at + 4) 0 1 (omega arith) (omega arith) in
-    omega (arith, a, b, d, e, none bytes (at + 4))
-
 pub past_end : (bytes : List ℕ) (at width : ℕ) → length bytes ≤ at → field_at bytes at width ≡ 0
 unfolding field_at
 past_end bytes at zero h = refl
@@ -65,12 +56,21 @@ small bytes h at zero = omega arith
 small bytes h at (suc width) =
     omega (arith, h at, small bytes h (suc at) width, times_256 width)
 
-pub narrowed_small : (width : ℕ) → narrowed width ≤ 8
-narrowed_small width = go (ltb width 8) refl
+pub narrowed_is : (width : ℕ) → narrowed width ≡ min width 8
+narrowed_is width = go (ltb width 8) refl
   where
-    go : (b : Bool) → ltb width 8 ≡ b → cond b width 8 ≤ 8
+    go : (b : Bool) → ltb width 8 ≡ b → cond b width 8 ≡ min width 8
     go true h = omega (arith, ltb-true width 8 h)
-    go false h = omega arith
+    go false h = omega (arith, ltb-false width 8 h)
+
+-- a field that goes on past the end of the bytes
+pub ends_early : (bytes : List ℕ) (at n width : ℕ) → n ≤ width → ((n ≡ width → ⊥) → length bytes ≤ at + n) → field_at bytes at n ≡ field_at bytes at width
+ends_early bytes at n width h past =
+    rw (two_fields bytes at (at + n) n (width - n) width refl (omega arith), nothing (width - n) refl) (omega arith)
+  where
+    nothing : (left : ℕ) → left ≡ width - n → field_at bytes (at + n) left ≡ 0
+    nothing zero e = none bytes (at + n)
+    nothing (suc left) e = past_end bytes (at + n) (suc left) (past (omega arith))
 
 -- a field of at most seven bytes leaves room for one more
 pub seven_bytes : (bytes : List ℕ) → ((i : ℕ) → get_or bytes i 0 < 256) → (at width : ℕ) → width ≤ 7 → field_at bytes at width < 2 ^ 56

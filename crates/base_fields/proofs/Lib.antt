@@ -3,3 +3,4 @@ pub mod Written
 pub mod Turned
 pub mod Orders
 pub mod High
+pub mod Chunks

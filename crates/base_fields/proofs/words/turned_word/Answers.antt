@@ -1,7 +1,6 @@
 -- `words::turned_word` meets its contract. Assumes nothing.
-use native.Mathlib.Omega.{arith}
-use Rattle.base_fields.proofs.Turned.{turned_four}
+use Rattle.base_fields.proofs.Chunks.{turned_four}
 use Rattle.base_fields.proofs.words.turned_word.Goals as goal
 
 pub returns : goal.returns
-returns c = omega (arith, turned_four c.args.word (omega arith))
+returns c = let t = turned_four c.args.word in cc
