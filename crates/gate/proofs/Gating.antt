@@ -2,14 +2,14 @@
 -- What the gate question comes to. Assumes nothing.
 use Rattle.std.proofs.Common.{◌≡◌, ℕ, suc, ◌+◌, Bool, true, false, cond, List, [], ◌∷◌, drop, pos, sym, refl, ap, ◌∙◌, arith}
 use lib.Ieee.{Float, binary64, mul, of_int}
-use Rattle.base_refusals.specs.Outcome.{answers, refusal, said_by}
-use Rattle.base_refusals.specs.Rows.{number_of}
-use Rattle.base_refusals.proofs.Behind.{stopped_first, goes_on}
+use Rattle.base_refusals.specs.Outcome.{says, refusal, answers, said_by}
 use Rattle.bins_tables.specs.Tables.{energy_at}
-use Rattle.history_set.specs.Set.{History, counted, listed, Histories, histories_of, set_rows}
+use Rattle.history_set.specs.Set.{History, counted, listed, Histories, histories_of}
 use Rattle.gate.specs.declared.blocks.Totals.{Totals}
 use Rattle.gate.specs.Totals.{none, on_top_of, with_blocks, bins_from}
 use Rattle.gate.specs.Start.{start_bin, counts}
+use Rattle.gate.specs.Inner.{sums_of}
+use Rattle.gate.proofs.Asked.{sums_told, refused_behind, asked_behind}
 use Rattle.gate.proofs.Looking.{same}
 use Rattle.gate.specs.Kept.{kept_from}
 use Rattle.gate.specs.Sums.{all_of}
@@ -58,15 +58,13 @@ gated_on threshold totals history gated e =
 
 -- ---- the gate question, behind what refuses a set
 module _ (h : Histories) where
-  pub gate_refused : (n : ℕ) → n ≡ number_of (set_rows h) → (n ≡ 0 → ⊥) → refusal n ≡ said_by (gate_of h)
+  pub gate_refused : (n : ℕ) → refusal n ≡ said_by (sums_of h) → refusal n ≡ said_by (gate_of h)
   unfolding gate_of
-  gate_refused n e p =
-      let left = left_of (histories_of h) in
-      (stopped_first (answers left) (set_rows h) (gating_rows (all_of (histories_of h)) left) tt n e p).says
+  gate_refused = refused_behind h (answers (left_of (histories_of h))) (gating_rows (all_of (histories_of h)) (left_of (histories_of h))) (gate_of h) refl
 
-  pub gate_asked : number_of (set_rows h) ≡ 0 → (all left : Totals) (threshold : Float) → all ≡ all_of (histories_of h) → threshold ≡ threshold_of all
+  pub gate_asked : (all left : Totals) (threshold : Float) → says all ≡ said_by (sums_of h) → threshold ≡ threshold_of all
       → left ≡ all_gated threshold none (histories_of h) → said_by (gate_over all left) ≡ said_by (gate_of h)
   unfolding gate_of
-  gate_asked e all left threshold p q r =
-      let asked = goes_on (answers (left_of (histories_of h))) (set_rows h) (gating_rows (all_of (histories_of h)) (left_of (histories_of h))) e in
-      rw (r, q, p) (sym (ap said_by asked))
+  gate_asked all left threshold p q r =
+      let told = sums_told h all p in
+      rw (r, q, told.1) (asked_behind h (answers (left_of (histories_of h))) (gating_rows (all_of (histories_of h)) (left_of (histories_of h))) (gate_of h) refl told.0)

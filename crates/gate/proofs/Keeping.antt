@@ -7,8 +7,7 @@ use Rattle.bins_tables.specs.Tables.{boundary_at}
 use Rattle.bins_tables.proofs.Rules.{boundary_positive}
 use Rattle.bins.specs.Energy.{dropped}
 use Rattle.history_queue.specs.declared.Queue.{Queue}
-use Rattle.history_queue.specs.declared.Parts.{Parts}
-use Rattle.history_queue.specs.Queue.{suits, held_of, parts_of, slice, in_parts}
+use Rattle.history_queue.specs.Queue.{suits, held_of, parts_of, in_parts}
 use Rattle.history_queue.proofs.Ring.{suited}
 use Rattle.history_queue.proofs.Held.{held_count}
 use Rattle.history_set.specs.Set.{queue_at, none_below}
@@ -16,17 +15,15 @@ use Rattle.history_set.proofs.Entries.{both}
 use Rattle.history_set.proofs.Slices.{held_slices}
 use Rattle.gate.specs.declared.blocks.Totals.{Totals}
 use Rattle.gate.specs.Totals.{most_blocks, on_top_of, none, with_blocks}
-use Rattle.gate.specs.Inner.{unsigned, Steady, energy_kept, blocks_kept, carried, counted_from, summed_from, added_from}
+use Rattle.gate.specs.Inner.{unsigned, Steady, energy_kept, blocks_kept, counted_from, summed_from, added_from}
 use Rattle.gate.specs.Start.{counts}
 use Rattle.gate.proofs.Nothing.{nothing_added, steady_added, not_below_unsigned}
-use Rattle.gate.proofs.Running.{carried_append}
 use Rattle.gate.proofs.Looking.{same}
 use Rattle.gate.specs.Kept.{kept_from}
 
 -- what is counted and what is summed, both at once
 pub together : (threshold : Float) (count : ℕ) (sum : Float) (l : List Float)
     → added_from threshold (record { count = count; sum = sum }) l ≡ record { count = counted_from threshold count l; sum = summed_from threshold sum l }
-unfolding carried
 together threshold count sum [] = refl
 together threshold count sum (energy ∷ rest) = together threshold (count + blocks_kept threshold energy) (add binary64 sum (energy_kept threshold energy)) rest
 
@@ -52,7 +49,7 @@ module _ (energy : Float) (rest : List Float) (sound : none_below (energy ∷ re
 
 added_kept : (threshold : Float) (totals : Totals) (l : List Float) → Steady totals.sum → none_below l ≡ true
     → added_from threshold totals l ≡ kept_from threshold totals l
-unfolding carried kept_from
+unfolding kept_from
 added_kept threshold totals [] s sound = refl
 added_kept threshold totals (energy ∷ rest) s sound =
     go (counts threshold energy)
@@ -95,19 +92,6 @@ kept_few threshold totals (energy ∷ rest) = go (counts threshold energy) (kept
 module _ (threshold sum : Float) (energies : List Float) (start : ℕ) (queue : Queue) where
   abbrev held : List Float
   held = held_of (queue_at energies start queue)
-
-  -- the two parts, one after the other
-  pub queue_parts : (parts : Parts) → parts ≡ parts_of queue start (length energies) → (older newer : Totals)
-      → older ≡ added_from threshold (on_top_of sum) (slice parts.from parts.until energies)
-      → newer ≡ added_from threshold older (slice parts.start parts.end energies)
-      → newer ≡ added_from threshold (on_top_of sum) (in_parts (parts_of queue start (length energies)) energies)
-  queue_parts parts e older newer p q =
-      let one = slice parts.from parts.until energies in
-      let two = slice parts.start parts.end energies in
-      q
-      ∙ ap (λ (t : Totals). added_from threshold t two) p
-      ∙ sym (carried_append (λ (t : Totals) (energy : Float). with_blocks t (blocks_kept threshold energy) (energy_kept threshold energy)) (on_top_of sum) one two)
-      ∙ ap (λ (at : Parts). added_from threshold (on_top_of sum) (in_parts at energies)) e
 
   -- what the queue of a sound store keeps
   pub queue_keeps : start + queue.maximum ≤ length energies → suits queue queue.maximum ≡ true → none_below held ≡ true → Steady sum

@@ -4,6 +4,7 @@ pub mod Stretches
 pub mod Start
 pub mod Looking
 pub mod Keeping
+pub mod Asked
 pub mod Gating
 pub mod Alone
 mod Means

@@ -1,13 +1,16 @@
 -- The mean of what the gate said is gated energy. Assumes nothing.
-use Rattle.std.proofs.Common.{◌≡◌, refl, ap, ◌∙◌}
-use Rattle.base_refusals.specs.Outcome.{answers, Said, said_by}
+use Rattle.std.proofs.Common.{◌≡◌, Float, refl, ap, ◌∙◌}
+use Rattle.base_refusals.specs.Outcome.{Said, says, refusal, answers, said_by}
 use Rattle.base_refusals.proofs.Behind.{through}
 use Rattle.history_set.specs.Set.{Histories, histories_of}
 use Rattle.gate.specs.declared.blocks.Totals.{Totals}
 use Rattle.gate.specs.Totals.{mean_of}
 use Rattle.gate.specs.Gate.{left_of, gate_rows, gate_of}
 use Rattle.gate.specs.GatedEnergy.{gated_energy_of}
-use Rattle.gate.specs.EnergyInner.{mean_said}
+
+abbrev pub mean_said : Said Totals → Said Float
+mean_said (says totals) = says (mean_of totals)
+mean_said (refusal n) = refusal n
 
 pub mean_said_lem : (h : Histories) (told : Said Totals) → told ≡ said_by (gate_of h) → mean_said told ≡ said_by (gated_energy_of h)
 unfolding gate_of gated_energy_of

@@ -1,14 +1,13 @@
 -- Running totals over counters and over energies, a turn at a time: the first of what is left is added, and the rest goes on from there.
 -- The definitions go by recursion on the list, so each law is one step of it. Assumes nothing.
-use Rattle.std.proofs.Common.{◌≡◌, ℕ, suc, ◌+◌, ◌<◌, ◌≤◌, List, [], ◌∷◌, ◌++◌, length, get_or, drop, pos, sym, refl, ap, ◌∙◌, add-one, arith, drop_of_length-le, drop-cons, le-ltb, lt-ltb}
+use Rattle.std.proofs.Common.{◌≡◌, ℕ, suc, ◌+◌, ◌<◌, ◌≤◌, List, [], ◌∷◌, length, get_or, drop, pos, ap, ◌∙◌, add-one, arith, drop_of_length-le, drop-cons, le-ltb, lt-ltb}
 use lib.Ieee.{Float, binary64, add, mul, of_int}
 use Rattle.bins_tables.specs.Tables.{energy_at}
 use Rattle.bins.specs.Bin.{bins}
 use Rattle.history_set.specs.Set.{counters_at}
-use Rattle.history_set.proofs.Slices.{slice, slice_next, slice_end}
 use Rattle.gate.specs.declared.blocks.Totals.{Totals}
 use Rattle.gate.specs.Totals.{on_top_of, with_blocks, bins_from, blocks_in, energies_from, from_bin}
-use Rattle.gate.specs.Inner.{sum_from, blocks_above, sum_above, carried}
+use Rattle.gate.specs.Inner.{sum_from, blocks_above, sum_above}
 
 module _ (counters : List ℕ) (totals : Totals) (bin : ℕ) where
   pub bins_turn : bin < length counters
@@ -51,7 +50,7 @@ module _ (counters : List ℕ) where
       ∙ ap (λ (k : ℕ). sum_above (plus sum bin (energy_at bin)) k counters) n
       ∙ at_next sum bin h
 
--- ---- energies
+-- ---- energies, each a block
 module _ (energies : List Float) (totals : Totals) (i : ℕ) where
   pub energies_turn : (d : Float) → i < length energies
       → energies_from (with_blocks totals 1 (get_or energies i d)) (drop (i + 1) energies) ≡ energies_from totals (drop i energies)
@@ -61,24 +60,6 @@ module _ (energies : List Float) (totals : Totals) (i : ℕ) where
   pub energies_end : length energies ≤ i → energies_from totals (drop i energies) ≡ totals
   unfolding energies_from
   energies_end h = rw (drop_of_length-le energies h)
-
--- what they carry on: a turn takes the first of those left, and one list may stand after another
-module _ {A : Type 0} (step : A → Float → A) where
-  module _ (a : A) (energies : List Float) (i until : ℕ) where
-    pub carried_turn : (d : Float) → i < until → until ≤ length energies → (next : A) → next ≡ step a (get_or energies i d)
-        → carried step next (slice (i + 1) until energies) ≡ carried step a (slice i until energies)
-    unfolding carried
-    carried_turn d h g next e =
-        ap (λ (b : A). carried step b (slice (i + 1) until energies)) e ∙ sym (ap (carried step a) (slice_next energies i until d h g))
-
-    pub carried_end : until ≤ i → carried step a (slice i until energies) ≡ a
-    unfolding carried
-    carried_end h = ap (carried step a) (slice_end energies i until h)
-
-  pub carried_append : (a : A) (l k : List Float) → carried step a (l ++ k) ≡ carried step (carried step a l) k
-  unfolding carried
-  carried_append a [] k = refl
-  carried_append a (energy ∷ l) k = carried_append (step a energy) l k
 
 -- ---- a histogram among the counters: it is not there, or it is
 module _ (sum : Float) (counters : List ℕ) (start bin : ℕ) where

@@ -5,7 +5,7 @@
 -- sum passes over all histories in order."
 use Rattle.std.specs.Prelude.{not, ◌&&◌, ◌||◌, List, [], ◌∷◌, ◌++◌, drop, ◌==◌, is_nan, Float}
 use Rattle.base_refusals.specs.declared.Refusal.TheVariants.{NONE, NAN}
-use Rattle.base_refusals.specs.Outcome.{Question, answers, Said, says, refusal}
+use Rattle.base_refusals.specs.Outcome.{Question, answers}
 use Rattle.base_refusals.specs.Rows.{Row, row, by_rows}
 use Rattle.history_set.specs.Set.{History, counted, listed, Histories, histories_of, set_rows}
 use Rattle.gate.specs.declared.blocks.Totals.{Totals}
@@ -14,8 +14,6 @@ use Rattle.gate.specs.Start.{start_bin}
 use Rattle.gate.specs.Sums.{all_of}
 use Rattle.gate.specs.Relative.{threshold_of}
 use Rattle.gate.specs.Kept.{kept_from}
-use Rattle.gate.specs.declared.Gated.{Gated}
-use Rattle.gate.specs.declared.Gated.TheVariants.{Blocks, Refused}
 
 -- ---- at or above the gate
 abbrev pub gated_of : Float → Totals → History → Totals
@@ -48,8 +46,3 @@ gate_of h = by_rows (gate_rows h) (answers (left_of (histories_of h)))
 -- the same by what all blocks come to and what the gate leaves of them, behind what refuses a set
 abbrev pub gate_over : Totals → Totals → Question Totals
 gate_over all left = by_rows (gating_rows all left) (answers left)
-
--- what each case of `Gated` says
-abbrev pub said : Gated → Said Totals
-said (Blocks count sum) = says (record { count = count; sum = sum })
-said (Refused n) = refusal n

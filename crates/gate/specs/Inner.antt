@@ -1,13 +1,16 @@
 -- Inner definitions: what the loops over stretches of bins and over energies go by, the search for the bin where a gate starts, and what histories come to.
 use Rattle.std.specs.Prelude.{◌≡◌, ℕ, suc, ◌+◌, ◌-◌, ◌<◌, Bool, true, cond, not, T, ◌⊎◌, List, [], ◌∷◌, drop, pos, Float}
+use Rattle.std.specs.List.{fold}
 use Rattle.std.specs.Float.{nan, inf, fin, binary64}
 use Rattle.std.specs.Float.Ieee.{add, mul, of_int, fits, lt}
-use Rattle.base_refusals.specs.Rows.{Row, number_of}
+use Rattle.base_refusals.specs.Outcome.{Question, answers}
+use Rattle.base_refusals.specs.Rows.{by_rows}
 use Rattle.bins_tables.specs.Tables.{energy_at}
+use Rattle.history_set.specs.Set.{Histories, histories_of, set_rows}
 use Rattle.gate.specs.declared.blocks.Totals.{Totals}
 use Rattle.gate.specs.Totals.{none, with_blocks, bins_from, blocks_in}
 use Rattle.gate.specs.Start.{counts}
-use Rattle.gate.specs.declared.sums.Sums.{Sums}
+use Rattle.gate.specs.Sums.{all_of}
 
 -- so many bins are passed over at once where none of them has a block
 abbrev pub stretch : ℕ
@@ -53,27 +56,21 @@ energy_kept threshold energy = cond (counts threshold energy) energy none.sum
 abbrev pub blocks_kept : Float → Float → ℕ
 blocks_kept threshold energy = cond (counts threshold energy) 1 0
 
--- energies one after the other, each of which carries a value on
-unfoldable pub carried : {A : Type 0} → (A → Float → A) → A → List Float → A
-carried step a [] = a
-carried step a (energy ∷ rest) = carried step (step a energy) rest
-
 -- the number of those kept, on top of a count, and their sum on top of another
 abbrev pub counted_from : Float → ℕ → List Float → ℕ
-counted_from threshold = carried (λ count energy. count + blocks_kept threshold energy)
+counted_from threshold = fold (λ count energy. count + blocks_kept threshold energy)
 
 abbrev pub summed_from : Float → Float → List Float → Float
-summed_from threshold = carried (λ sum energy. add binary64 sum (energy_kept threshold energy))
+summed_from threshold = fold (λ sum energy. add binary64 sum (energy_kept threshold energy))
 
 -- both at once
 abbrev pub added_from : Float → Totals → List Float → Totals
-added_from threshold = carried (λ totals energy. with_blocks totals (blocks_kept threshold energy) (energy_kept threshold energy))
+added_from threshold = fold (λ totals energy. with_blocks totals (blocks_kept threshold energy) (energy_kept threshold energy))
 
 -- the sum of all, on top of another
 abbrev pub sum_onto : Float → List Float → Float
-sum_onto = carried (add binary64)
+sum_onto = fold (add binary64)
 
--- ---- histories added up: what refuses them, and where nothing does what they come to
-pub record SumsAre (rows : List Row) (all : Totals) (sums : Sums) : Type 0 where
-  pub first : sums.refusal ≡ number_of rows
-  pub whole : sums.refusal ≡ 0 → sums.totals ≡ all
+-- ---- histories added up: what refuses them, or their blocks and the sum of their energies
+unfoldable pub sums_of : Histories → Question Totals
+sums_of h = by_rows (set_rows h) (answers (all_of (histories_of h)))

@@ -6,4 +6,3 @@ pub mod Kept
 pub mod Gate
 pub mod Inner
 pub mod GatedEnergy
-pub mod EnergyInner

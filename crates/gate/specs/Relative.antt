@@ -1,8 +1,10 @@
 -- The relative threshold (01, step 8): "Threshold = (sum / count) times the f64 nearest 1/10." Of a single history: "-70.0 when empty, otherwise the threshold
 -- energy or NAN." -70.0 is a loudness, in LUFS; the other answer is an energy.
-use Rattle.std.specs.Prelude.{ℕ, true, false, cond, not, ◌&&◌, List, [], ◌∷◌, ◌++◌, ◌==◌, is_nan, Float}
+use Rattle.std.specs.Prelude.{ℕ, true, false, cond, not, ◌&&◌, List, [], ◌∷◌, ◌++◌, ◌==◌, is_nan, Float, Result, Ok, Err}
 use Rattle.std.specs.Float.{binary64}
 use Rattle.std.specs.Float.Ieee.{mul, round}
+use Rattle.base_refusals.specs.Refusal.{number}
+use Rattle.base_refusals.specs.declared.Refusal.{Refusal}
 use Rattle.base_refusals.specs.declared.Refusal.TheVariants.{NAN}
 use Rattle.base_refusals.specs.Outcome.{Question, answers, Said, says, refusal}
 use Rattle.base_refusals.specs.Rows.{Row, row, by_rows}
@@ -12,7 +14,7 @@ use Rattle.gate.specs.declared.blocks.Totals.{Totals}
 use Rattle.gate.specs.Totals.{mean_of}
 use Rattle.gate.specs.Sums.{totals_of, alone}
 use Rattle.gate.specs.declared.threshold.Threshold.{Threshold}
-use Rattle.gate.specs.declared.threshold.Threshold.TheVariants.{Loudness, Energy, Refused}
+use Rattle.gate.specs.declared.threshold.Threshold.TheVariants.{Loudness, Energy}
 
 -- the f64 nearest 1/10: 10 LU down
 unfoldable pub tenth : Float
@@ -43,8 +45,11 @@ relative_rows entry counters energies = set_rows (alone entry counters energies)
 unfoldable pub relative_of : Entry → List ℕ → List Float → Question Limit
 relative_of entry counters energies = by_rows (relative_rows entry counters energies) (answers (level_of (totals_of (shows counters energies entry))))
 
--- what each case of `Threshold` says
-abbrev pub said : Threshold → Said Limit
-said (Loudness l) = says (loudness l)
-said (Energy e) = says (energy e)
-said (Refused n) = refusal n
+-- what an answer says: each case of `Threshold` is the limit of its name
+abbrev pub limit_of : Threshold → Limit
+limit_of (Loudness l) = loudness l
+limit_of (Energy e) = energy e
+
+abbrev pub said : Result Threshold Refusal → Said Limit
+said (Ok threshold) = says (limit_of threshold)
+said (Err r) = refusal (number r)

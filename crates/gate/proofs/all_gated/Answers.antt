@@ -1,71 +1,68 @@
--- `gate::all_gated` meets its contract. The invariant: the histories from `i` on, on top of what was kept, give what all give. Assumes nothing.
+-- `gate::all_gated` meets its contract. The invariant: the histories from here on, on top of what was kept, give what all give. Assumes nothing.
 use Rattle.std.proofs.Common.{ℕ, ◌+◌, length, get_or, drop, sym, refl, ap, ◌∙◌, arith}
 use lib.Ieee.{Float}
-use Rattle.history_set.specs.Set.{histories, chosen, shows, all_show}
+use Rattle.history_set.specs.Set.{shows, all_show}
 use Rattle.history_set.proofs.Entries.{past_the_last, inside_at, sound_at, shows_next, shows_end}
-use Rattle.history_set.proofs.Rows.{Kept, kept}
+use Rattle.history_set.proofs.Rows.{KeptLent, kept_lent}
 use Rattle.gate.specs.declared.blocks.Totals.{Totals}
+use Rattle.gate.specs.Totals.{none}
 use Rattle.gate.proofs.Nothing.{nothing_steady}
 use Rattle.gate.specs.Gate.{all_gated}
+use Rattle.gate.proofs.Asked.{shown}
 use Rattle.gate.proofs.Gating.{gated_on}
 use Rattle.gate.proofs.all_gated.Goals as goal
-use Rattle.gate.proofs.all_gated.Goals.{At-loop-i}
+use Rattle.gate.proofs.all_gated.Goals.{At-loop-entry}
 
-well : (l : At-loop-i) → Kept (histories l.args.entries l.args.count l.args.counters.now l.args.energies.now)
-well l = kept (histories l.args.entries l.args.count l.args.counters.now l.args.energies.now) l.requires.0
+well : (c : At-loop-entry) → KeptLent c.args.set
+well c = kept_lent c.args.set c.requires.0
 
 -- the totals so far
 abbrev so_far : ℕ → Float → Totals
-so_far blocks sum = record { count = blocks; sum = sum }
+so_far count sum = record { count = count; sum = sum }
 
-pub loop-i-init : goal.loop-i-init
-loop-i-init c = (omega arith, nothing_steady, omega arith, refl)
-
-pub offset_bounds-entries-i : goal.offset_bounds-entries-i
-offset_bounds-entries-i c = let k = well (goal.at.offset_bounds-entries-i c).At-loop-i in omega (arith, k.few)
-
-pub bounds-entries-i : goal.bounds-entries-i
-bounds-entries-i c = let k = well (goal.at.bounds-entries-i c).At-loop-i in omega (arith, k.few)
+pub loop-entry-init : goal.loop-entry-init
+loop-entry-init c = (nothing_steady, omega arith, refl)
 
 pub history_gated-gated-requires : goal.history_gated-gated-requires
 history_gated-gated-requires c =
-    let l = c in
-    let h = histories l.args.entries l.args.count l.args.counters.now l.args.energies.now in
-    let k = well (goal.at.history_gated-gated-requires c).At-loop-i in (
-      inside_at (length h.counters) (length h.energies) h.entries h.count l.loop-i.i (omega arith) (omega (arith, k.few)) k.inside,
-      sound_at h.energies h.entries h.count l.loop-i.i (omega arith) (omega (arith, k.few)) k.stores,
-      l.start_in-bin.ensures,
-      l.loop-i.invariant.1,
-      l.requires.1,
+    let set = c.args.set in
+    let i = c.loop-entry.entry-index in
+    let k = well (goal.at.history_gated-gated-requires c).At-loop-entry in (
+      inside_at (length set.counters.now) (length set.energies.now) set.entries.now i (omega arith) k.inside,
+      sound_at set.energies.now set.entries.now i (omega arith) k.stores,
+      c.start_in-bin.ensures,
+      c.loop-entry.invariant.0,
+      c.requires.1,
     )
 
-pub overflow_add-blocks : goal.overflow_add-blocks
-overflow_add-blocks c = let k = well (goal.at.overflow_add-blocks c).At-loop-i in omega (arith, k.few, c.history_gated-gated.ensures.1)
+pub overflow_add-count : goal.overflow_add-count
+overflow_add-count c = let k = well (goal.at.overflow_add-count c).At-loop-entry in omega (arith, k.few, c.history_gated-gated.ensures.1)
 
-pub overflow_add-i : goal.overflow_add-i
-overflow_add-i c = let k = well (goal.at.overflow_add-i c).At-loop-i in omega (arith, k.few)
-
-pub loop-i-preserved : goal.loop-i-preserved
+pub loop-entry-preserved : goal.loop-entry-preserved
 unfolding all_gated
-loop-i-preserved c =
-    let l = c in
-    let h = histories l.args.entries l.args.count l.args.counters.now l.args.energies.now in
-    let k = well (goal.at.loop-i-preserved c).At-loop-i in
-    let threshold = l.args.threshold in
+loop-entry-preserved c =
+    let set = c.args.set in
+    let counters = set.counters.now in
+    let energies = set.energies.now in
+    let entries = set.entries.now in
+    let threshold = c.args.threshold in
+    let l = c.loop-entry in
+    let i = l.entry-index in
     let gated = c.history_gated-gated in (
-      omega arith,
       gated.ensures.2,
       omega (arith, gated.ensures.1),
-      ap (λ (t : Totals). all_gated threshold t (all_show h.counters h.energies (drop (l.loop-i.i + 1) (chosen h))))
-          (gated_on threshold (so_far l.loop-i.blocks l.loop-i.sum) (shows h.counters h.energies (get_or h.entries l.loop-i.i past_the_last)) gated.result gated.ensures.0)
-          ∙ sym (ap (all_gated threshold (so_far l.loop-i.blocks l.loop-i.sum)) (shows_next h.counters h.energies h.entries h.count l.loop-i.i (omega arith) (omega (arith, k.few))))
-          ∙ l.loop-i.invariant.3,
+      ap (λ (t : Totals). all_gated threshold t (all_show counters energies (drop (i + 1) entries)))
+          (gated_on threshold (so_far l.count l.sum) (shows counters energies (get_or entries i past_the_last)) gated.result gated.ensures.0)
+          ∙ sym (ap (all_gated threshold (so_far l.count l.sum)) (shows_next counters energies entries i (omega arith)))
+          ∙ l.invariant.2,
     )
 
 pub returns : goal.returns
 unfolding all_gated
 returns c =
-    let l = c in
-    let h = histories l.args.entries l.args.count l.args.counters.now l.args.energies.now in
-    let threshold = l.args.threshold in
-    sym (ap (all_gated threshold (so_far l.loop-i.blocks l.loop-i.sum)) (shows_end h.counters h.energies h.entries h.count l.loop-i.i (omega arith))) ∙ l.loop-i.invariant.3
+    let set = c.args.set in
+    let threshold = c.args.threshold in
+    let l = c.loop-entry in
+    sym (ap (all_gated threshold (so_far l.count l.sum)) (shows_end set.counters.now set.energies.now set.entries.now l.entry-index (omega arith)))
+    ∙ l.invariant.2
+    ∙ ap (all_gated threshold none) (sym (shown set))

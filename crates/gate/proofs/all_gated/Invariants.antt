@@ -1,17 +1,13 @@
-use Rattle.std.proofs.Common.{◌≡◌, ◌-◌, ◌*◌, ◌≤◌, take, drop}
+use Rattle.std.proofs.Common.{◌≡◌, ◌*◌, ◌≤◌, drop}
 use Rattle.history_set.specs.Set.{all_show}
 use Rattle.gate.specs.Totals.{most_blocks, none}
 use Rattle.gate.specs.Inner.{Steady}
 use Rattle.gate.specs.Gate.{all_gated}
 use Rattle.gate.proofs.all_gated.Given as goal
 
-abbrev pub invariant-loop-i : goal.invariant-loop-i
-invariant-loop-i l =
-    (l.i ≤ l.count)
-    × Steady l.sum
-    × (l.blocks ≤ l.i * most_blocks)
-    × (all_gated l.threshold (record { count = l.blocks; sum = l.sum }) (all_show l.counters l.energies (drop l.i (take l.count l.entries)))
-    ≡ all_gated l.threshold none (all_show l.counters l.energies (take l.count l.entries)))
-
-abbrev pub decreases-loop-i : goal.decreases-loop-i
-decreases-loop-i l = l.count - l.i
+abbrev pub invariant-loop-entry : goal.invariant-loop-entry
+invariant-loop-entry l =
+    Steady l.sum
+    × (l.count ≤ l.entry-index * most_blocks)
+    × (all_gated l.threshold (record { count = l.count; sum = l.sum }) (all_show l.set.counters.now l.set.energies.now (drop l.entry-index l.set.entries.now))
+    ≡ all_gated l.threshold none (all_show l.set.counters.now l.set.energies.now l.set.entries.now))

@@ -1,46 +1,45 @@
--- `sums::of_history` meets its contract: SET, STORE, or what was seen of the history. Assumes nothing.
-use Rattle.std.proofs.Common.{◌≡◌, false, sym, ◌∙◌}
-use Rattle.base_refusals.specs.declared.Refusal.TheVariants.{STORE, SET}
-use Rattle.history_set.specs.Set.{chosen, outside_set, all_sound}
-use Rattle.history_set.proofs.Rows.{set_refused, one_unsound, all_well}
-use Rattle.gate.specs.Sums.{alone}
-use Rattle.gate.proofs.Looking.{refused}
-use Rattle.gate.proofs.Alone.{history_inside, history_sound}
+-- `sums::of_history` meets its contract, shape by shape: the entry is inside its slice. Assumes nothing.
+use Rattle.std.proofs.lemmas.Option.{MatchOption-at_some}
+use Rattle.std.proofs.Common.{◌≡◌, ◌+◌, ◌≤◌, true, length, sym, ap, ◌∙◌, subst}
+use Rattle.history_set.specs.declared.set.Shape.{Shape}
+use Rattle.history_set.specs.declared.set.Shape.TheVariants.{Queue as Queue-at}
+use Rattle.history_queue.specs.Queue.{held_of}
+use Rattle.history_set.specs.Set.{queue_at, counters_end, shape_shows, shape_sound}
+use Rattle.history_set.proofs.Entries.{counters_inside_lem}
+use Rattle.gate.specs.Totals.{none}
+use Rattle.gate.specs.Inner.{sum_onto}
+use Rattle.gate.proofs.Running.{there}
+use Rattle.gate.proofs.Nothing.{nothing_steady}
+use Rattle.gate.specs.Sums.{totals_of}
+use Rattle.gate.proofs.Looking.{queue_totals}
 use Rattle.gate.proofs.sums.of_history.Goals as goal
-use Rattle.gate.proofs.sums.of_history.Goals.{After-look_at_history-seen, After-outside, Else-outside}
 
--- SET does not refuse it
-inside : (c : Else-outside) → outside_set (alone c.args.entry c.args.counters.now c.args.energies.now) ≡ false
-inside c = sym c.outside.ensures ∙ c.if-outside.false
+pub from_bin-requires : goal.from_bin-requires
+from_bin-requires c = (c.requires.0, nothing_steady)
 
--- whether its store is sound
-sound_is : (c : After-look_at_history-seen) → all_sound (alone c.args.entry c.args.counters.now c.args.energies.now).energies (chosen (alone c.args.entry c.args.counters.now c.args.energies.now)) ≡ c.look_at_history-seen.result.sound
-sound_is c =
+pub returns-in-Histogram : goal.returns-in-Histogram
+returns-in-Histogram c =
     let a = c.args in
-    history_sound a.entry a.counters.now a.energies.now ∙ sym c.look_at_history-seen.ensures.0
+    let counters = a.set.counters.now in
+    let energies = a.set.energies.now in
+    let start = c.in-Histogram.start in
+    let is = c.in-Histogram.is in
+    let within : start + 1000 ≤ length counters =
+    subst (λ (s : Shape). counters_end s ≤ length counters) is (counters_inside_lem (length counters) (length energies) a.entry c.requires.1) in (
+      ap (shape_sound energies) is,
+      c.from_bin.ensures.0 ∙ there none.sum counters start 0 within ∙ ap (λ (s : Shape). totals_of (shape_shows counters energies s)) (sym is),
+      c.from_bin.ensures.1,
+    )
 
-pub returns-then-outside : goal.returns-then-outside
-returns-then-outside c =
-    let t = c in
-    refused SET (set_refused (alone t.args.entry t.args.counters.now t.args.energies.now) (sym t.outside.ensures ∙ t.if-outside.true)) c.refuse.ensures
-
-pub look_at_history-seen-requires : goal.look_at_history-seen-requires
-look_at_history-seen-requires c =
-    let w = c in
-    let a = w.args in
-    (w.requires, history_inside a.entry a.counters.now a.energies.now (inside (goal.at.look_at_history-seen-requires c).Else-outside))
-
-pub returns-then-seen : goal.returns-then-seen
-returns-then-seen c =
-    let t = c in
-    let s = t in
-    record {
-      first = sym (all_well (alone s.args.entry s.args.counters.now s.args.energies.now) (inside (goal.at.returns-then-seen c).Else-outside) (sound_is (goal.at.returns-then-seen c).After-look_at_history-seen ∙ t.if-seen.true));
-      whole = λ _. (s.look_at_history-seen.ensures.1 t.if-seen.true).0;
-    }
-
-pub returns : goal.returns
-returns c =
-    let e = c in
-    let s = e in
-    refused STORE (one_unsound (alone s.args.entry s.args.counters.now s.args.energies.now) (inside (goal.at.returns c).Else-outside) (sound_is (goal.at.returns c).After-look_at_history-seen ∙ e.if-seen.false)) c.refuse-2.ensures
+pub returns-in_ok-sum-in-Queue : goal.returns-in_ok-sum-in-Queue
+returns-in_ok-sum-in-Queue c =
+    let counters = c.args.set.counters.now in
+    let energies = c.args.set.energies.now in
+    let start = c.in-Queue.start in
+    let queue = c.in-Queue.queue in
+    let is = c.in-Queue.is in
+    let sum = c.in_ok-sum-in-Queue.sum in
+    let seen : (shape_sound energies (Queue-at start queue) ≡ true) × (sum ≡ sum_onto none.sum (held_of (queue_at energies start queue)))
+    = MatchOption-at_some _ _ sum c.in_ok-sum-in-Queue.ensures.ok_part c.queue_sum.ensures in
+    let t = queue_totals energies start queue sum seen.0 seen.1 in
+    (ap (shape_sound energies) is ∙ seen.0, t.0 ∙ ap (λ (s : Shape). totals_of (shape_shows counters energies s)) (sym is), t.1)
