@@ -24,29 +24,32 @@ pub struct Memory {
     pub s4: f64,
 }
 
-// The new s0 at a sample.
-pub fn head_of(a: [f64; 5], m: Memory, x: f64) -> f64
-    ensures { result ≡ head a m x }
-{
-    x - a[1] * m.s1 - a[2] * m.s2 - a[3] * m.s3 - a[4] * m.s4
-}
+// The sums stand from left to right, each operation rounded: document 01 names this form.
+impl Memory {
+    // The new s0 at a sample.
+    pub fn head(self, a: [f64; 5], x: f64) -> f64
+        ensures { result ≡ head a self x }
+    {
+        x - a[1] * self.s1 - a[2] * self.s2 - a[3] * self.s3 - a[4] * self.s4
+    }
 
-// The output at the new s0.
-pub fn output_of(b: [f64; 5], m: Memory, s0: f64) -> f64
-    ensures { result ≡ output b m s0 }
-{
-    b[0] * s0 + b[1] * m.s1 + b[2] * m.s2 + b[3] * m.s3 + b[4] * m.s4
-}
+    // The output at the new s0.
+    pub fn output(self, b: [f64; 5], s0: f64) -> f64
+        ensures { result ≡ output b self s0 }
+    {
+        b[0] * s0 + b[1] * self.s1 + b[2] * self.s2 + b[3] * self.s3 + b[4] * self.s4
+    }
 
-// The memory after a frame.
-pub fn shifted(m: Memory, s0: f64) -> Memory
-    ensures { result ≡ shift m s0 }
-{
-    Memory {
-        s0: s0,
-        s1: s0,
-        s2: m.s1,
-        s3: m.s2,
-        s4: m.s3,
+    // The memory after a frame.
+    pub fn shifted(self, s0: f64) -> Memory
+        ensures { result ≡ shift self s0 }
+    {
+        Memory {
+            s0: s0,
+            s1: s0,
+            s2: self.s1,
+            s3: self.s2,
+            s4: self.s3,
+        }
     }
 }

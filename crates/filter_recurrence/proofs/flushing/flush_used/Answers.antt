@@ -1,9 +1,5 @@
 -- `flushing::flush_used` meets its contract: the channels left, from the state as it is, give what all of them give. Assumes nothing.
-use borrow.Author.Rules.{rules}
-use Prim.Native.Nat.{ℕ}
-use native.Mathlib.Omega.{arith}
-use mathlib.Core.Path.{sym, ◌∙◌}
-use mathlib.Core.List.{List}
+use Rattle.std.proofs.Common.{ℕ, List, sym, ◌∙◌, arith}
 use lib.Ieee.{Float}
 use Rattle.filter_recurrence.specs.Recurrence.{flushed}
 use Rattle.filter_recurrence.specs.Channels.{memory_of, with_memory}
@@ -16,13 +12,10 @@ flushes k v = with_memory v k (flushed (memory_of v k))
 
 pub loop-k-preserved : goal.loop-k-preserved
 loop-k-preserved c =
-    let q = c in
-    let l = q.loop-k in
-    let a = q.args in
-    (search rules, each_again flushes a.map.now l.k l.state _ q.loop-k-test.true c.flush_channel.ensures ∙ l.invariant.1)
+    let l = c.loop-k in
+    each_again flushes c.args.map.now l.k l.state _ c.loop-k-test.true c.flush_channel.ensures ∙ l.invariant
 
 pub returns : goal.returns
 returns c =
     let l = c.loop-k in
-    let a = c.args in
-    sym (each_end flushes a.map.now l.k l.state (omega (arith, c.loop-k-test.false))) ∙ l.invariant.1
+    sym (each_end flushes c.args.map.now l.k l.state (omega (arith, c.loop-k-test.false))) ∙ l.invariant

@@ -1,7 +1,4 @@
-use Prim.Native.Nat.{ℕ, ◌-◌, ◌≤◌}
-use mathlib.Core.Path.{◌≡◌}
-use mathlib.Core.List.{List}
-use lib.ListN.{length, drop}
+use Rattle.std.proofs.Common.{◌≡◌, ℕ, List, drop}
 use lib.Ieee.{Float}
 use Rattle.filter_recurrence.specs.Recurrence.{flushed}
 use Rattle.filter_recurrence.specs.Channels.{memory_of, with_memory, each_used}
@@ -12,7 +9,4 @@ abbrev flushes : ℕ → List Float → List Float
 flushes k v = with_memory v k (flushed (memory_of v k))
 
 abbrev pub invariant-loop-k : goal.invariant-loop-k
-invariant-loop-k l = (l.k ≤ length l.map) × (each_used flushes (drop l.k l.map) l.k l.state ≡ each_used flushes l.map 0 l.initial.state)
-
-abbrev pub decreases-loop-k : goal.decreases-loop-k
-decreases-loop-k l = length l.map - l.k
+invariant-loop-k l = each_used flushes (drop l.k l.map) l.k l.state ≡ each_used flushes l.map 0 l.initial.state
