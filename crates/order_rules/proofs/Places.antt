@@ -1,4 +1,4 @@
--- What stands where: after an exchange of two places, in a list whose front is filled anew, and in a copy.
+-- What stands where: after an exchange of two places, and in a list whose front is filled anew.
 -- A list rises where the energy at each place is at most those at later places. Assumes nothing.
 use mathlib.Core.Path.{◌≡◌, sym, ap, ◌∙◌, subst}
 use mathlib.Core.Logic.{◌⊎◌, inl, inr}
@@ -9,7 +9,7 @@ use native.Mathlib.Decide.{ℕ_discrete}
 use native.Mathlib.Omega.{arith}
 use lib.Dec.{T}
 use lib.ListN.{length, take, drop, set, length-set, length-drop, get_or-append}
-use lib.Seq.{ext_get_or, take_all, length-take-le, get_or-take, get_or-set_same, get_or-set_other, get_or-append-add, get_or-drop}
+use lib.Seq.{take_all, get_or-set_same, get_or-set_other, get_or-append-add, get_or-drop}
 use lib.Ieee.{Float, nan, le}
 use Rattle.base_floats.specs.Entry.{at}
 use Rattle.order_rules.specs.Arrangement.{Reordered, Rising, exchanged}
@@ -90,19 +90,3 @@ rising_at (x ∷ l) r zero zero h g = absurd (not-suc-le-zero h)
 rising_at (x ∷ l) r zero (suc j) h g = all_at (λ y. T (le x y)) l r.0 j (le_of_suc-le-suc g)
 rising_at (x ∷ l) r (suc i) zero h g = absurd (not-suc-le-zero h)
 rising_at (x ∷ l) r (suc i) (suc j) h g = rising_at l r.1 i j (le_of_suc-le-suc h) (le_of_suc-le-suc g)
-
--- ---- the first i places are copied
-abbrev pub Copied : ℕ → List Float → List Float → Type 0
-Copied i source l = (k : ℕ) → k < i → at l k ≡ at source k
-
-pub copied_on : (i : ℕ) (source l : List Float) → i < length l → Copied i source l → Copied (i + 1) source (set l i (at source i))
-copied_on i source l h c k g = go (same_or_other k i)
-  where
-    go : (k ≡ i) ⊎ (k ≡ i → ⊥) → at (set l i (at source i)) k ≡ at source k
-    go (inl e) = ap (at (set l i (at source i))) e ∙ get_or-set_same l i (at source i) nan h ∙ ap (at source) (sym e)
-    go (inr n) = get_or-set_other l i k (at source i) nan n ∙ c k (omega arith)
-
-pub copied_all : (n i : ℕ) (source l : List Float) → length l ≡ n → n ≤ length source → n ≤ i → Copied i source l → l ≡ take n source
-copied_all n i source l e long h c =
-    ext_get_or nan l (take n source) (e ∙ sym (length-take-le n source long))
-    (λ k g. let k_in : k < n = omega arith in c k (omega arith) ∙ sym (get_or-take n source k nan k_in))

@@ -2,13 +2,11 @@
 use mathlib.Core.Path.{◌≡◌, refl, ap, ◌∙◌}
 use mathlib.Core.Bool.{Bool, true, false, cond}
 use mathlib.Core.List.{List, [], ◌∷◌, ◌++◌}
-use Prim.Native.Nat.{ℕ, suc, ◌+◌, ◌≤◌, ◌<◌}
+use Prim.Native.Nat.{ℕ, ◌+◌, ◌≤◌}
 use native.Mathlib.Omega.{arith}
 use lib.Dec.{T}
-use lib.ListN.{length, drop, drop_of_length-le}
-use lib.Seq.{drop-cons}
-use lib.Ieee.{Float, nan}
-use Rattle.base_floats.specs.Entry.{at}
+use lib.ListN.{length}
+use lib.Ieee.{Float}
 use Rattle.order_rules.specs.Arrangement.{Reordered, unmoved, under, swap, after}
 use Rattle.order_short.specs.Inner.{count}
 
@@ -30,20 +28,6 @@ module _ (test : Float → Bool) where
   pub count_within : (l : List Float) → count test l ≤ length l
   count_within [] = omega arith
   count_within (x ∷ l) = omega (arith, count_within l, one_or_none (test x))
-
-  -- a loop's turn: what is counted so far, and what is left, is the whole
-  pub count_end : (l : List Float) (i found : ℕ) → length l ≤ i → found + count test (drop i l) ≡ count test l → found ≡ count test l
-  count_end l i found h e = let gone : count test (drop i l) ≡ 0 = rw (drop_of_length-le l {i = i} h) in omega arith
-
-  module _ (l : List Float) (i found : ℕ) (h : i < length l) (e : found + count test (drop i l) ≡ count test l) where
-    next : count test (drop i l) ≡ cond (test (at l i)) 1 0 + count test (drop (i + 1) l)
-    next = let is : i + 1 ≡ suc i = omega arith in rw (is, drop-cons l i nan h)
-
-    pub count_one : test (at l i) ≡ true → found + 1 + count test (drop (i + 1) l) ≡ count test l
-    count_one p = omega (arith, next ∙ ap (λ (b : Bool). cond b 1 0 + count test (drop (i + 1) l)) p)
-
-    pub count_none : test (at l i) ≡ false → found + count test (drop (i + 1) l) ≡ count test l
-    count_none p = omega (arith, next ∙ ap (λ (b : Bool). cond b 1 0 + count test (drop (i + 1) l)) p)
 
 pub count_more : (p q : Float → Bool) → ((x : Float) → T (p x) → T (q x)) → (l : List Float) → count p l ≤ count q l
 count_more p q f [] = omega arith

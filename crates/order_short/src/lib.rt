@@ -1,8 +1,7 @@
 // Up to 24 energies in rising order, in place, by counting out each one's place. No branch hangs on what the energies are.
 #![tactic(auto)]
 
-ghost use Rattle.std.specs.Prelude.{◌≡◌, true, ◌<◌, ◌≤◌, length, take};
-ghost use Rattle.std.specs.Float.Ieee.{le, lt};
+ghost use Rattle.std.specs.Prelude.{Bool, Float, ◌≡◌, true, ◌<◌, ◌≤◌, length, take};
 ghost use Rattle.order_rules.specs.Order.{in_order, all_above};
 ghost use Rattle.order_short.specs.Short.{short_above, short_ordered};
 ghost use Rattle.order_short.specs.Inner.{count, place_of};
@@ -10,34 +9,15 @@ ghost use Rattle.order_short.specs.Inner.{count, place_of};
 // The most energies that are ordered so.
 pub const SHORT: usize = 24;
 
-// How many energies are at most x.
-fn at_most(energies: &[f64], x: f64) -> usize
-    ensures { result ≡ count (λ y. le y x) energies.now }
+// How many energies pass a test.
+fn count<F: Fn(f64) -> bool>(energies: &[f64], test: F) -> usize
+    requires { F.IsAlwaysCallable test }
+    ensures few { result ≤ length energies.now }
+    ensures value { (p : Float → Bool) → ((x : Float) (b : Bool) → F.post test x b → b ≡ p x) → result ≡ count p energies.now }
 {
-    let n = energies.len();
     let mut found = 0;
-    let mut i = 0;
-    while i < n {
-        let energy = energies[i];
-        i += 1;
-        if energy <= x {
-            found += 1;
-        }
-    }
-    found
-}
-
-// How many are below x.
-fn below(energies: &[f64], x: f64) -> usize
-    ensures { result ≡ count (λ y. lt y x) energies.now }
-{
-    let n = energies.len();
-    let mut found = 0;
-    let mut i = 0;
-    while i < n {
-        let energy = energies[i];
-        i += 1;
-        if energy < x {
+    for energy in energies {
+        if test(*energy) {
             found += 1;
         }
     }
@@ -50,8 +30,8 @@ fn place_of(part: &[f64], i: usize) -> usize
     ensures { result ≡ place_of part.now i }
 {
     let x = part[i];
-    let before = at_most(&part[..i], x);
-    let after = below(&part[i..], x);
+    let before = count(&part[..i], |y| y <= x);
+    let after = count(&part[i..], |y| y < x);
     before + after
 }
 
@@ -61,29 +41,12 @@ fn put_in_place(part: &[f64], places: &mut [f64]) -> bool
     ensures value { result ≡ all_above part.now }
     ensures places_after { all_above part.now ≡ true → take (length part.now) places.new ≡ in_order part.now }
 {
-    let n = part.len();
     let mut fine = true;
-    let mut i = 0;
-    while i < n {
-        let place = place_of(part, i);
-        let x = part[i];
-        places[place] = x;
-        fine = fine & (0.0 < x);
-        i += 1;
+    for (i, x) in part.iter().enumerate() {
+        places[place_of(part, i)] = *x;
+        fine = fine & (0.0 < *x);
     }
     fine
-}
-
-fn copy_back(part: &mut [f64], places: &[f64])
-    requires { length part.old ≤ length places.now }
-    ensures { part.new ≡ take (length part.old) places.now }
-{
-    let n = part.len();
-    let mut i = 0;
-    while i < n {
-        part[i] = places[i];
-        i += 1;
-    }
 }
 
 // Orders the energies in place, rising, where there are at most 24 and each is above zero; else it touches nothing and answers false.
@@ -96,7 +59,8 @@ pub fn order(energies: &mut [f64]) -> bool
     }
     let mut places = [0.0f64; SHORT];
     if put_in_place(energies, &mut places) {
-        copy_back(energies, &places);
+        let n = energies.len();
+        energies.copy_from_slice(&places[..n]);
         return true;
     }
     false

@@ -1,7 +1,6 @@
 use mathlib.Core.Path.{◌≡◌}
 use mathlib.Core.Bool.{◌&&◌}
-use Prim.Native.Nat.{◌-◌}
-use lib.ListN.{length, drop}
+use lib.ListN.{drop}
 use Rattle.order_rules.specs.Order.{all_above}
 use Rattle.order_rules.specs.Arrangement.{All}
 use Rattle.order_rules.proofs.InOrder.{Energy}
@@ -9,8 +8,4 @@ use Rattle.order_short.proofs.Ranking.{Placed}
 use Rattle.order_short.proofs.put_in_place.Given as goal
 
 abbrev pub invariant-loop-i : goal.invariant-loop-i
-invariant-loop-i l =
-    (length l.places ≡ length l.initial.places) × (l.fine && all_above (drop l.i l.part) ≡ all_above l.part) × (All Energy l.part → Placed l.i l.part l.places)
-
-abbrev pub decreases-loop-i : goal.decreases-loop-i
-decreases-loop-i l = length l.part - l.i
+invariant-loop-i l = (l.fine && all_above (drop l.i l.part) ≡ all_above l.part) × (All Energy l.part → Placed l.i l.part l.places)
