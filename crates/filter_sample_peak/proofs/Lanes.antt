@@ -6,48 +6,35 @@ use native.Mathlib.Omega.{arith}
 use mathlib.Core.Path.{◌≡◌, refl, ap, sym, subst, ◌∙◌}
 use mathlib.Core.Logic.{◌⊎◌, inl, inr}
 use mathlib.Core.Bool.{false, true≢false}
-use mathlib.Core.List.{List, [], ◌∷◌}
+use mathlib.Core.List.{List, [], ◌∷◌, ◌++◌}
 use lib.Dec.{T}
 use lib.ListN.{length, get_or}
 use lib.Ieee.{Float, nan, binary64, lt, is_nan, fits}
 use Rattle.base_floats.proofs.Order.{is_true, is_false, right_number, beaten}
 use Rattle.samples.specs.Frames.{silence, column}
-use Rattle.samples.proofs.Columns.{within, column_append}
-use Rattle.samples.proofs.Cutting.{some_frames}
+use Rattle.samples.proofs.Columns.{within}
 use Rattle.base_floats.specs.Entry.{plus_zero}
 use Rattle.base_floats.specs.Largest.{magnitude, greater, greatest, largest}
-use Rattle.base_floats.proofs.Magnitude.{magnitude_again, High, largest_append}
+use Rattle.base_floats.proofs.Magnitude.{magnitude_again, High}
+use Rattle.filter_sample_peak.proofs.Cutting.{largest_cut}
 use Rattle.filter_sample_peak.proofs.Tops.{Top, Stands, top_of, one_top, same_magnitudes}
 
--- what a turn from place `at` on does to lane j's top
-abbrev pub turn : List Float → ℕ → ℕ → Float → Float
-turn stretch at j top = greater top (magnitude (get_or stretch (at + j) nan))
+-- what a turn does to lane j's top
+abbrev pub turn : List Float → ℕ → Float → Float
+turn places j top = greater top (magnitude (get_or places j nan))
 
--- one turn more
-pub next_turn : (stretch : List Float) (lanes done j : ℕ) (top : Float) → done * lanes + j < length stretch → top ≡ largest plus_zero (column stretch j lanes done)
-    → turn stretch (done * lanes) j top ≡ largest plus_zero (column stretch j lanes (done + 1))
+-- one turn, before those after it
+pub next_turn : (places after : List Float) (lanes j : ℕ) (top : Float) → length places ≡ lanes → j < lanes
+    → largest (turn places j top) (column after j lanes (length after / lanes)) ≡ largest top (column (places ++ after) j lanes (length (places ++ after) / lanes))
 unfolding greatest column
-next_turn stretch lanes done j top here e =
-    let p : done * lanes + j ≡ j + done * lanes = omega arith in
-    ap (λ (t : Float). greater t (magnitude (get_or stretch (done * lanes + j) nan))) e
-    ∙ ap (λ (x : Float). greater (largest plus_zero (column stretch j lanes done)) (magnitude x)) (within stretch (done * lanes + j) nan silence here)
-    ∙ ap (λ (i : ℕ). largest (largest plus_zero (column stretch j lanes done)) (column stretch i lanes 1)) p
-    ∙ sym (largest_append plus_zero (column stretch j lanes done) (column stretch (j + done * lanes) lanes 1))
-    ∙ ap (largest plus_zero) (sym (column_append stretch j lanes done 1))
+next_turn places after lanes j top e h =
+    ap (λ (x : Float). largest (greater top (magnitude x)) (column after j lanes (length after / lanes))) (within places j nan silence (omega arith))
+    ∙ largest_cut places after lanes 1 (omega arith) top j h
 
 -- ---- how many lanes there are
 
-pub some_each : (c : ℕ) → 0 < c → c ≤ 8 → 0 < 24 / c
-some_each c p h = some_frames 24 c p (omega arith)
-
 pub within_lanes : (c : ℕ) → 24 / c * c ≤ 24
 within_lanes c = omega (arith, div-add-mod' 24 c)
-
--- so many whole turns fit in so many frames
-pub turns_fit : (count each channels : ℕ) → count / each * (each * channels) ≤ count * channels
-turns_fit count each channels =
-    subst (λ (x : ℕ). x ≤ count * channels) (mul_assoc (count / each) each channels)
-    (mul-le-mul_right channels (omega (arith, div-add-mod' count each)))
 
 pub fits_past_end : (l : List Float) (i : ℕ) → T (fits binary64 (get_or l i nan)) → T (fits binary64 (get_or l i silence))
 unfolding fits

@@ -1,41 +1,42 @@
 -- The sample peak: a channel's samples in turn, and the channels. Assumes nothing.
-use Prim.Native.Nat.{ℕ, zero, suc, ◌+◌, ◌-◌, ◌≤◌, ◌<◌}
+use Prim.Native.Nat.{ℕ, zero, suc, ◌+◌, ◌-◌, ◌*◌, ◌/◌, ◌≤◌, ◌<◌}
 use native.Mathlib.Nat.{not-suc-le-zero}
 use native.Mathlib.Numerals.{add-one}
 use native.Mathlib.Omega.{arith}
 use mathlib.Core.Path.{◌≡◌, refl, ap, sym, subst, ◌∙◌}
-use mathlib.Core.List.{List}
-use lib.ListN.{length, get_or, set, length-set, replicate, get_or-replicate}
+use mathlib.Core.List.{List, map}
+use lib.ListN.{length, length-map, get_or, set, length-set}
 use lib.Seq.{get_or-set_same, get_or-set_other}
 use lib.Ieee.{Float, nan}
-use Rattle.samples.specs.Frames.{silence, column}
+use Rattle.samples.specs.Frames.{silence, frames_of, column, channel_of}
 use Rattle.base_floats.specs.Entry.{plus_zero}
 use Rattle.base_floats.specs.Largest.{magnitude, greater, greatest, largest}
-use Rattle.filter_sample_peak.specs.Peak.{over_channels}
-use Rattle.samples.proofs.Columns.{within}
-use Rattle.samples.proofs.Reaching.{one_less}
+use Rattle.filter_sample_peak.specs.Peak.{over_channels, peaks_after}
+use Rattle.base_floats.proofs.Magnitude.{largest_append}
+use Rattle.samples.proofs.Columns.{within, frames_of_lem, column_append}
 
 -- ---- samples
 
-pub turn_largest : (top : Float) (l : List Float) (i s n : ℕ) → 0 < n → i < length l → (top' : Float) → top' ≡ greater top (magnitude (get_or l i nan))
-    → largest top' (column l (i + s) s (n - 1)) ≡ largest top (column l i s n)
+pub next_largest : (top high : Float) (l : List Float) (i s n : ℕ) → i + n * s < length l → high ≡ largest top (column l i s n)
+    → greater high (magnitude (get_or l (i + n * s) nan)) ≡ largest top (column l i s (n + 1))
 unfolding greatest column
-turn_largest top l i s n h here top' e =
-    ap (λ (t : Float). largest t (column l (i + s) s (n - 1))) (e ∙ ap (λ (x : Float). greater top (magnitude x)) (within l i nan silence here))
-    ∙ sym (ap (λ (k : ℕ). largest top (column l i s k)) (one_less n h))
+next_largest top high l i s n here e =
+    ap (λ (t : Float). greater t (magnitude (get_or l (i + n * s) nan))) e
+    ∙ ap (λ (x : Float). greater (largest top (column l i s n)) (magnitude x)) (within l (i + n * s) nan silence here)
+    ∙ sym (largest_append top (column l i s n) (column l (i + n * s) s 1))
+    ∙ ap (largest top) (sym (column_append l i s n 1))
 
 pub none_largest : (top : Float) (l : List Float) (i s n : ℕ) → n ≡ 0 → largest top (column l i s n) ≡ top
 unfolding greatest column
 none_largest top l i s n e = ap (λ (k : ℕ). largest top (column l i s k)) e
 
--- no samples yet
-pub start_tops : (n : ℕ) (l : List Float) (s k : ℕ) → k < n → get_or (replicate n plus_zero) k nan ≡ largest plus_zero (column l k s 0)
-unfolding greatest column
-start_tops n l s k h = get_or-replicate n k plus_zero nan h
-
 -- what the frames of a stretch do to channel k's top
 abbrev pub peaks : List Float → ℕ → ℕ → ℕ → Float → Float
 peaks stretch channels count k top = largest top (column stretch k channels count)
+
+-- what a call does to channel k's peak
+abbrev pub raises : List Float → ℕ → Float → Float
+raises tops k peak = greater peak (get_or tops k nan)
 
 -- ---- channels: n of them from channel k on
 
@@ -89,6 +90,10 @@ channels_same f g (suc n) k v h =
     ap (λ (x : Float). over_channels f n (suc k) (set v k x)) (h k (get_or v k nan) (omega arith))
     ∙ channels_same f g n (suc k) (set v k (g k (get_or v k nan))) (λ j x q. h j x (omega arith))
 
+-- none done yet
+pub channels_start : (f : ℕ → Float → Float) (n : ℕ) (v : List Float) → over_channels f (n - 0) 0 v ≡ over_channels f n 0 v
+channels_start f n v = let e : n - 0 ≡ n = omega arith in ap (λ (k : ℕ). over_channels f k 0 v) e
+
 -- one channel more
 pub channels_again : (f : ℕ → Float → Float) (n k : ℕ) (v v' : List Float) → k < n → v' ≡ set v k (f k (get_or v k nan)) → over_channels f (n - (k + 1)) (k + 1) v' ≡ over_channels f (n - k) k v
 unfolding over_channels
@@ -101,3 +106,15 @@ channels_again f n k v v' h e =
 pub channels_end : (f : ℕ → Float → Float) (n k : ℕ) (v : List Float) → n ≤ k → over_channels f (n - k) k v ≡ v
 unfolding over_channels
 channels_end f n k v h = let z : n - k ≡ 0 = omega arith in ap (λ (j : ℕ). over_channels f j k v) z
+
+-- the call, from each channel's largest magnitude over the frames that the code counts
+pub peaks_are : {A : Type 0} (f : A → Float) (samples : List A) (stored tops : List Float) (channels : ℕ) → 0 < channels
+    → ((k : ℕ) → k < channels → get_or tops k nan ≡ largest plus_zero (column (map f samples) k channels (length samples / channels)))
+    → over_channels (raises tops) channels 0 stored ≡ peaks_after channels (map f samples) stored
+unfolding peaks_after channel_of
+peaks_are f samples stored tops channels some h =
+    let floats = map f samples in
+    let frames : length samples / channels ≡ frames_of channels (length floats) =
+    ap (λ (n : ℕ). n / channels) (sym (length-map samples f)) ∙ sym (frames_of_lem channels (length floats) some) in
+    channels_same (raises tops) (λ k peak. greater peak (largest plus_zero (column floats k channels (length samples / channels)))) channels 0 stored (λ k x q. ap (greater x) (h k (omega arith)))
+    ∙ ap (λ (n : ℕ). over_channels (λ k peak. greater peak (largest plus_zero (column floats k channels n))) channels 0 stored) frames

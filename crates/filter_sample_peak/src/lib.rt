@@ -1,16 +1,18 @@
 // The sample peak of a call: every channel's largest magnitude.
 #![tactic(auto)]
 
-ghost use Rattle.std.specs.Prelude.{◌≡◌, ℕ, ◌<◌, ◌≤◌, length, get_or};
+ghost use Rattle.std.specs.Prelude.{◌≡◌, ℕ, ◌/◌, ◌<◌, ◌≤◌, length, get_or, map};
 ghost use Rattle.std.specs.Float.{nan};
 ghost use Rattle.base_refusals.specs.Answer.{said};
 ghost use Rattle.base_refusals.specs.Outcome.{said_by, kept_by};
 ghost use Rattle.samples.specs.Frames.{column, most_channels};
-ghost use Rattle.samples.specs.Source.{source_of};
-ghost use Rattle.samples.specs.Stretches.{Whole};
+ghost use Rattle.samples.proofs.Cutting.{Framed};
 ghost use Rattle.base_floats.specs.Entry.{plus_zero};
 ghost use Rattle.base_floats.specs.Largest.{greater, largest};
 ghost use Rattle.filter_sample_peak.specs.Peak.{over_channels, raised};
+
+use base_refusals::Answer;
+use samples::Sample;
 
 mod stretch;
 
@@ -23,7 +25,7 @@ pub struct Peaks {
 // What a call answers, beside the peaks. A refused call leaves them as given.
 #[derive(Clone, Copy)]
 pub struct Peaked {
-    pub answer: base_refusals::Answer,
+    pub answer: Answer,
     pub peaks: Peaks,
 }
 
@@ -31,23 +33,20 @@ pub struct Peaked {
 const STRETCH: usize = 1024;
 
 // Every channel's largest magnitude over all frames.
-fn largest_all(channels: usize, frames: usize, ints: &[i16], floats: &[f32]) -> Peaks
-    requires { Whole channels frames (length (source_of ints.now floats.now)) }
-    ensures { (k : ℕ) → k < channels → get_or result.values k nan ≡ largest plus_zero (column (source_of ints.now floats.now) k channels frames) }
+fn largest_all<S: Sample>(channels: usize, samples: &[S]) -> Peaks
+    requires { Framed channels (length samples.now) }
+    ensures { (k : ℕ) → k < channels → get_or result.values k nan ≡ largest plus_zero (column (map S.in_f64 samples.now) k channels (length samples.now / channels)) }
 {
     let mut stretch: [f64; STRETCH] = [0.0; STRETCH];
-    let most = STRETCH / channels;
     let mut tops = Peaks { values: [0.0; 8] };
-    let mut done = 0;
-    while done < frames {
-        let count = samples::fills::shorter(frames - done, most);
-        samples::sources::fill(&mut stretch, ints, floats, done * channels);
-        tops = stretch::peak_stretch(tops, channels, count, &stretch);
-        done += count;
+    for part in samples.chunks(STRETCH / channels * channels) {
+        samples::fills::fill(&mut stretch, part);
+        tops = stretch::peak_stretch(tops, channels, &stretch[..part.len()]);
     }
     tops
 }
 
+// Not the library's `max`: a stored NaN stays, and no NaN replaces a number.
 fn greater_of(stored: f64, top: f64) -> f64
     ensures { result ≡ greater stored top }
 {
@@ -60,36 +59,25 @@ fn raise_peaks(stored: Peaks, tops: Peaks, channels: usize) -> Peaks
     ensures { result.values ≡ over_channels (λ k peak. greater peak (get_or tops.values k nan)) channels 0 stored.values }
 {
     let mut w = stored;
-    let mut k = 0;
-    while k < channels {
-        let peak = w.values[k];
-        let top = tops.values[k];
-        w.values[k] = greater_of(peak, top);
-        k += 1;
+    for k in 0..channels {
+        w.values[k] = greater_of(w.values[k], tops.values[k]);
     }
     w
 }
 
-// One call over interleaved samples, of one kind: integers, or floats where there are no integers. Unused channels have peaks too.
-pub fn process(stored: Peaks, channels: usize, ints: &[i16], floats: &[f32]) -> Peaked
-    ensures answer_value { said result.answer ≡ said_by (raised channels (source_of ints.now floats.now) stored) }
-    ensures peaks_value { result.peaks ≡ kept_by stored (raised channels (source_of ints.now floats.now) stored) }
+// One call over interleaved samples. Unused channels have peaks too.
+pub fn process<S: Sample>(stored: Peaks, channels: usize, samples: &[S]) -> Peaked
+    ensures answer_value { said result.answer ≡ said_by (raised channels (map S.in_f64 samples.now) stored) }
+    ensures peaks_value { result.peaks ≡ kept_by stored (raised channels (map S.in_f64 samples.now) stored) }
 {
-    let samples = samples::sources::size_of(ints, floats);
-    let number = filter_checks::refused_frames(channels, samples);
-    if number != 0 {
-        return Peaked {
-            answer: base_refusals::Answer::Refused(number),
+    match filter_checks::refused_frames(channels, samples.len()) {
+        Err(refusal) => Peaked {
+            answer: Err(refusal),
             peaks: stored,
-        };
-    }
-    let frames = samples / channels;
-    Peaked {
-        answer: base_refusals::Answer::Done,
-        peaks: raise_peaks(
-            stored,
-            largest_all(channels, frames, ints, floats),
-            channels,
-        ),
+        },
+        Ok(()) => Peaked {
+            answer: Ok(()),
+            peaks: raise_peaks(stored, largest_all(channels, samples), channels),
+        },
     }
 }

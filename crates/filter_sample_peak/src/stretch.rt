@@ -1,8 +1,9 @@
 // The sample peak over one stretch of samples as floats, channel by channel.
-ghost use Rattle.std.specs.Prelude.{◌≡◌, false, ℕ, ◌+◌, ◌*◌, ◌<◌, ◌≤◌, length, get_or};
+ghost use Rattle.std.specs.Prelude.{◌≡◌, false, ℕ, ◌/◌, ◌<◌, ◌≤◌, length, get_or};
 ghost use Rattle.std.specs.Float.{nan};
 ghost use Rattle.std.specs.Float.Ieee.{lt};
-ghost use Rattle.samples.specs.Frames.{column, most_channels};
+ghost use Rattle.samples.specs.Frames.{column};
+ghost use Rattle.samples.proofs.Cutting.{Framed};
 ghost use Rattle.samples.specs.Stretches.{Reach};
 ghost use Rattle.base_floats.specs.Entry.{plus_zero};
 ghost use Rattle.base_floats.specs.Largest.{magnitude, greater, largest};
@@ -29,52 +30,44 @@ struct Lanes {
 // The most lanes. Of 1, 2, 3, 4, 6 and 8 channels they are a multiple.
 const LANES: usize = 24;
 
-// One place of the stretch more in each of the first `lanes` lanes, from place `at` on.
-fn raise_turn(tops: Lanes, lanes: usize, stretch: &[f64], at: usize) -> Lanes
-    requires lanes_le_most_lanes { lanes ≤ most_lanes }
-    requires lanes_in_bounds { at + lanes ≤ length stretch.now }
-    requires by_index { (j : ℕ) → j < lanes → lt (get_or tops.values j nan) plus_zero ≡ false }
-    ensures { result.values ≡ over_channels (λ j top. greater top (magnitude (get_or stretch.now (at + j) nan))) lanes 0 tops.values }
+// One place more in each lane that the turn has a place for.
+fn raise_turn(tops: Lanes, turn: &[f64]) -> Lanes
+    requires few { length turn.now ≤ most_lanes }
+    requires by_index { (j : ℕ) → j < length turn.now → lt (get_or tops.values j nan) plus_zero ≡ false }
+    ensures { result.values ≡ over_channels (λ j top. greater top (magnitude (get_or turn.now j nan))) (length turn.now) 0 tops.values }
 {
     let mut w = tops;
-    let mut j = 0;
-    while j < lanes {
-        let top = w.values[j];
-        w.values[j] = raise(top, stretch[at + j]);
-        j += 1;
+    for (j, x) in turn.iter().enumerate() {
+        w.values[j] = raise(w.values[j], *x);
     }
     w
 }
 
-// So many turns, each with one place for every lane.
-fn raise_turns(lanes: usize, stretch: &[f64], turns: usize) -> Lanes
+// As many turns as the stretch has, each with one place for every lane.
+fn raise_turns(lanes: usize, stretch: &[f64]) -> Lanes
+    requires lanes_nonzero { 0 < lanes }
     requires lanes_le_most_lanes { lanes ≤ most_lanes }
-    requires lanes_in_bounds { turns * lanes ≤ length stretch.now }
     ensures values_len { length result.values ≡ most_lanes }
-    ensures by_index { (j : ℕ) → j < lanes → get_or result.values j nan ≡ largest plus_zero (column stretch.now j lanes turns) }
+    ensures by_index { (j : ℕ) → j < lanes → get_or result.values j nan ≡ largest plus_zero (column stretch.now j lanes (length stretch.now / lanes)) }
 {
     let mut w = Lanes { values: [0.0; 24] };
-    let mut done = 0;
-    let mut at = 0;
-    while done < turns {
-        w = raise_turn(w, lanes, stretch, at);
-        at += lanes;
-        done += 1;
+    for turn in stretch.chunks_exact(lanes) {
+        w = raise_turn(w, turn);
     }
     w
 }
 
-// The same, with all the lanes that there are as a case of their own.
-fn lanes_of(lanes: usize, stretch: &[f64], turns: usize) -> Lanes
+// The same, with all the lanes that there are as a case of their own: a loop of a known length is unrolled.
+fn lanes_of(lanes: usize, stretch: &[f64]) -> Lanes
+    requires lanes_nonzero { 0 < lanes }
     requires lanes_le_most_lanes { lanes ≤ most_lanes }
-    requires lanes_in_bounds { turns * lanes ≤ length stretch.now }
     ensures values_len { length result.values ≡ most_lanes }
-    ensures by_index { (j : ℕ) → j < lanes → get_or result.values j nan ≡ largest plus_zero (column stretch.now j lanes turns) }
+    ensures by_index { (j : ℕ) → j < lanes → get_or result.values j nan ≡ largest plus_zero (column stretch.now j lanes (length stretch.now / lanes)) }
 {
     if lanes == LANES {
-        return raise_turns(LANES, stretch, turns);
+        return raise_turns(LANES, stretch);
     }
-    raise_turns(lanes, stretch, turns)
+    raise_turns(lanes, stretch)
 }
 
 // A channel's frames one after another.
@@ -84,35 +77,26 @@ fn largest_on(top: f64, stretch: &[f64], first: usize, step: usize, count: usize
     ensures { result ≡ largest top (column stretch.now first step count) }
 {
     let mut high = top;
-    let mut left = count;
-    let mut i = first;
-    while 0 < left {
-        high = raise(high, stretch[i]);
-        i += step;
-        left -= 1;
+    for turn in 0..count {
+        high = raise(high, stretch[first + turn * step]);
     }
     high
 }
 
 // Every channel's frames of a stretch: its lanes, and the few frames that are left.
-pub(crate) fn peak_stretch(tops: Peaks, channels: usize, count: usize, stretch: &[f64]) -> Peaks
-    requires channels_nonzero { (0 < channels) × (channels ≤ most_channels) }
-    requires channels_in_bounds { count * channels ≤ length stretch.now }
+pub(crate) fn peak_stretch(tops: Peaks, channels: usize, stretch: &[f64]) -> Peaks
+    requires whole { Framed channels (length stretch.now) }
     requires by_index { (k : ℕ) → k < channels → lt (get_or tops.values k nan) plus_zero ≡ false }
-    ensures { result.values ≡ over_channels (λ k top. largest top (column stretch.now k channels count)) channels 0 tops.values }
+    ensures { result.values ≡ over_channels (λ k top. largest top (column stretch.now k channels (length stretch.now / channels))) channels 0 tops.values }
 {
     let each = LANES / channels;
-    let turns = count / each;
-    let done = turns * each;
-    let lanes = lanes_of(each * channels, stretch, turns);
-    let values = lanes.values;
+    let count = stretch.len() / channels;
+    let done = count / each * each;
+    let lanes = lanes_of(each * channels, stretch);
     let mut w = tops;
-    let mut k = 0;
-    while k < channels {
-        let top = w.values[k];
-        let high = largest_on(top, &values, k, channels, each);
+    for k in 0..channels {
+        let high = largest_on(w.values[k], &lanes.values, k, channels, each);
         w.values[k] = largest_on(high, stretch, k + done * channels, channels, count - done);
-        k += 1;
     }
     w
 }

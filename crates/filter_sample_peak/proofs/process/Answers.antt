@@ -1,79 +1,51 @@
--- `filter_sample_peak::process` meets its contract: the number of the check is the refusal, and past it the peaks are what the definitions say. Assumes nothing.
-use Prim.Native.Nat.{ℕ}
-use native.Mathlib.Omega.{arith}
-use mathlib.Core.Path.{◌≡◌, sym, ap, ◌∙◌, subst}
-use mathlib.Core.List.{List}
-use lib.ListN.{length}
+-- `filter_sample_peak::process` meets its contract: the check's refusal is the call's, and past it the peaks are what the definitions say. Assumes nothing.
+use Rattle.std.proofs.Common.{◌≡◌, ℕ, List, map, length, sym, ap, ◌∙◌}
+use lib.ListN.{length-map}
 use lib.Ieee.{Float}
+use Rattle.base_refusals.specs.Refusal.{number}
 use Rattle.base_refusals.specs.Outcome.{Outcome, said_by, kept_by, went, NoValues, done}
-use Rattle.base_refusals.specs.Rows.{Row, number_of}
+use Rattle.base_refusals.specs.Rows.{number_of}
+use Rattle.base_refusals.proofs.Numbers.{no_number}
 use Rattle.base_refusals.proofs.Rows.{stopped, goes}
 use Rattle.filter_checks.specs.Calls.{frame_rows}
 use Rattle.filter_checks.proofs.Checking.{frames_fine}
-use Rattle.samples.specs.Source.{source_of}
-use Rattle.samples.proofs.Cutting.{all_frames, Framed}
 use Rattle.filter_sample_peak.specs.declared.Peaks.{Peaks}
 use Rattle.filter_sample_peak.specs.Peak.{peaks_after, raised}
-use Rattle.filter_sample_peak.proofs.Cutting.{peaks_are}
+use Rattle.filter_sample_peak.proofs.Loudest.{peaks_are}
 use Rattle.filter_sample_peak.proofs.process.Goals as goal
 
--- the call's rows, by the floats that its samples become
-abbrev rows : ℕ → List Float → List Row
-rows channels src = frame_rows channels (length src)
-
 abbrev leaves : ℕ → List Float → Peaks → Outcome Peaks NoValues
-leaves channels src stored = went (record { values = peaks_after channels src stored.values }) done
+leaves channels floats stored = went (record { values = peaks_after channels floats stored.values }) done
 
-numbered : (channels samples number : ℕ) (src : List Float) → samples ≡ length src → number ≡ number_of (frame_rows channels samples) → number ≡ number_of (rows channels src)
-numbered channels samples number src size said = said ∙ ap (λ (n : ℕ). number_of (frame_rows channels n)) size
+-- the rows go by the number of samples, as the floats that they become have it
+counted : {A : Type 0} (f : A → Float) (samples : List A) (channels : ℕ) → number_of (frame_rows channels (length samples)) ≡ number_of (frame_rows channels (length (map f samples)))
+counted f samples channels = ap (λ (n : ℕ). number_of (frame_rows channels n)) (sym (length-map samples f))
 
--- a call that passes its check
-fine : (channels samples number : ℕ) (src : List Float) → samples ≡ length src → number ≡ number_of (frame_rows channels samples) → number ≡ 0 → Framed channels (length src)
-fine channels samples number src size said passes =
-    frames_fine channels (length src) (sym (numbered channels samples number src size said) ∙ passes)
-
-pub returns-then-number-ne0 : goal.returns-then-number-ne0
+pub returns-in-Err : goal.returns-in-Err
 unfolding raised
-returns-then-number-ne0 c =
+returns-in-Err g c =
     let a = c.args in
-    let n = c.size_of-samples in
-    let m = c.refused_frames-number in
-    let src = source_of a.ints.now a.floats.now in
-    let f = stopped (leaves a.channels src a.stored) (rows a.channels src) a.stored m.result (numbered a.channels n.result m.result src n.ensures m.ensures) c.if-number-ne0.true in
-    record { answer_value = f.says; peaks_value = f.keeps }
-
-pub nonzero_div-frames : goal.nonzero_div-frames
-nonzero_div-frames c =
-    let a = c.args in
-    let n = c.size_of-samples in
-    let m = c.refused_frames-number in
-    (fine a.channels n.result m.result (source_of a.ints.now a.floats.now) n.ensures m.ensures c.if-number-ne0.false).some
+    let f = g.S.Sample.in_f64 in
+    let floats = map f a.samples.now in
+    let r = c.in-Err.refusal in
+    let s = stopped (leaves a.channels floats a.stored) (frame_rows a.channels (length floats)) a.stored (number r) (c.in-Err.ensures ∙ counted f a.samples.now a.channels) (no_number r) in
+    record { answer_value = s.says; peaks_value = s.keeps }
 
 pub largest_all-requires : goal.largest_all-requires
-largest_all-requires c =
-    let a = c.args in
-    let n = c.size_of-samples in
-    let m = c.refused_frames-number in
-    let f = fine a.channels n.result m.result (source_of a.ints.now a.floats.now) n.ensures m.ensures c.if-number-ne0.false in
-    all_frames a.channels n.result a.ints.now a.floats.now (subst (λ (k : ℕ). Framed a.channels k) (sym n.ensures) f) n.ensures (omega arith) (omega arith)
+largest_all-requires g c = frames_fine c.args.channels (length c.args.samples.now) (sym c.in-Ok.ensures)
 
 pub raise_peaks-requires : goal.raise_peaks-requires
-raise_peaks-requires c =
-    let a = c.args in
-    let n = c.size_of-samples in
-    let m = c.refused_frames-number in
-    (fine a.channels n.result m.result (source_of a.ints.now a.floats.now) n.ensures m.ensures c.if-number-ne0.false).few
+raise_peaks-requires g c = (frames_fine c.args.channels (length c.args.samples.now) (sym c.in-Ok.ensures)).few
 
-pub returns : goal.returns
+pub returns-in-Ok : goal.returns-in-Ok
 unfolding raised
-returns c =
+returns-in-Ok g c =
     let a = c.args in
-    let n = c.size_of-samples in
-    let m = c.refused_frames-number in
-    let src = source_of a.ints.now a.floats.now in
-    let z = goes (leaves a.channels src a.stored) (rows a.channels src) (sym (numbered a.channels n.result m.result src n.ensures m.ensures) ∙ c.if-number-ne0.false) in
-    let f = fine a.channels n.result m.result src n.ensures m.ensures c.if-number-ne0.false in record {
+    let f = g.S.Sample.in_f64 in
+    let floats = map f a.samples.now in
+    let z = goes (leaves a.channels floats a.stored) (frame_rows a.channels (length floats)) (sym (c.in-Ok.ensures ∙ counted f a.samples.now a.channels)) in
+    record {
       answer_value = ap said_by (sym z);
-      peaks_value = ap (λ (v : List Float). record { values = v }) (c.raise_peaks.ensures ∙ peaks_are a.channels n.result src a.stored.values c.largest_all.result.values f.some n.ensures c.largest_all.ensures)
+      peaks_value = ap (λ (v : List Float). record { values = v }) (c.raise_peaks.ensures ∙ peaks_are f a.samples.now a.stored.values c.largest_all.result.values a.channels (frames_fine a.channels (length a.samples.now) (sym c.in-Ok.ensures)).some c.largest_all.ensures)
           ∙ sym (ap (λ (o : Outcome Peaks NoValues). kept_by a.stored o) z);
     }

@@ -1,77 +1,62 @@
--- `stretch::raise_turns` meets its contract: each lane has the largest magnitude of its places in the turns done. Assumes nothing.
-use borrow.Author.Rules.{rules}
-use Prim.Native.Nat.{ℕ, ◌+◌, ◌*◌, ◌≤◌, ◌<◌}
-use native.Mathlib.Nat.{zero-mul, suc-mul, mul-le-mul_right}
-use native.Mathlib.Numerals.{add-one}
-use native.Mathlib.Omega.{arith}
-use mathlib.Core.Path.{◌≡◌, refl, sym, ap, ◌∙◌}
-use mathlib.Core.List.{List}
-use lib.ListN.{length, get_or}
+-- `stretch::raise_turns` meets its contract: each lane's top, raised by the turns that are left, stays the largest of all of them. Assumes nothing.
+use Rattle.std.proofs.Common.{◌≡◌, ℕ, ◌/◌, ◌<◌, refl, sym, ap, subst, ◌∙◌, List, length, get_or, replicate, arith}
+use native.Mathlib.Nat.{div-eq_of_lt}
+use lib.ListN.{get_or-replicate}
 use lib.Ieee.{Float, nan, lt, of_bits}
+use Rattle.std.specs.Slice.Iter.{chunks_exact_rest, chunks_exact_size}
 use Rattle.samples.specs.Frames.{column}
 use Rattle.base_floats.specs.Entry.{plus_zero}
 use Rattle.base_floats.specs.Largest.{largest}
-use Rattle.base_floats.proofs.Magnitude.{largest_high, zero_high}
-use Rattle.filter_sample_peak.proofs.Loudest.{channels_length, channels_first, start_tops}
+use Rattle.base_floats.proofs.Magnitude.{zero_high, raised_high}
+use Rattle.filter_sample_peak.proofs.Loudest.{channels_length, channels_first, none_largest}
 use Rattle.filter_sample_peak.proofs.Lanes.{turn, next_turn}
 use Rattle.filter_sample_peak.proofs.stretch.raise_turns.Goals as goal
-use Rattle.filter_sample_peak.proofs.stretch.raise_turns.Goals.{In-loop-done}
 
-pub loop-done-init : goal.loop-done-init
+zero : (n j : ℕ) → j < n → get_or (replicate n plus_zero) j nan ≡ plus_zero
+zero n j h = get_or-replicate n j plus_zero nan h
+
+pub loop-turn-init : goal.loop-turn-init
 unfolding of_bits
-loop-done-init c =
-    let a = c.args in
-    (omega arith, (sym (zero-mul a.lanes), (refl, λ j h. start_tops 24 a.stretch.now a.lanes j (omega (arith, h, c.requires.lanes_le_most_lanes)))))
-
-after_turn : (lanes done : ℕ) → (done + 1) * lanes ≡ done * lanes + lanes
-after_turn lanes done = ap (λ (n : ℕ). n * lanes) (add-one done) ∙ suc-mul done lanes
-
--- the places of the turn lie within the stretch
-fits : (c : In-loop-done) → let a = c.args in c.loop-done.done * a.lanes + a.lanes ≤ length a.stretch.now
-fits c =
-    let s = c in
-    let l = c.loop-done in
-    omega (arith, s.requires.lanes_in_bounds, after_turn s.args.lanes l.done, mul-le-mul_right s.args.lanes (now_done l.done s.args.turns c.loop-done-test.true))
-  where
-    now_done : (done turns : ℕ) → done < turns → done + 1 ≤ turns
-    now_done done turns h = omega arith
-
-pub raise_turn-w-requires : goal.raise_turn-w-requires
-raise_turn-w-requires c =
-    let s = c in
-    let l = c.loop-done in record {
-      lanes_le_most_lanes = s.requires.lanes_le_most_lanes;
-      lanes_in_bounds = omega (arith, fits (goal.at.raise_turn-w-requires c).In-loop-done, l.invariant.1.0);
-      by_index = λ j h. ap (λ (x : Float). lt x plus_zero) (l.invariant.1.1.1 j h) ∙ largest_high plus_zero (column s.args.stretch.now j s.args.lanes l.done) zero_high;
+loop-turn-init c =
+    let lanes = c.args.lanes in
+    let made = c.into_iter-turn-iterator.ensures.into_iter_gives in
+    let rest = ap chunks_exact_rest made ∙ c.chunks_exact-turn-items.ensures.rest in
+    record {
+      size = ap chunks_exact_size made ∙ c.chunks_exact-turn-items.ensures.size;
+      places = refl;
+      high = λ j h. ap (λ (x : Float). lt x plus_zero) (zero 24 j (omega (arith, h, c.requires.lanes_le_most_lanes))) ∙ zero_high;
+      gives = λ j h. ap (λ (x : Float). largest x (column (chunks_exact_rest c.into_iter-turn-iterator.result) j lanes (length (chunks_exact_rest c.into_iter-turn-iterator.result) / lanes))) (zero 24 j (omega (arith, h, c.requires.lanes_le_most_lanes)))
+          ∙ ap (λ (l : List Float). largest plus_zero (column l j lanes (length l / lanes))) rest;
     }
 
-pub overflow_add-at : goal.overflow_add-at
-overflow_add-at c = omega (arith, fits (goal.at.overflow_add-at c).In-loop-done, c.loop-done.invariant.1.0)
+pub raise_turn-w-requires-clause-by_index : goal.raise_turn-w-requires-clause-by_index
+raise_turn-w-requires-clause-by_index c = λ j h. c.loop-turn.invariant.high j (subst (λ (n : ℕ). j < n) (c.in-Some.ensures.steps.1.1 ∙ c.loop-turn.invariant.size) h)
 
-pub loop-done-preserved : goal.loop-done-preserved
-loop-done-preserved c =
-    let q = c in
-    let s = q in
-    let a = s.args in
-    let l = q.loop-done in
-    let change = turn a.stretch.now l.at in (
-      search rules,
-      (
-        ap (λ (n : ℕ). n + a.lanes) l.invariant.1.0 ∙ sym (after_turn a.lanes l.done),
-        (
-          ap length c.raise_turn-w.ensures ∙ channels_length change a.lanes 0 l.w.values ∙ l.invariant.1.1.0,
-          λ j h.
-              ap (λ (v : List Float). get_or v j nan) c.raise_turn-w.ensures
-              ∙ channels_first change a.lanes j l.w.values h (omega (arith, s.requires.lanes_le_most_lanes, l.invariant.1.1.0))
-              ∙ ap (λ (at : ℕ). turn a.stretch.now at j (get_or l.w.values j nan)) l.invariant.1.0
-              ∙ next_turn a.stretch.now a.lanes l.done j (get_or l.w.values j nan) (omega (arith, h, fits (goal.at.loop-done-preserved c).In-loop-done)) (l.invariant.1.1.1 j h),
-        ),
-      ),
-    )
+pub loop-turn-preserved : goal.loop-turn-preserved
+loop-turn-preserved c =
+    let lanes = c.args.lanes in
+    let l = c.loop-turn in
+    let i = l.invariant in
+    let x = c.in-Some.turn.now in
+    let after = chunks_exact_rest c.next.new.self in
+    let steps = c.in-Some.ensures.steps in
+    let long : length x ≡ lanes = steps.1.1 ∙ i.size in
+    let raised : (j : ℕ) → j < lanes → get_or c.raise_turn-w.result.values j nan ≡ turn x j (get_or l.w.values j nan) =
+    λ j h. ap (λ (v : List Float). get_or v j nan) c.raise_turn-w.ensures
+    ∙ channels_first (turn x) (length x) j l.w.values (omega arith) (omega (arith, i.places, c.requires.lanes_le_most_lanes)) in
+    record {
+      size = steps.0 ∙ i.size;
+      places = ap length c.raise_turn-w.ensures ∙ channels_length (turn x) (length x) 0 l.w.values ∙ i.places;
+      high = λ j h. ap (λ (x : Float). lt x plus_zero) (raised j h) ∙ raised_high (get_or l.w.values j nan) (get_or x j nan) (i.high j h);
+      gives = λ j h. ap (λ (t : Float). largest t (column after j lanes (length after / lanes))) (raised j h)
+          ∙ next_turn x after lanes j (get_or l.w.values j nan) long h
+          ∙ ap (λ (r : List Float). largest (get_or l.w.values j nan) (column r j lanes (length r / lanes))) (sym steps.1.0)
+          ∙ i.gives j h;
+    }
 
-pub returns : goal.returns
-returns c =
-    let l = c.loop-done in
-    let a = c.args in
-    let e : l.done ≡ a.turns = omega (arith, c.loop-done-test.false, l.invariant.0) in
-    record { values_len = l.invariant.1.1.0; by_index = λ j h. l.invariant.1.1.1 j h ∙ ap (λ (n : ℕ). largest plus_zero (column a.stretch.now j a.lanes n)) e }
+pub returns-clause-by_index : goal.returns-clause-by_index
+returns-clause-by_index c = λ j h.
+    let l = c.loop-turn in
+    let rest = chunks_exact_rest l.turn-iterator in
+    let few : length rest < c.args.lanes = subst (λ (n : ℕ). length rest < n) l.invariant.size c.in-None.ensures.steps.1.0 in
+    sym (none_largest (get_or l.w.values j nan) rest j c.args.lanes (length rest / c.args.lanes) (div-eq_of_lt few)) ∙ l.invariant.gives j h
