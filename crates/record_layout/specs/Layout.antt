@@ -1,6 +1,6 @@
 -- What records have in common (01, 'Records'): "little-endian: u32 length of what follows, u16 kind", then a body of fields. One description of these
 -- fields stands behind readers, writers and their statements.
-use Rattle.std.specs.Prelude.{ℕ, zero, suc, ◌+◌, ◌-◌, ◌*◌, Bool, not, cond, List, [], ◌∷◌, ◌++◌, eqb, leb, ltb, length, drop}
+use Rattle.std.specs.Prelude.{ℕ, zero, suc, ◌+◌, ◌-◌, ◌*◌, Bool, not, cond, Option, None, Some, List, [], ◌∷◌, ◌++◌, eqb, leb, ltb, length, drop}
 use Rattle.base_refusals.specs.declared.Refusal.TheVariants.{LENGTH, KIND, ROOM}
 use Rattle.base_refusals.specs.Outcome.{Outcome, went, Question, answers, NoValues, done}
 use Rattle.base_refusals.specs.Rows.{Row, row, by_rows}
@@ -11,8 +11,6 @@ use Rattle.record_layout.specs.declared.Model.{Model}
 use Rattle.record_layout.specs.declared.Model.TheVariants.{Ours, Third}
 use Rattle.record_layout.specs.declared.Kind.{Kind}
 use Rattle.record_layout.specs.declared.Kind.TheVariants.{Histogram, Queue}
-use Rattle.record_layout.specs.declared.Known.{Known}
-use Rattle.record_layout.specs.declared.Known.TheVariants.{Of, Unknown}
 
 -- ---- fields one after the other
 -- the numbers in so many fields of one width, one after the other
@@ -96,15 +94,15 @@ form_of (Queue model) =
 abbrev pub kind_number : Kind → ℕ
 kind_number kind = (form_of kind).number
 
--- the kinds that there are, and the one that has a number
+-- the kinds that there are, and the one that has a number, where one has
 abbrev pub kinds : List Kind
 kinds = Histogram Ours ∷ Queue Ours ∷ Histogram Third ∷ Queue Third ∷ []
 
-abbrev pub known_among : ℕ → List Kind → Known
-known_among number [] = Unknown
-known_among number (kind ∷ rest) = cond (eqb number (kind_number kind)) (Of kind) (known_among number rest)
+abbrev pub known_among : ℕ → List Kind → Option Kind
+known_among number [] = None
+known_among number (kind ∷ rest) = cond (eqb number (kind_number kind)) (Some kind) (known_among number rest)
 
-abbrev pub known_of : ℕ → Known
+abbrev pub known_of : ℕ → Option Kind
 known_of number = known_among number kinds
 
 -- the order of the bytes in a body's fields follows from the kind

@@ -4,10 +4,10 @@
 ghost use Rattle.std.specs.Prelude.{◌≡◌};
 ghost use Rattle.base_refusals.specs.Outcome.{said_by};
 ghost use Rattle.base_refusals.specs.Answer.{said};
-ghost use Rattle.record_layout.specs.Layout.{of_model, order_by, kind_number, known_of, order_of, can_be, frame_of, with_head};
+ghost use Rattle.record_layout.specs.Layout.{kind_number, known_of, order_of, can_be, frame_of, with_head};
 
 use base_fields::Order;
-use base_refusals::Answer;
+use base_refusals::{Answer, Refusal};
 
 // The bytes of the length, and of length and kind.
 pub const LENGTH_BYTES: usize = 4;
@@ -20,76 +20,43 @@ pub const HISTOGRAM_LENGTH: u64 = 4002;
 const QUEUE_LEAST: u64 = 10;
 
 // Whose records they are: our own, or those of the third model.
-#[derive(Clone, Copy)]
+#[derive(Clone, Copy, Debug, PartialEq, Eq)]
 pub enum Model {
     Ours,
     Third,
 }
 
 // The kinds of record.
-#[derive(Clone, Copy)]
+#[derive(Clone, Copy, Debug, PartialEq, Eq)]
 pub enum Kind {
     Histogram(Model),
     Queue(Model),
 }
 
-// The kind that has a number.
-#[derive(Clone, Copy)]
-pub enum Known {
-    Of(Kind),
-    Unknown,
-}
+// The number that stands for a kind in its records.
+impl From<Kind> for u64 {
+    ghost from_gives = { λ kind number. number ≡ kind_number kind };
 
-// What a writer answers: how many bytes the record has.
-#[derive(Clone, Copy)]
-pub enum Written {
-    Bytes(usize),
-    Refused(u8),
-}
-
-// Our number, or the third model's.
-fn of_model(model: Model, ours: u64, third: u64) -> u64
-    ensures { result ≡ of_model model ours third }
-{
-    match model {
-        Model::Ours => ours,
-        Model::Third => third,
+    fn from(kind: Kind) -> u64 {
+        match kind {
+            Kind::Histogram(Model::Ours) => 1,
+            Kind::Queue(Model::Ours) => 2,
+            Kind::Histogram(Model::Third) => 257,
+            Kind::Queue(Model::Third) => 258,
+        }
     }
 }
 
-fn kind_number(kind: Kind) -> u64
-    ensures { result ≡ kind_number kind }
-{
-    match kind {
-        Kind::Histogram(model) => of_model(model, 1, 257),
-        Kind::Queue(model) => of_model(model, 2, 258),
-    }
-}
-
-pub fn kind_of(number: u64) -> Known
+// The kind that has a number, where one has.
+pub fn kind_of(number: u64) -> Option<Kind>
     ensures { result ≡ known_of number }
 {
-    if number == 1 {
-        return Known::Of(Kind::Histogram(Model::Ours));
-    }
-    if number == 2 {
-        return Known::Of(Kind::Queue(Model::Ours));
-    }
-    if number == 257 {
-        return Known::Of(Kind::Histogram(Model::Third));
-    }
-    if number == 258 {
-        return Known::Of(Kind::Queue(Model::Third));
-    }
-    Known::Unknown
-}
-
-fn order_by(model: Model) -> Order
-    ensures { result ≡ order_by model }
-{
-    match model {
-        Model::Ours => Order::LowFirst,
-        Model::Third => Order::HighFirst,
+    match number {
+        1 => Some(Kind::Histogram(Model::Ours)),
+        2 => Some(Kind::Queue(Model::Ours)),
+        257 => Some(Kind::Histogram(Model::Third)),
+        258 => Some(Kind::Queue(Model::Third)),
+        _ => None,
     }
 }
 
@@ -97,9 +64,10 @@ fn order_by(model: Model) -> Order
 pub fn order_of(kind: Kind) -> Order
     ensures { result ≡ order_of kind }
 {
-    match kind {
-        Kind::Histogram(model) => order_by(model),
-        Kind::Queue(model) => order_by(model),
+    let (Kind::Histogram(model) | Kind::Queue(model)) = kind;
+    match model {
+        Model::Ours => Order::LowFirst,
+        Model::Third => Order::HighFirst,
     }
 }
 
@@ -118,20 +86,19 @@ pub fn frame(kind: Kind, bytes: &[u8]) -> Answer
     ensures { said result ≡ said_by (frame_of kind bytes.now) }
 {
     if bytes.len() < HEAD {
-        return Answer::Refused(base_refusals::LENGTH);
+        return Err(Refusal::LENGTH);
     }
-    if base_fields::number_at(bytes, LENGTH_BYTES, 2) != kind_number(kind) {
-        return Answer::Refused(base_refusals::KIND);
+    if base_fields::number_at(bytes, LENGTH_BYTES, 2) != u64::from(kind) {
+        return Err(Refusal::KIND);
     }
     let length = base_fields::number_at(bytes, 0, LENGTH_BYTES);
     if length != (bytes.len() - LENGTH_BYTES) as u64 {
-        return Answer::Refused(base_refusals::LENGTH);
+        return Err(Refusal::LENGTH);
     }
-    if can_be(kind, length) {
-        Answer::Done
-    } else {
-        Answer::Refused(base_refusals::LENGTH)
+    if !can_be(kind, length) {
+        return Err(Refusal::LENGTH);
     }
+    Ok(())
 }
 
 // The length and the kind go to the first places of an output that has room for them.
@@ -143,7 +110,7 @@ pub fn put_head(kind: Kind, length: u64, out: &mut [u8])
         base_fields::put_number(
             Order::LowFirst,
             &mut out[LENGTH_BYTES..HEAD],
-            kind_number(kind),
+            u64::from(kind),
         );
     }
 }

@@ -7,16 +7,16 @@ use lib.Dec.{eqb, ltb}
 use lib.ListN.{length}
 use Rattle.record_layout.specs.Layout.{kind_number, can_be, head_width, length_width, kind_in, length_in, frame_of}
 use Rattle.record_layout.proofs.frame.Goals as goal
-use Rattle.record_layout.proofs.frame.Goals.{After-can_be, Else-bytes-lt-HEAD, Else-length-bytes, Else-number_at-kind_number}
+use Rattle.record_layout.proofs.frame.Goals.{After-can_be, Else-bytes-lt-HEAD, Else-length-bytes, Else-number_at-from}
 
 -- ---- past each test
 long : (c : Else-bytes-lt-HEAD) → let bytes = c.args.bytes.now in ltb (length bytes) head_width ≡ false
 long c = le-ltb (length c.args.bytes.now) head_width c.if-bytes-lt-HEAD.false
 
-same_kind : (c : Else-number_at-kind_number) → let a = c.args in eqb (kind_in a.bytes.now) (kind_number a.kind) ≡ true
+same_kind : (c : Else-number_at-from) → let a = c.args in eqb (kind_in a.bytes.now) (kind_number a.kind) ≡ true
 same_kind c =
     let a = c.args in
-    eq-eqb (kind_in a.bytes.now) (kind_number a.kind) (sym c.number_at.ensures ∙ c.if-number_at-kind_number.false ∙ c.kind_number.ensures)
+    eq-eqb (kind_in a.bytes.now) (kind_number a.kind) (sym c.number_at.ensures ∙ c.if-number_at-from.false ∙ c.from.ensures)
 
 same_length : (c : Else-length-bytes) → let bytes = c.args.bytes.now in
     eqb (length_in bytes) (length bytes - length_width) ≡ true
@@ -28,23 +28,22 @@ pub returns-then-bytes-lt-HEAD : goal.returns-then-bytes-lt-HEAD
 unfolding frame_of
 returns-then-bytes-lt-HEAD c = rw (lt-ltb (length c.args.bytes.now) head_width c.if-bytes-lt-HEAD.true)
 
-pub returns-then-number_at-kind_number : goal.returns-then-number_at-kind_number
+pub returns-then-number_at-from : goal.returns-then-number_at-from
 unfolding frame_of
-returns-then-number_at-kind_number c =
+returns-then-number_at-from c =
     let a = c.args in
     rw (
-      long (goal.at.returns-then-number_at-kind_number c).Else-bytes-lt-HEAD,
-      ne_eqb (kind_in a.bytes.now) (kind_number a.kind) (λ e. c.if-number_at-kind_number.true (c.number_at.ensures ∙ e ∙ sym c.kind_number.ensures)),
+      long (goal.at.returns-then-number_at-from c).Else-bytes-lt-HEAD,
+      ne_eqb (kind_in a.bytes.now) (kind_number a.kind) (λ e. c.if-number_at-from.true (c.number_at.ensures ∙ e ∙ sym c.from.ensures)),
     )
 
 pub returns-then-length-bytes : goal.returns-then-length-bytes
 unfolding frame_of
 returns-then-length-bytes c =
-    let d = c in
-    let bytes = d.args.bytes.now in
+    let bytes = c.args.bytes.now in
     rw (
       long (goal.at.returns-then-length-bytes c).Else-bytes-lt-HEAD,
-      same_kind (goal.at.returns-then-length-bytes c).Else-number_at-kind_number,
+      same_kind (goal.at.returns-then-length-bytes c).Else-number_at-from,
       ne_eqb (length_in bytes) (length bytes - length_width) (λ e. c.if-length-bytes.true (c.number_at-length.ensures ∙ e)),
     )
 
@@ -55,16 +54,14 @@ ruled c =
     let a = c.args in
     ap (can_be a.kind) (sym c.number_at-length.ensures) ∙ sym c.can_be.ensures
 
-pub returns-then-can_be : goal.returns-then-can_be
+pub returns-then-not-can_be : goal.returns-then-not-can_be
 unfolding frame_of
-returns-then-can_be c =
-    let d = c in
-    let e = d in
-    rw (long (goal.at.returns-then-can_be c).Else-bytes-lt-HEAD, same_kind (goal.at.returns-then-can_be c).Else-number_at-kind_number, same_length (goal.at.returns-then-can_be c).Else-length-bytes, ruled (goal.at.returns-then-can_be c).After-can_be ∙ c.if-can_be.true)
+returns-then-not-can_be c =
+    let at = goal.at.returns-then-not-can_be c in
+    rw (long at.Else-bytes-lt-HEAD, same_kind at.Else-number_at-from, same_length at.Else-length-bytes, ruled at.After-can_be ∙ c.if-not-can_be.true)
 
-pub returns-else-can_be : goal.returns-else-can_be
+pub returns : goal.returns
 unfolding frame_of
-returns-else-can_be c =
-    let d = c in
-    let e = d in
-    rw (long (goal.at.returns-else-can_be c).Else-bytes-lt-HEAD, same_kind (goal.at.returns-else-can_be c).Else-number_at-kind_number, same_length (goal.at.returns-else-can_be c).Else-length-bytes, ruled (goal.at.returns-else-can_be c).After-can_be ∙ c.if-can_be.false)
+returns c =
+    let at = goal.at.returns c in
+    rw (long at.Else-bytes-lt-HEAD, same_kind at.Else-number_at-from, same_length at.Else-length-bytes, ruled at.After-can_be ∙ c.if-not-can_be.false)

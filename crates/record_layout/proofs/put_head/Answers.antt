@@ -12,7 +12,7 @@ returns-then-out-ge-HEAD c =
     let a = c.args in
     let field = take 2 (drop 4 (c.put_number.new.field ++ drop 4 a.out.now)) in
     head_put a.kind a.length a.out.now c.put_number.new.field c.put_number-then-out-ge-HEAD.new.field (omega arith) c.put_number.ensures
-    (c.put_number-then-out-ge-HEAD.ensures ∙ ap (low_bytes (length field)) c.kind_number.ensures)
+    (c.put_number-then-out-ge-HEAD.ensures ∙ ap (low_bytes (length field)) c.from.ensures)
 
 pub returns-else-out-ge-HEAD : goal.returns-else-out-ge-HEAD
 returns-else-out-ge-HEAD c = let a = c.args in sym (no_head a.kind a.length a.out.now c.if-out-ge-HEAD.false)
