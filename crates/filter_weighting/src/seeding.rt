@@ -2,46 +2,41 @@
 ghost use Rattle.std.specs.Prelude.{◌≡◌};
 ghost use Rattle.base_refusals.specs.Answer.{said};
 ghost use Rattle.base_refusals.specs.Outcome.{said_by, kept_by};
-ghost use Rattle.samples.specs.Source.{source_of};
+ghost use Rattle.samples.specs.Sample.{samples_by};
 ghost use Rattle.filter_recurrence.specs.Channels.{weighing_of};
 ghost use Rattle.filter_weighting.specs.Seeding.{moved};
 
+use base_refusals::Answer;
 use filter_recurrence::Coefficients;
 use filter_recurrence::states::State;
+use samples::Sample;
 
 // What a call answers, beside the state. A refused call leaves it as given.
 #[derive(Clone, Copy)]
 pub struct Seeded {
-    pub answer: base_refusals::Answer,
+    pub answer: Answer,
     pub state: State,
 }
 
-// One call over interleaved samples, of one kind: integers, or floats where there are no integers. A map byte of 0 is an unused channel, 1 a used one.
-pub fn seed(
+// One call over interleaved samples of one kind. A map byte of 0 is an unused channel, 1 a used one.
+pub fn seed<S: Sample>(
     c: Coefficients,
     s: State,
     channels: usize,
-    ints: &[i16],
-    floats: &[f32],
+    samples: &[S],
     map: &[u8],
 ) -> Seeded
-    ensures answer_value { said result.answer ≡ said_by (moved (weighing_of c s channels (source_of ints.now floats.now) map.now)) }
-    ensures state_value { result.state ≡ kept_by s (moved (weighing_of c s channels (source_of ints.now floats.now) map.now)) }
+    ensures answer_value { said result.answer ≡ said_by (moved (weighing_of c s channels (samples_by S.in_f64 samples.now) map.now)) }
+    ensures state_value { result.state ≡ kept_by s (moved (weighing_of c s channels (samples_by S.in_f64 samples.now) map.now)) }
 {
-    let samples = samples::sources::size_of(ints, floats);
-    let number = filter_checks::refused_seed(channels, samples, map);
-    if number != 0 {
-        return Seeded {
-            answer: base_refusals::Answer::Refused(number),
-            state: s,
-        };
-    }
-    let frames = samples / channels;
-    let a = c.a;
     let mut state = s.values;
-    crate::seeding_channels::advance_all(a, &mut state, channels, frames, ints, floats, map);
+    let answer = filter_checks::refused_seed(channels, samples.len(), map);
+    if answer.is_ok() {
+        let frames = samples.len() / channels;
+        crate::seeding_channels::advance_all(c.a, &mut state, channels, frames, samples, map);
+    }
     Seeded {
-        answer: base_refusals::Answer::Done,
+        answer: answer,
         state: State { values: state },
     }
 }

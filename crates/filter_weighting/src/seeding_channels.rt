@@ -2,12 +2,13 @@
 ghost use Rattle.std.specs.Prelude.{◌≡◌, cond, ◌*◌, ◌<◌, ◌≤◌, length};
 ghost use Rattle.samples.specs.Frames.{column, most_channels};
 ghost use Rattle.filter_checks.specs.Calls.{used};
-ghost use Rattle.samples.specs.Source.{source_of};
+ghost use Rattle.samples.specs.Sample.{samples_by};
 ghost use Rattle.samples.specs.Stretches.{Reach, Whole};
 ghost use Rattle.filter_recurrence.specs.Recurrence.{after, flushed};
 ghost use Rattle.filter_recurrence.specs.Channels.{memory_of, with_memory, over_used};
 
 use filter_recurrence::Memory;
+use samples::Sample;
 
 // One channel's frames of a run: its memory after them.
 fn advance(
@@ -25,7 +26,7 @@ fn advance(
     let mut left = count;
     let mut i = first;
     while 0 < left {
-        w = filter_recurrence::shifted(w, filter_recurrence::head_of(a, w, samples[i]));
+        w = w.shifted(w.head(a, samples[i]));
         i += step;
         left -= 1;
     }
@@ -48,15 +49,8 @@ fn advance_channel(
     if byte == 0 {
         return;
     }
-    let m = advance(
-        a,
-        filter_recurrence::states::load(state, k),
-        samples,
-        k,
-        channels,
-        count,
-    );
-    filter_recurrence::states::store(state, k, m);
+    let m = Memory::load(state, k);
+    advance(a, m, samples, k, channels, count).store(state, k);
 }
 
 // Every channel's memory after its frames of a run.
@@ -80,28 +74,25 @@ fn advance_run(
 }
 
 // Every channel's memory after its frames, flushed at the end of the call.
-pub(crate) fn advance_all(
+pub(crate) fn advance_all<S: Sample>(
     a: [f64; 5],
     state: &mut [f64; 40],
     channels: usize,
     frames: usize,
-    ints: &[i16],
-    floats: &[f32],
+    samples: &[S],
     map: &[u8],
 )
-    requires whole { Whole channels frames (length (source_of ints.now floats.now)) }
+    requires whole { Whole channels frames (length samples.now) }
     requires channels_value { channels ≡ length map.now }
-    ensures { let src = source_of ints.now floats.now in
+    ensures { let src = samples_by S.in_f64 samples.now in
         state.new ≡ over_used (λ k m. flushed (after a m (column src k channels frames))) map.now 0 state.old }
 {
-    // As a slice the state is known to have its places.
-    let _places = &state[..];
     let mut run: [f64; samples::sources::RUN] = [0.0; samples::sources::RUN];
     let most = samples::sources::RUN / channels;
     let mut done = 0;
     while done < frames {
         let count = samples::fills::shorter(frames - done, most);
-        samples::sources::fill(&mut run, ints, floats, done * channels);
+        samples::fills::fill(&mut run, &samples[done * channels..]);
         advance_run(a, state, channels, count, &run, map);
         done += count;
     }

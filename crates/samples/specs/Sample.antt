@@ -25,3 +25,7 @@ samples_of16 samples = map sample_of16 samples
 
 abbrev pub samples_of_f32 : List Float → List Float
 samples_of_f32 samples = map sample_of_f32 samples
+
+-- the same by a kind's own conversion (`Sample`)
+abbrev pub samples_by : {A : Type 0} → (A → Float) → List A → List Float
+samples_by float samples = map float samples
