@@ -13,6 +13,10 @@ entry_of f [] i d e h = absurd (not-suc-le-zero h)
 entry_of f (x ∷ l) zero d e h = refl
 entry_of f (x ∷ l) (suc i) d e h = entry_of f l i d e (le_of_suc-le-suc h)
 
+-- the float of an entry that was read
+pub read_as : {A : Type 0} (f : A → Float) (l : List A) (i : ℕ) (x : A) (e : Float) → i < length l → x ≡ get_or l i x → f x ≡ get_or (map f l) i e
+read_as f l i x e h r = ap f r ∙ sym (entry_of f l i x e h)
+
 -- ---- columns
 
 -- a place within a list does not depend on what stands past its end

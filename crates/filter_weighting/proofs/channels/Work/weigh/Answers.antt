@@ -9,8 +9,8 @@ use Rattle.samples.specs.Source.{source_of}
 use Rattle.samples.proofs.Chosen.{source_below}
 use Rattle.filter_recurrence.specs.Recurrence.{next, out}
 use Rattle.filter_weighting.proofs.Single.{turn, here, following, twice, end}
-use Rattle.filter_weighting.proofs.channels.weigh.Goals as goal
-use Rattle.filter_weighting.proofs.channels.weigh.Goals.{In-loop-left}
+use Rattle.filter_weighting.proofs.channels.Work.weigh.Goals as goal
+use Rattle.filter_weighting.proofs.channels.Work.weigh.Goals.{In-loop-left}
 
 pub overflow_mul-j : goal.overflow_mul-j
 overflow_mul-j c = let s = c in omega (arith, s.requires.frames_in_bounds)

@@ -5,7 +5,7 @@ use Rattle.samples.specs.Frames.{column}
 use Rattle.samples.specs.Source.{source_of}
 use Rattle.filter_recurrence.specs.Recurrence.{after, outs}
 use Rattle.filter_weighting.proofs.Single.{Single}
-use Rattle.filter_weighting.proofs.channels.weigh.Given as goal
+use Rattle.filter_weighting.proofs.channels.Work.weigh.Given as goal
 
 abbrev pub invariant-loop-left : goal.invariant-loop-left
 invariant-loop-left l =

@@ -13,8 +13,8 @@ use Rattle.filter_weighting.specs.declared.channels.Work.{Work}
 use Rattle.filter_weighting.specs.Weighting.{Kept}
 use Rattle.filter_weighting.specs.Inner.{Parts, memory_in, kept_of, weigh_one}
 use Rattle.filter_weighting.proofs.Separate.{by_themselves}
-use Rattle.filter_weighting.proofs.channels.weigh_all.Goals as goal
-use Rattle.filter_weighting.proofs.channels.weigh_all.Goals.{After-weigh_next-k, At-loop-k, Start}
+use Rattle.filter_weighting.proofs.channels.Work.weigh_all.Goals as goal
+use Rattle.filter_weighting.proofs.channels.Work.weigh_all.Goals.{After-weigh_next-k, At-loop-k, Start}
 
 -- the same parts in a destination as long
 still : (work : Work) (mapped n n' : ℕ) → Parts work mapped n → n' ≡ n → Parts work mapped n'

@@ -4,7 +4,7 @@ use lib.ListN.{length, drop}
 use Rattle.samples.specs.Source.{source_of}
 use Rattle.filter_recurrence.specs.Channels.{each_used}
 use Rattle.filter_weighting.specs.Inner.{kept_of, weigh_one}
-use Rattle.filter_weighting.proofs.channels.weigh_all.Given as goal
+use Rattle.filter_weighting.proofs.channels.Work.weigh_all.Given as goal
 
 abbrev pub invariant-loop-k : goal.invariant-loop-k
 invariant-loop-k l =

@@ -7,7 +7,7 @@ use Rattle.filter_recurrence.specs.declared.Memory.{Memory}
 use Rattle.filter_recurrence.specs.Channels.{with_memory}
 use Rattle.samples.specs.Source.{source_of}
 use Rattle.filter_weighting.specs.Inner.{memory_in, outs_in, place_of, kept_of}
-use Rattle.filter_weighting.proofs.channels.weigh_channel.Goals as goal
+use Rattle.filter_weighting.proofs.channels.Work.weigh_channel.Goals as goal
 
 pub returns : goal.returns
 returns c =

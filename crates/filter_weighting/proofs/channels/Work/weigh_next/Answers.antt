@@ -11,8 +11,8 @@ use Rattle.samples.proofs.Reaching.{reach_start}
 use Rattle.samples.specs.Source.{source_of}
 use Rattle.filter_weighting.specs.Inner.{place_of, kept_of, weigh_one}
 use Rattle.filter_weighting.proofs.Destinations.{part_ends}
-use Rattle.filter_weighting.proofs.channels.weigh_next.Goals as goal
-use Rattle.filter_weighting.proofs.channels.weigh_next.Goals.{Start, Then-both_used}
+use Rattle.filter_weighting.proofs.channels.Work.weigh_next.Goals as goal
+use Rattle.filter_weighting.proofs.channels.Work.weigh_next.Goals.{Start, Then-both_used}
 
 -- the places of channel k, and of the one after it
 inside : (c : Start) (j : ℕ) → j < c.args.work.channels → place_of c.args.work j + c.args.work.frames ≤ length c.args.dest.now

@@ -7,7 +7,7 @@ use Rattle.filter_recurrence.specs.Channels.{memory_of, with_memory}
 use Rattle.samples.specs.Source.{source_of}
 use Rattle.filter_weighting.specs.Inner.{memory_in, outs_in, place_of, kept_of}
 use Rattle.filter_weighting.proofs.Pairs.{pair_is}
-use Rattle.filter_weighting.proofs.channels.weigh_pair.Goals as goal
+use Rattle.filter_weighting.proofs.channels.Work.weigh_pair.Goals as goal
 
 pub overflow_add-k-2 : goal.overflow_add-k-2
 overflow_add-k-2 c =

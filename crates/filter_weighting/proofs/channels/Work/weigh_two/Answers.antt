@@ -8,8 +8,8 @@ use Rattle.samples.specs.Source.{source_of}
 use Rattle.samples.proofs.Chosen.{source_below}
 use Rattle.filter_weighting.specs.Inner.{place_of}
 use Rattle.filter_weighting.proofs.Pairs.{both_start, both_here, both_next, both_turn, both_twice, both_end}
-use Rattle.filter_weighting.proofs.channels.weigh_two.Goals as goal
-use Rattle.filter_weighting.proofs.channels.weigh_two.Goals.{In-loop-left}
+use Rattle.filter_weighting.proofs.channels.Work.weigh_two.Goals as goal
+use Rattle.filter_weighting.proofs.channels.Work.weigh_two.Goals.{In-loop-left}
 
 pub overflow_mul-j : goal.overflow_mul-j
 overflow_mul-j c = let s = c in omega (arith, s.requires.frames_le_part.1)

@@ -6,7 +6,7 @@ use Rattle.samples.specs.Frames.{column}
 use Rattle.samples.specs.Source.{source_of}
 use Rattle.filter_recurrence.specs.Recurrence.{after, outs}
 use Rattle.filter_weighting.proofs.Pairs.{Both}
-use Rattle.filter_weighting.proofs.channels.weigh_two.Given as goal
+use Rattle.filter_weighting.proofs.channels.Work.weigh_two.Given as goal
 
 abbrev pub invariant-loop-left : goal.invariant-loop-left
 invariant-loop-left l =
