@@ -2,6 +2,7 @@
 use Rattle.std.specs.Prelude.{false, Float}
 use Rattle.std.specs.Float.{binary64}
 use Rattle.std.specs.Float.Ieee.{mul, round}
+use Rattle.base_refusals.specs.Refusal.{number}
 use Rattle.base_refusals.specs.Outcome.{Said, says, refusal}
 use Rattle.gate.specs.declared.blocks.Totals.{Totals}
 use Rattle.gate.specs.Totals.{mean_of}
@@ -19,7 +20,7 @@ abbrev pub said : Answer → Said Span
 said (Found low high) = says (found low high)
 said Nothing = says nothing
 said NotANumber = says not_a_number
-said (Refused n) = refusal n
+said (Refused r) = refusal (number r)
 
 -- the f64 nearest 1/100: 20 LU down
 unfoldable pub hundredth : Float
