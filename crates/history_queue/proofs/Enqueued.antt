@@ -8,18 +8,13 @@ use native.Mathlib.Omega.{arith}
 use borrow.Author.Tests.{lt-ltb, le-ltb}
 use lib.ListN.{length, set}
 use lib.Ieee.{Float}
-use Rattle.base_refusals.specs.declared.Refusal.TheVariants.{STORE}
-use Rattle.base_refusals.specs.Outcome.{went, refused, done}
+use Rattle.base_refusals.specs.Outcome.{went, done}
 use Rattle.bins.specs.Energy.{dropped}
 use Rattle.history_queue.specs.declared.Queue.{Queue}
 use Rattle.history_queue.specs.Queue.{over, suits}
 use Rattle.history_queue.specs.Adding.{next_place, advanced, enqueued}
 
 module _ (queue : Queue) (store : List Float) (energy : Float) where
-  pub enqueue_store : suits queue (length store) ≡ false → enqueued (over queue store) energy ≡ refused STORE
-  unfolding enqueued
-  enqueue_store h = rw h
-
   pub enqueue_dropped : suits queue (length store) ≡ true → dropped energy ≡ true → enqueued (over queue store) energy ≡ went (over queue store) done
   unfolding enqueued
   enqueue_dropped h d = rw (h, d)

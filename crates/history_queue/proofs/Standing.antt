@@ -6,7 +6,7 @@ use mathlib.Core.List.{List, [], ◌∷◌, ◌++◌}
 use Prim.Native.Nat.{ℕ, zero, suc, ◌+◌, ◌-◌, ◌≤◌, ◌<◌}
 use native.Mathlib.Numerals.{add-one}
 use native.Mathlib.Omega.{arith}
-use borrow.Author.Tests.{not-true, lt-ltb, le-ltb, ltb-false}
+use borrow.Author.Tests.{not-true, le-ltb, ltb-false}
 use lib.Dec.{ltb}
 use lib.ListN.{length, get_or, take, drop, length-take, length-drop}
 use lib.Seq.{drop-cons, take-take, take_all, drop-drop, take-nil}
@@ -39,9 +39,6 @@ slice_end l i until h = ap (λ (n : ℕ). take n (drop i l)) {x = until - i} {y 
 
 -- ---- whether a store stands
 module _ (queue : Queue) (start places : ℕ) where
-  pub outside : places < start + queue.maximum → stands queue start places ≡ false
-  outside h = rw (lt-ltb places (start + queue.maximum) h)
-
   pub inside : start + queue.maximum ≤ places → stands queue start places ≡ suits queue queue.maximum
   inside h = rw (le-ltb places (start + queue.maximum) h)
 

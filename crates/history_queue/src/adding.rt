@@ -15,7 +15,7 @@ pub struct Queued {
     pub queue: Queue,
 }
 
-// The place on the ring of a store: no more than one turn too far.
+// The place on the ring of a store, from one that is no more than a turn too far. A choice of two numbers, which is quicker than a remainder.
 fn on_ring(place: usize, maximum: usize) -> usize
     requires { place < maximum + maximum }
     ensures { result ≡ place % maximum }
@@ -27,58 +27,40 @@ fn on_ring(place: usize, maximum: usize) -> usize
     }
 }
 
-// The place after the head, on the ring: after the last place comes the first.
-fn after(head: usize, maximum: usize) -> usize
-    requires { head < maximum }
-    ensures { result ≡ (head + 1) % maximum }
-{
-    let next = head + 1;
-    if next < maximum {
-        return next;
-    }
-    0
-}
-
 // The energy is the newest in the queue, and takes the place of a full queue's oldest. Below boundary 0 the energy is dropped.
+#[tactic(auto, using(crate::proofs::Ring::suited), unfolding(crate::specs::Adding::enqueued))]
 pub fn add(queue: Queue, store: &mut [f64], energy: f64) -> Queued
     ensures { (said result.answer ≡ said_by (enqueued (over queue store.old) energy))
         × (over result.queue store.new ≡ kept_by (over queue store.old) (enqueued (over queue store.old) energy)) }
 {
-    if queue.suits(store.len()) {
-        if energy < bins::lowest_boundary() {
-            return Queued {
-                answer: Ok(()),
-                queue,
-            };
-        }
-        let maximum = queue.maximum;
-        let head = queue.head;
-        let held = queue.held;
-        if held < maximum {
-            let place = on_ring(head + held, maximum);
-            store[place] = energy;
-            return Queued {
-                answer: Ok(()),
-                queue: Queue {
-                    maximum,
-                    head,
-                    held: held + 1,
-                },
-            };
-        }
-        store[head] = energy;
-        Queued {
-            answer: Ok(()),
-            queue: Queue {
-                maximum,
-                head: after(head, maximum),
-                held,
-            },
-        }
-    } else {
-        Queued {
+    if !queue.suits(store.len()) {
+        return Queued {
             answer: Err(Refusal::STORE),
             queue,
+        };
+    }
+    if energy < bins::lowest_boundary() {
+        return Queued {
+            answer: Ok(()),
+            queue,
+        };
+    }
+    let maximum = queue.maximum;
+    let queue = if queue.held < maximum {
+        store[on_ring(queue.head + queue.held, maximum)] = energy;
+        Queue {
+            held: queue.held + 1,
+            ..queue
         }
+    } else {
+        store[queue.head] = energy;
+        Queue {
+            head: on_ring(queue.head + 1, maximum),
+            ..queue
+        }
+    };
+    Queued {
+        answer: Ok(()),
+        queue,
     }
 }

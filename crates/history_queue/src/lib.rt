@@ -46,62 +46,44 @@ impl Queue {
     }
 
     // Whether a store of `length` places is this queue's.
+    #[tactic(auto, unfolding(crate::specs::Queue::suits))]
     pub fn suits(self, length: usize) -> bool
         ensures { result ≡ suits self length }
     {
-        if self.maximum < 1 {
-            return false;
-        }
-        if self.maximum > LONGEST {
-            return false;
-        }
-        if self.maximum != length {
-            return false;
-        }
-        if self.head >= self.maximum {
-            return false;
-        }
-        self.held <= self.maximum
+        1 <= self.maximum
+            && self.maximum <= LONGEST
+            && self.maximum == length
+            && self.head < self.maximum
+            && self.held <= self.maximum
     }
 
     // How many of the held energies stand between the head and the end of the store. The others stand at its start.
     fn first_part(self) -> usize
         ensures { result ≡ first_part self }
     {
-        if self.maximum < self.head {
-            return 0;
-        }
-        let room = self.maximum - self.head;
-        if self.held <= room { self.held } else { room }
+        self.held.min(self.maximum.saturating_sub(self.head))
     }
 
     // Whether the queue's store, which starts at a place, suits it and ends within so many places.
     fn stands(self, start: usize, places: usize) -> bool
         ensures { result ≡ stands self start places }
     {
-        if places < start {
-            return false;
-        }
-        if places - start < self.maximum {
-            return false;
-        }
-        self.suits(self.maximum)
+        start <= places && self.maximum <= places - start && self.suits(self.maximum)
     }
 
     // Where the held energies stand then: the older ones up to the end of the store, the newer ones from its start. Nowhere if it does not.
+    #[tactic(auto, using(crate::proofs::Standing::stands_well), unfolding(crate::specs::Queue::parts_of))]
     pub fn parts(self, start: usize, places: usize) -> Parts
         ensures { result ≡ parts_of self start places }
     {
-        let head = self.head;
-        let held = self.held;
         if self.stands(start, places) {
             let first = self.first_part();
-            let from = start + head;
+            let from = start + self.head;
             return Parts {
                 from,
                 until: from + first,
                 start,
-                end: start + (held - first),
+                end: start + (self.held - first),
             };
         }
         Parts {
