@@ -22,37 +22,26 @@ use Rattle.bins.specs.Energy.{dropped}
 use Rattle.history_set.specs.declared.set.Entry.{Entry}
 use Rattle.history_set.specs.declared.set.Shape.{Shape}
 use Rattle.history_set.specs.declared.set.Shape.TheVariants.{Histogram, Queue as Queue-at}
-use Rattle.history_queue.specs.declared.Parts.{Parts}
-use Rattle.history_queue.specs.Queue.{suits, held_of, slice}
+use Rattle.history_queue.specs.Queue.{suits, held_of}
 use Rattle.history_set.specs.Set.{queue_at, store_end, stores_inside, none_below, shape_sound, is_sound, all_sound, shows, shape_shows, all_show}
-use Rattle.history_set.proofs.Entries.{past_the_last, both, either_not, every_at, next_entry, all_end, shows_next, shows_end, none_below_append}
-use Rattle.history_set.proofs.Slices.{slice_length, slice_next, slice_end}
+use Rattle.std.proofs.lemmas.List.{drop_more}
+use Rattle.std.proofs.Math.ListN.{drop_of_length-le}
+use Rattle.history_set.proofs.Entries.{past_the_last, both, either_not, every_at, all_end, shows_next, shows_end, none_below_append}
 use Rattle.order_rules.specs.Order.{all_above}
 use Rattle.range_queues.specs.declared.Seen.{Seen}
 use Rattle.range_queues.specs.Listed.{held_by, all_held, any_nan}
 use Rattle.range_queues.specs.Inner.{held_in, held_at, suits_at, with_seen}
 use Rattle.range_queues.proofs.Copying.{sets_append}
-use Rattle.range_queues.proofs.Standing.{StandIn}
 
--- ---- NaN in a part
-module _ (l : List Float) (i until : ℕ) where
-  pub nan_turn : (found : Bool) (d : Float) → i < until → until ≤ length l
-      → (found || ne (get_or l i d) (get_or l i d)) || any_nan (slice (i + 1) until l) ≡ found || any_nan (slice i until l)
+-- ---- NaN among the energies that are left
+module _ (l : List Float) (i : ℕ) (found : Bool) where
+  pub nan_turn : (d : Float) → i < length l → (found || ne (get_or l i d) (get_or l i d)) || any_nan (drop (i + 1) l) ≡ found || any_nan (drop i l)
   unfolding any_nan
-  nan_turn found d h g = rw (or_assoc, slice_next l i until d h g, differs (get_or l i d))
+  nan_turn d h = rw (or_assoc, drop_more l i d h, differs (get_or l i d))
 
-  pub nan_end : (found : Bool) → until ≤ i → found || any_nan (slice i until l) ≡ found
+  pub nan_end : length l ≤ i → found || any_nan (drop i l) ≡ found
   unfolding any_nan
-  nan_end found h = rw (slice_end l i until h) (or-false found)
-
--- ---- a slice that is copied
-module _ (work l : List Float) (place i until : ℕ) where
-  pub copy_turn : (d : Float) → i < until → until ≤ length l → sets (set work place (get_or l i d)) (place + 1) (slice (i + 1) until l) ≡ sets work place (slice i until l)
-  copy_turn d h g =
-      ap (λ (n : ℕ). sets (set work place (get_or l i d)) n (slice (i + 1) until l)) (add-one place) ∙ sym (ap (sets work place) (slice_next l i until d h g))
-
-  pub copy_end : until ≤ i → sets work place (slice i until l) ≡ work
-  copy_end h = ap (sets work place) (slice_end l i until h)
+  nan_end h = rw (drop_of_length-le l h) (or-false found)
 
 -- ---- what was seen, and then more
 nan_append : (a b : List Float) → any_nan (a ++ b) ≡ any_nan a || any_nan b
@@ -73,8 +62,7 @@ unfolding none_below any_nan
 seen_none seen = sym (seen_is seen [] seen.blocks seen.fine seen.nan (omega arith) (sym (and-true seen.fine)) (sym (or-false seen.nan)))
 
 -- ---- an entry that is inside and sound
-pub store_at : (energies : ℕ) (l : List Entry) (count i : ℕ) → i < count → count ≤ length l → stores_inside energies (take count l)
-    → store_end (get_or l i past_the_last).shape ≤ energies
+pub store_at : (energies : ℕ) (l : List Entry) (i : ℕ) → i < length l → stores_inside energies l → store_end (get_or l i past_the_last).shape ≤ energies
 store_at energies = every_at (λ entry. store_end entry.shape ≤ energies)
 
 pub suits_sound : (energies : List Float) (s : Shape) → shape_sound energies s ≡ true → suits_at s ≡ true
@@ -93,72 +81,60 @@ unsound energies (Queue-at start queue) true h = rw h
 unsound energies (Queue-at start queue) false h = refl
 
 -- ---- entry by entry
-module _ (energies : List Float) (l : List Entry) (count i : ℕ) where
-  pub held_end : count ≤ i → held_in energies (drop i (take count l)) ≡ []
+module _ (energies : List Float) (l : List Entry) (i : ℕ) where
+  pub held_end : length l ≤ i → held_in energies (drop i l) ≡ []
   unfolding all_held
-  held_end h = ap all_held (shows_end [] energies l count i h)
+  held_end h = ap all_held (shows_end [] energies l i h)
 
-  held_next : i < count → count ≤ length l
-      → held_in energies (drop i (take count l)) ≡ held_by (shows [] energies (get_or l i past_the_last)) ++ held_in energies (drop (i + 1) (take count l))
+  held_next : i < length l
+      → held_in energies (drop i l) ≡ held_by (shows [] energies (get_or l i past_the_last)) ++ held_in energies (drop (i + 1) l)
   unfolding all_held
-  held_next h g = ap all_held (shows_next [] energies l count i h g)
+  held_next h = ap all_held (shows_next [] energies l i h)
 
-  pub held_count : i < count → count ≤ length l
-      → length (held_in energies (drop i (take count l))) ≡ length (held_at energies (get_or l i past_the_last)) + length (held_in energies (drop (i + 1) (take count l)))
-  held_count h g =
-      ap length (held_next h g) ∙ length-append (held_at energies (get_or l i past_the_last)) (held_in energies (drop (i + 1) (take count l)))
+  pub held_count : i < length l
+      → length (held_in energies (drop i l)) ≡ length (held_at energies (get_or l i past_the_last)) + length (held_in energies (drop (i + 1) l))
+  held_count h =
+      ap length (held_next h) ∙ length-append (held_at energies (get_or l i past_the_last)) (held_in energies (drop (i + 1) l))
 
-  pub sound_next : i < count → count ≤ length l → (fine : Bool)
-      → (fine && is_sound energies (get_or l i past_the_last)) && all_sound energies (drop (i + 1) (take count l)) ≡ fine && all_sound energies (drop i (take count l))
+  pub sound_next : i < length l → (fine : Bool)
+      → (fine && is_sound energies (get_or l i past_the_last)) && all_sound energies (drop (i + 1) l) ≡ fine && all_sound energies (drop i l)
   unfolding all_sound
-  sound_next h g fine = rw (and_assoc, next_entry l count i past_the_last h g)
+  sound_next h fine = rw (and_assoc, drop_more l i past_the_last h)
 
-  pub sound_end : count ≤ i → (fine : Bool) → fine && all_sound energies (drop i (take count l)) ≡ fine
-  sound_end h fine = rw (all_end energies l count i h) (and-true fine)
+  pub sound_end : length l ≤ i → (fine : Bool) → fine && all_sound energies (drop i l) ≡ fine
+  sound_end h fine = rw (all_end energies l i h) (and-true fine)
 
-  pub seen_next : i < count → count ≤ length l → (before seen : Seen) → seen ≡ with_seen before (held_at energies (get_or l i past_the_last))
-      → with_seen seen (held_in energies (drop (i + 1) (take count l))) ≡ with_seen before (held_in energies (drop i (take count l)))
-  seen_next h g before seen e =
-      let rest = held_in energies (drop (i + 1) (take count l)) in
+  pub seen_next : i < length l → (before seen : Seen) → seen ≡ with_seen before (held_at energies (get_or l i past_the_last))
+      → with_seen seen (held_in energies (drop (i + 1) l)) ≡ with_seen before (held_in energies (drop i l))
+  seen_next h before seen e =
+      let rest = held_in energies (drop (i + 1) l) in
       ap (λ (s : Seen). with_seen s rest) e
       ∙ seen_append before (held_at energies (get_or l i past_the_last)) rest
-      ∙ ap (with_seen before) (sym (held_next h g))
+      ∙ ap (with_seen before) (sym (held_next h))
 
   -- this entry's energies are stored, and then those of the others
-  pub held_set : i < count → count ≤ length l → (work next : List Float) (at after : ℕ) → next ≡ sets work at (held_at energies (get_or l i past_the_last))
+  pub held_set : i < length l → (work next : List Float) (at after : ℕ) → next ≡ sets work at (held_at energies (get_or l i past_the_last))
       → after ≡ at + length (held_at energies (get_or l i past_the_last))
-      → sets next after (held_in energies (drop (i + 1) (take count l))) ≡ sets work at (held_in energies (drop i (take count l)))
-  held_set h g work next at after e f =
+      → sets next after (held_in energies (drop (i + 1) l)) ≡ sets work at (held_in energies (drop i l))
+  held_set h work next at after e f =
       let here = held_at energies (get_or l i past_the_last) in
-      let rest = held_in energies (drop (i + 1) (take count l)) in
+      let rest = held_in energies (drop (i + 1) l) in
       ap (λ (w : List Float). sets w after rest) e
       ∙ ap (λ (n : ℕ). sets (sets work at here) n rest) f
       ∙ sym (sets_append work here rest at)
-      ∙ ap (sets work at) (sym (held_next h g))
+      ∙ ap (sets work at) (sym (held_next h))
 
 -- ---- the two parts of an entry
-module _ (energies : List Float) (entry : Entry) (p : Parts) (s : StandIn energies entry.shape p) where
-  abbrev older : List Float
-  older = slice p.from p.until energies
-
-  abbrev newer : List Float
-  newer = slice p.start p.end energies
-
-  pub parts_count : length (held_at energies entry) ≡ p.until - p.from + (p.end - p.start)
-  parts_count =
-      ap length s.held
-      ∙ length-append older newer
-      ∙ omega (arith, slice_length p.from p.until energies s.places.inside, slice_length p.start p.end energies s.places.within)
+module _ (energies : List Float) (entry : Entry) (older newer : List Float) (is : older ++ newer ≡ held_at energies entry) where
+  pub parts_count : length (held_at energies entry) ≡ length older + length newer
+  parts_count = ap length (sym is) ∙ length-append older newer
 
   pub parts_seen : (before a b : Seen) → a ≡ with_seen before older → b ≡ with_seen a newer → b ≡ with_seen before (held_at energies entry)
-  parts_seen before a b f g =
-      g ∙ ap (λ (s : Seen). with_seen s newer) f ∙ seen_append before older newer ∙ ap (with_seen before) (sym s.held)
+  parts_seen before a b f g = g ∙ ap (λ (s : Seen). with_seen s newer) f ∙ seen_append before older newer ∙ ap (with_seen before) is
 
-  pub parts_set : (work : List Float) (at middle : ℕ) → middle ≡ at + (p.until - p.from) → sets (sets work at older) middle newer ≡ sets work at (held_at energies entry)
+  pub parts_set : (work : List Float) (at middle : ℕ) → middle ≡ at + length older → sets (sets work at older) middle newer ≡ sets work at (held_at energies entry)
   parts_set work at middle e =
-      ap (λ (n : ℕ). sets (sets work at older) n newer) {x = middle} {y = at + length older} (omega (arith, e, slice_length p.from p.until energies s.places.inside))
-      ∙ sym (sets_append work older newer at)
-      ∙ ap (sets work at) (sym s.held)
+      ap (λ (n : ℕ). sets (sets work at older) n newer) e ∙ sym (sets_append work older newer at) ∙ ap (sets work at) is
 
 -- counters play no part
 pub held_any : (counters : List ℕ) (energies : List Float) (l : List Entry) → held_in energies l ≡ all_held (all_show counters energies l)

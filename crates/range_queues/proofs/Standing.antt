@@ -1,11 +1,10 @@
 -- Where the energies of an entry stand: those of a queue in two parts of the lent energies, those of a histogram nowhere. Assumes nothing.
-use mathlib.Core.Path.{◌≡◌, refl, sym, ap, subst, ◌∙◌}
+use mathlib.Core.Path.{◌≡◌, refl, sym}
 use mathlib.Core.Bool.{true}
 use mathlib.Core.List.{List, []}
 use Prim.Native.Nat.{◌≤◌}
 use lib.ListN.{length}
 use lib.Ieee.{Float}
-use Rattle.history_queue.specs.declared.Parts.{Parts}
 use Rattle.history_queue.specs.Queue.{in_parts}
 use Rattle.history_queue.proofs.Standing.{Within, nowhere_within, parts_within}
 use Rattle.history_set.specs.declared.set.Shape.{Shape}
@@ -15,14 +14,13 @@ use Rattle.history_set.proofs.Slices.{held_slices}
 use Rattle.range_queues.specs.Listed.{held_by}
 use Rattle.range_queues.specs.Inner.{suits_at, parts_at}
 
-pub record StandIn (energies : List Float) (shape : Shape) (parts : Parts) : Type 0 where
-  pub places : Within parts (length energies)
-  pub held : held_by (shape_shows [] energies shape) ≡ in_parts parts energies
+-- the places of an entry's parts are within the energies
+pub within_parts : (energies : List Float) (shape : Shape) → Within (parts_at shape (length energies)) (length energies)
+within_parts energies (Histogram start) = nowhere_within (length energies)
+within_parts energies (Queue-at start queue) = parts_within queue start (length energies) (parts_at (Queue-at start queue) (length energies)) refl
 
-pub stand_in : (energies : List Float) (shape : Shape) (parts : Parts) → parts ≡ parts_at shape (length energies) → store_end shape ≤ length energies
-    → suits_at shape ≡ true → StandIn energies shape parts
-stand_in energies (Histogram start) parts e k h = subst (StandIn energies (Histogram start)) (sym e) (record { places = nowhere_within (length energies); held = refl })
-stand_in energies (Queue-at start queue) parts e k h = record {
-  places = parts_within queue start (length energies) parts e;
-  held = held_slices energies start queue k h ∙ ap (λ (at : Parts). in_parts at energies) (sym e);
-}
+-- and what stands there is what the entry holds, where it is inside and suits its store
+pub stand_in : (energies : List Float) (shape : Shape) → store_end shape ≤ length energies → suits_at shape ≡ true
+    → in_parts (parts_at shape (length energies)) energies ≡ held_by (shape_shows [] energies shape)
+stand_in energies (Histogram start) k h = refl
+stand_in energies (Queue-at start queue) k h = sym (held_slices energies start queue k h)

@@ -1,35 +1,36 @@
 // The loudness range over the queues of a set: their energies are put in rising order in a lent work slice.
 #![tactic(auto)]
 
-ghost use Rattle.std.specs.Prelude.{◌≡◌, true, ◌&&◌, ◌+◌, ◌-◌, ◌≤◌, length, take};
+ghost use Rattle.std.specs.Prelude.{◌≡◌, true, ◌&&◌, ◌+◌, ◌≤◌, ◌++◌, length};
 ghost use Rattle.std.proofs.lemmas.List.Edits.{sets};
 ghost use Rattle.base_refusals.specs.Outcome.{said_by, kept_by};
-ghost use Rattle.history_queue.specs.Queue.{longest, slice};
-ghost use Rattle.history_set.specs.Set.{most_histories, histories, store_end, stores_inside, is_sound, all_sound};
+ghost use Rattle.history_queue.specs.Queue.{longest, in_parts};
+ghost use Rattle.history_set.specs.Lent.{lent};
+ghost use Rattle.history_set.specs.Set.{most_histories, store_end, stores_inside, is_sound, all_sound};
 ghost use Rattle.range_ranks.specs.Span.{said};
 ghost use Rattle.range_queues.specs.Listed.{queue_range};
 ghost use Rattle.range_queues.specs.Inner.{most_held, held_in, held_at, suits_at, parts_at, with_seen, seen_of, listed_range};
 
-use bins::Count;
-use history_queue::Parts;
-use history_set::set::{Entry, MOST, Shape};
+use base_refusals::Refusal;
+use history_set::set::{Entry, Histories, Shape};
 use range_ranks::spans::Span;
 
 mod rising;
 
-// Where the energies of an entry stand among so many. Those of a histogram stand nowhere.
-fn parts_of(entry: Entry, places: usize) -> Parts
-    ensures { result ≡ parts_at entry.shape places }
+// The energies that an entry holds: the older ones and the newer ones. A histogram holds none.
+fn held_parts(entry: Entry, energies: &[f64]) -> (&[f64], &[f64])
+    ensures { (result.0.now ++ result.1.now ≡ in_parts (parts_at entry.shape (length energies.now)) energies.now)
+        × (length result.0.now + length result.1.now ≤ longest) }
 {
-    let shape = entry.shape;
-    match shape {
-        Shape::Histogram(_) => Parts {
-            from: 0,
-            until: 0,
-            start: 0,
-            end: 0,
-        },
-        Shape::Queue(start, queue) => queue.parts(start, places),
+    match entry.shape {
+        Shape::Histogram(_) => (&energies[..0], &energies[..0]),
+        Shape::Queue(start, queue) => {
+            let parts = queue.parts(start, energies.len());
+            (
+                &energies[parts.from..parts.until],
+                &energies[parts.start..parts.end],
+            )
+        }
     }
 }
 
@@ -37,38 +38,34 @@ fn parts_of(entry: Entry, places: usize) -> Parts
 fn suits(entry: Entry) -> bool
     ensures { result ≡ suits_at entry.shape }
 {
-    let shape = entry.shape;
-    match shape {
+    match entry.shape {
         Shape::Histogram(_) => true,
         Shape::Queue(_, queue) => queue.suits(queue.maximum),
     }
 }
 
 // How many energies were looked at, whether none is below boundary 0, and whether one is NaN.
-#[derive(Drop)]
+#[derive(Clone, Copy)]
 struct Seen {
     blocks: usize,
     fine: bool,
     nan: bool,
 }
 
-// A look at the energies from a place up to another, after what was seen before.
-fn look_at(before: Seen, energies: &[f64], from: usize, until: usize) -> Seen
-    requires { (from ≤ until) × (until ≤ length energies.now) × (before.blocks + (until - from) ≤ most_held) }
-    ensures { result ≡ with_seen before (slice from until energies.now) }
+// A look at energies, after what was seen before.
+fn look_at(before: Seen, energies: &[f64]) -> Seen
+    requires { before.blocks + length energies.now ≤ most_held }
+    ensures { result ≡ with_seen before energies.now }
 {
     let least = bins::lowest_boundary();
     let mut fine = before.fine;
     let mut nan = before.nan;
-    let mut i = from;
-    while i < until {
-        let energy = energies[i];
-        fine = fine & !(energy < least);
-        nan = nan | (energy != energy);
-        i += 1;
+    for energy in energies {
+        fine &= !(*energy < least);
+        nan |= *energy != *energy;
     }
     Seen {
-        blocks: before.blocks + (until - from),
+        blocks: before.blocks + energies.len(),
         fine,
         nan,
     }
@@ -81,9 +78,8 @@ fn look_in(before: Seen, entry: Entry, energies: &[f64]) -> Seen
         × (is_sound energies.now entry ≡ true → result ≡ with_seen before (held_at energies.now entry)) × (result.blocks ≤ before.blocks + longest) }
 {
     if suits(entry) {
-        let parts = parts_of(entry, energies.len());
-        let older = look_at(before, energies, parts.from, parts.until);
-        return look_at(older, energies, parts.start, parts.end);
+        let (older, newer) = held_parts(entry, energies);
+        return look_at(look_at(before, older), newer);
     }
     Seen {
         blocks: 0,
@@ -93,37 +89,28 @@ fn look_in(before: Seen, entry: Entry, energies: &[f64]) -> Seen
 }
 
 // At all that are held.
-fn look(entries: [Entry; MOST], count: usize, energies: &[f64]) -> Seen
-    requires { (count ≤ most_histories) × (stores_inside (length energies.now) (take count entries)) }
-    ensures { (result.fine ≡ all_sound energies.now (take count entries))
-        × (all_sound energies.now (take count entries) ≡ true → result ≡ seen_of (held_in energies.now (take count entries))) }
+fn look(entries: &[Entry], energies: &[f64]) -> Seen
+    requires { (length entries.now ≤ most_histories) × (stores_inside (length energies.now) entries.now) }
+    ensures { (result.fine ≡ all_sound energies.now entries.now)
+        × (all_sound energies.now entries.now ≡ true → result ≡ seen_of (held_in energies.now entries.now)) }
 {
     let mut seen = Seen {
         blocks: 0,
         fine: true,
         nan: false,
     };
-    let mut i = 0;
-    while i < count {
-        let entry = entries[i];
-        seen = look_in(seen, entry, energies);
-        i += 1;
+    for entry in entries {
+        seen = look_in(seen, *entry, energies);
     }
     seen
 }
 
-// The energies from a place up to another, from a place of the work slice on.
-fn copy(work: &mut [f64], at: usize, energies: &[f64], from: usize, until: usize)
-    requires { (from ≤ until) × (until ≤ length energies.now) × (at + (until - from) ≤ length work.old) }
-    ensures { work.new ≡ sets work.old at (slice from until energies.now) }
+// Energies go to the work slice, from a place of it on.
+fn copy(work: &mut [f64], at: usize, energies: &[f64])
+    requires { at + length energies.now ≤ length work.old }
+    ensures { work.new ≡ sets work.old at energies.now }
 {
-    let mut place = at;
-    let mut i = from;
-    while i < until {
-        work[place] = energies[i];
-        place += 1;
-        i += 1;
-    }
+    work[at..at + energies.len()].copy_from_slice(energies);
 }
 
 // Those that an entry holds, oldest first. Answers the place after them.
@@ -132,70 +119,55 @@ fn copy_held(work: &mut [f64], at: usize, entry: Entry, energies: &[f64]) -> usi
         × (at + length (held_at energies.now entry) ≤ length work.old) }
     ensures { (work.new ≡ sets work.old at (held_at energies.now entry)) × (result ≡ at + length (held_at energies.now entry)) }
 {
-    let parts = parts_of(entry, energies.len());
-    let middle = at + (parts.until - parts.from);
-    copy(work, at, energies, parts.from, parts.until);
-    copy(work, middle, energies, parts.start, parts.end);
-    middle + (parts.end - parts.start)
+    let (older, newer) = held_parts(entry, energies);
+    let middle = at + older.len();
+    copy(work, at, older);
+    copy(work, middle, newer);
+    middle + newer.len()
 }
 
 // All held energies, entry by entry, from the first place of the work slice on.
-fn copy_all(entries: [Entry; MOST], count: usize, energies: &[f64], work: &mut [f64])
-    requires { (count ≤ most_histories) × (stores_inside (length energies.now) (take count entries)) × (all_sound energies.now (take count entries) ≡ true)
-        × (length (held_in energies.now (take count entries)) ≤ length work.old) }
-    ensures { work.new ≡ sets work.old 0 (held_in energies.now (take count entries)) }
+fn copy_all(entries: &[Entry], energies: &[f64], work: &mut [f64])
+    requires { (stores_inside (length energies.now) entries.now) × (all_sound energies.now entries.now ≡ true)
+        × (length (held_in energies.now entries.now) ≤ length work.old) }
+    ensures { work.new ≡ sets work.old 0 (held_in energies.now entries.now) }
 {
     let mut at = 0;
-    let mut i = 0;
-    while i < count {
-        let entry = entries[i];
-        at = copy_held(work, at, entry, energies);
-        i += 1;
+    for entry in entries {
+        at = copy_held(work, at, *entry, energies);
     }
 }
 
 // The range of the queues of a set that SET and STORE do not refuse, by what was seen of it.
-fn in_order(
-    entries: [Entry; MOST],
-    count: usize,
-    energies: &[f64],
-    work: &mut [f64],
-    seen: Seen,
-) -> Span
-    requires { (count ≤ most_histories) × (stores_inside (length energies.now) (take count entries)) × (all_sound energies.now (take count entries) ≡ true)
-        × (seen ≡ seen_of (held_in energies.now (take count entries))) }
-    ensures { (said result ≡ said_by (listed_range (held_in energies.now (take count entries)) work.old))
-        × (work.new ≡ kept_by work.old (listed_range (held_in energies.now (take count entries)) work.old)) }
+fn in_order(entries: &[Entry], energies: &[f64], work: &mut [f64], seen: Seen) -> Span
+    requires { (stores_inside (length energies.now) entries.now) × (all_sound energies.now entries.now ≡ true)
+        × (seen ≡ seen_of (held_in energies.now entries.now)) }
+    ensures { (said result ≡ said_by (listed_range (held_in energies.now entries.now) work.old))
+        × (work.new ≡ kept_by work.old (listed_range (held_in energies.now entries.now) work.old)) }
 {
     let blocks = seen.blocks;
     if work.len() < blocks {
-        return Span::Refused(base_refusals::ROOM);
+        return Span::Refused(Refusal::ROOM);
     }
     if seen.nan {
         return Span::NotANumber;
     }
-    copy_all(entries, count, energies, work);
+    copy_all(entries, energies, work);
     order::order(&mut work[..blocks]);
     crate::rising::span_in_order(&work[..blocks])
 }
 
 // The range over the queues of a set. Its histograms play no part.
-pub fn of_queues(
-    entries: [Entry; MOST],
-    count: usize,
-    counters: &[Count],
-    energies: &[f64],
-    work: &mut [f64],
-) -> Span
-    ensures { (said result ≡ said_by (queue_range (histories entries count counters.now energies.now) work.old))
-        × (work.new ≡ kept_by work.old (queue_range (histories entries count counters.now energies.now) work.old)) }
+pub fn of_queues(set: Histories<'_>, work: &mut [f64]) -> Span
+    ensures { (said result ≡ said_by (queue_range (lent set.entry) work.old))
+        × (work.new ≡ kept_by work.old (queue_range (lent set.entry) work.old)) }
 {
-    if history_set::set::outside_set(entries, count, counters, energies) {
-        return Span::Refused(base_refusals::SET);
+    if set.outside() {
+        return Span::Refused(Refusal::SET);
     }
-    let seen = look(entries, count, energies);
+    let seen = look(set.entries, set.energies);
     if seen.fine {
-        return in_order(entries, count, energies, work, seen);
+        return in_order(set.entries, set.energies, work, seen);
     }
-    Span::Refused(base_refusals::STORE)
+    Span::Refused(Refusal::STORE)
 }

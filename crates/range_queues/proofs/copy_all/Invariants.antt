@@ -1,16 +1,10 @@
-use mathlib.Core.Path.{◌≡◌}
-use Prim.Native.Nat.{◌+◌, ◌-◌, ◌≤◌}
-use lib.ListN.{length, take, drop}
+use Rattle.std.proofs.Common.{◌≡◌, ◌+◌, length, drop}
 use lib.Seq.{sets}
 use Rattle.range_queues.specs.Inner.{held_in}
 use Rattle.range_queues.proofs.copy_all.Given as goal
 
-abbrev pub invariant-loop-i : goal.invariant-loop-i
-invariant-loop-i l =
-    (l.i ≤ l.count)
-    × (length l.work ≡ length l.initial.work)
-    × (l.at + length (held_in l.energies (drop l.i (take l.count l.entries))) ≡ length (held_in l.energies (take l.count l.entries)))
-    × (sets l.work l.at (held_in l.energies (drop l.i (take l.count l.entries))) ≡ sets l.initial.work 0 (held_in l.energies (take l.count l.entries)))
-
-abbrev pub decreases-loop-i : goal.decreases-loop-i
-decreases-loop-i l = l.count - l.i
+abbrev pub invariant-loop-entry : goal.invariant-loop-entry
+invariant-loop-entry l =
+    (length l.work ≡ length l.initial.work)
+    × (l.at + length (held_in l.energies (drop l.entry-index l.entries)) ≡ length (held_in l.energies l.entries))
+    × (sets l.work l.at (held_in l.energies (drop l.entry-index l.entries)) ≡ sets l.initial.work 0 (held_in l.energies l.entries))

@@ -47,31 +47,31 @@ module _ (work held copied : List Float) (blocks : ℕ) (count : blocks ≡ leng
 pub returns-then-work-blocks : goal.returns-then-work-blocks
 returns-then-work-blocks c =
     let a = c.args in
-    let held = held_in a.energies.now (take a.count a.entries) in
-    rw (listed_room held a.work.now (omega (arith, ap (λ (s : Seen). s.blocks) c.requires.3, c.if-work-blocks.true))) (refl, refl)
+    let held = held_in a.energies.now a.entries.now in
+    rw (listed_room held a.work.now (omega (arith, ap (λ (s : Seen). s.blocks) c.requires.2, c.if-work-blocks.true))) (refl, refl)
 
 pub returns-then-seen : goal.returns-then-seen
 returns-then-seen c =
     let a = c.args in
-    let held = held_in a.energies.now (take a.count a.entries) in
-    rw (listed_nan held a.work.now (omega (arith, ap (λ (s : Seen). s.blocks) c.requires.3, c.if-work-blocks.false))
-    (sym (ap (λ (s : Seen). s.nan) c.requires.3) ∙ c.if-seen.true))
+    let held = held_in a.energies.now a.entries.now in
+    rw (listed_nan held a.work.now (omega (arith, ap (λ (s : Seen). s.blocks) c.requires.2, c.if-work-blocks.false))
+    (sym (ap (λ (s : Seen). s.nan) c.requires.2) ∙ c.if-seen.true))
     (refl, refl)
 
 pub copy_all-requires : goal.copy_all-requires
 copy_all-requires c =
-    (c.requires.0, c.requires.1, c.requires.2, omega (arith, ap (λ (s : Seen). s.blocks) c.requires.3, c.if-work-blocks.false))
+    (c.requires.0, c.requires.1, omega (arith, ap (λ (s : Seen). s.blocks) c.requires.2, c.if-work-blocks.false))
 
 pub returns : goal.returns
 returns c =
     let a = c.args in
     let work = a.work.now in
     let blocks = a.seen.blocks in
-    let held = held_in a.energies.now (take a.count a.entries) in
-    let count : blocks ≡ length held = omega (arith, ap (λ (s : Seen). s.blocks) c.requires.3) in
+    let held = held_in a.energies.now a.entries.now in
+    let count : blocks ≡ length held = omega (arith, ap (λ (s : Seen). s.blocks) c.requires.2) in
     let fits : blocks ≤ length work = c.if-work-blocks.false in
-    let no_nan : any_nan held ≡ false = sym (ap (λ (s : Seen). s.nan) c.requires.3) ∙ c.if-seen.false in
-    let high : all_above held ≡ true = above_held held (none_below_held a.energies.now (take a.count a.entries) c.requires.2) no_nan in
+    let no_nan : any_nan held ≡ false = sym (ap (λ (s : Seen). s.nan) c.requires.2) ∙ c.if-seen.false in
+    let high : all_above held ≡ true = above_held held (none_below_held a.energies.now a.entries.now c.requires.1) no_nan in
     let copied = c.copy_all.new.work in
     let is : copied ≡ sets work 0 held = c.copy_all.ensures in
     let new = c.order.new.energies in

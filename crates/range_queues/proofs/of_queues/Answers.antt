@@ -7,52 +7,54 @@ use lib.ListN.{length}
 use Rattle.base_refusals.specs.Refusal.{number}
 use Rattle.base_refusals.specs.declared.Refusal.TheVariants.{SET, STORE}
 use Rattle.base_refusals.proofs.Numbers.{no_number}
-use Rattle.history_set.specs.Set.{histories, chosen, outside_set, all_sound}
-use Rattle.history_set.proofs.Entries.{stores_inside_lem}
-use Rattle.history_set.proofs.Rows.{none_outside, set_refused, one_unsound, all_well}
+use Rattle.history_set.specs.Lent.{lent}
+use Rattle.history_set.specs.Set.{chosen, outside_set, all_sound}
+use Rattle.history_set.proofs.Entries.{all_chosen, stores_inside_lem}
+use Rattle.history_set.proofs.Rows.{none_outside, none_reaches, set_refused, one_unsound, all_well}
 use Rattle.range_queues.specs.Listed.{queue_range}
 use Rattle.range_queues.specs.Inner.{held_in, listed_range}
 use Rattle.range_queues.proofs.Looking.{held_any}
 use Rattle.range_queues.proofs.Answers.{queues_refused, queues_asked}
 use Rattle.range_queues.proofs.of_queues.Goals as goal
 
-pub returns-then-outside_set : goal.returns-then-outside_set
-returns-then-outside_set c =
-    let a = c.args in
-    let h = histories a.entries a.count a.counters.now a.energies.now in
-    let r = queues_refused h a.work.now (number SET) (sym (set_refused h (sym c.outside_set.ensures ∙ c.if-outside_set.true))) (no_number SET) in
+pub returns-then-outside : goal.returns-then-outside
+returns-then-outside c =
+    let h = lent c.args.set in
+    let r = queues_refused h c.args.work.now (number SET) (sym (set_refused h (sym c.outside.ensures ∙ c.if-outside.true))) (no_number SET) in
     (r.says, r.keeps)
 
 pub look-seen-requires : goal.look-seen-requires
 look-seen-requires c =
-    let a = c.args in
-    let h = histories a.entries a.count a.counters.now a.energies.now in
-    let w = none_outside h (sym c.outside_set.ensures ∙ c.if-outside_set.false) in
-    (w.0, stores_inside_lem (length h.counters) (length h.energies) (chosen h) w.1)
+    let set = c.args.set in
+    let reaches : outside_set (lent set) ≡ false = sym c.outside.ensures ∙ c.if-outside.false in (
+      (none_outside (lent set) reaches).0,
+      stores_inside_lem (length set.counters.now) (length set.energies.now) set.entries.now (none_reaches set reaches),
+    )
 
 pub in_order-requires : goal.in_order-requires
 in_order-requires c =
-    let a = c.args in
-    let h = histories a.entries a.count a.counters.now a.energies.now in
-    let w = none_outside h (sym c.outside_set.ensures ∙ c.if-outside_set.false) in
-    let sound : all_sound h.energies (chosen h) ≡ true = sym c.look-seen.ensures.0 ∙ c.if-seen.true in
-    (w.0, stores_inside_lem (length h.counters) (length h.energies) (chosen h) w.1, sound, c.look-seen.ensures.1 sound)
+    let set = c.args.set in
+    let reaches : outside_set (lent set) ≡ false = sym c.outside.ensures ∙ c.if-outside.false in
+    let sound : all_sound set.energies.now set.entries.now ≡ true = sym c.look-seen.ensures.0 ∙ c.if-seen.true in
+    (stores_inside_lem (length set.counters.now) (length set.energies.now) set.entries.now (none_reaches set reaches), sound, c.look-seen.ensures.1 sound)
 
 pub returns-then-seen : goal.returns-then-seen
 returns-then-seen c =
-    let a = c.args in
-    let h = histories a.entries a.count a.counters.now a.energies.now in
-    let inside : outside_set h ≡ false = sym c.outside_set.ensures ∙ c.if-outside_set.false in
-    let sound : all_sound h.energies (chosen h) ≡ true = sym c.look-seen.ensures.0 ∙ c.if-seen.true in
-    let is : queue_range h a.work.now ≡ listed_range (held_in h.energies (chosen h)) a.work.now =
-    queues_asked h a.work.now (all_well h inside sound)
-    ∙ ap (λ (l : List Float). listed_range l a.work.now) (sym (held_any h.counters h.energies (chosen h))) in
+    let set = c.args.set in
+    let h = lent set in
+    let work = c.args.work.now in
+    let inside : outside_set h ≡ false = sym c.outside.ensures ∙ c.if-outside.false in
+    let sound : all_sound set.energies.now (chosen h) ≡ true = ap (all_sound set.energies.now) (all_chosen set) ∙ sym c.look-seen.ensures.0 ∙ c.if-seen.true in
+    let is : queue_range h work ≡ listed_range (held_in set.energies.now set.entries.now) work =
+    queues_asked h work (all_well h inside sound)
+    ∙ ap (λ (l : List Float). listed_range l work) (sym (held_any set.counters.now set.energies.now (chosen h)) ∙ ap (held_in set.energies.now) (all_chosen set)) in
     rw is (c.in_order.ensures.0, c.in_order.ensures.1)
 
 pub returns : goal.returns
 returns c =
-    let a = c.args in
-    let h = histories a.entries a.count a.counters.now a.energies.now in
-    let inside : outside_set h ≡ false = sym c.outside_set.ensures ∙ c.if-outside_set.false in
-    let r = queues_refused h a.work.now (number STORE) (sym (one_unsound h inside (sym c.look-seen.ensures.0 ∙ c.if-seen.false))) (no_number STORE) in
+    let set = c.args.set in
+    let h = lent set in
+    let inside : outside_set h ≡ false = sym c.outside.ensures ∙ c.if-outside.false in
+    let unsound : all_sound set.energies.now (chosen h) ≡ false = ap (all_sound set.energies.now) (all_chosen set) ∙ sym c.look-seen.ensures.0 ∙ c.if-seen.false in
+    let r = queues_refused h c.args.work.now (number STORE) (sym (one_unsound h inside unsound)) (no_number STORE) in
     (r.says, r.keeps)
