@@ -1,13 +1,12 @@
 -- The entries of a set, gone through in order: the first of what is left, whether any reaches outside, whether every store is sound, and what they show.
 -- Each is by recursion on the entries, so that a turn of a loop settles the first and leaves the rest. Assumes nothing.
-use Rattle.std.proofs.Common.{◌≡◌, ◌+◌, ◌-◌, ◌≤◌, ◌<◌, ℕ, zero, suc, Bool, true, false, ◌&&◌, ◌||◌, List, [], ◌∷◌, ◌++◌, length, get_or, take, drop, ltb, Float, refl, sym, ap, subst, ◌∙◌, arith}
-use mathlib.Core.Bool.{true≢false, and_assoc, or-false}
+use Rattle.std.proofs.Common.{◌≡◌, ◌+◌, ◌≤◌, ◌<◌, ℕ, zero, suc, Bool, true, false, ◌&&◌, ◌||◌, List, [], ◌∷◌, ◌++◌, length, get_or, drop, ltb, Float, refl, sym, ap, ◌∙◌}
+use mathlib.Core.Bool.{true≢false, and_assoc}
 use native.Mathlib.Nat.{le_of_suc-le-suc, not-suc-le-zero}
-use borrow.Author.Tests.{lt-ltb, le-ltb, ltb-true, ltb-false}
+use borrow.Author.Tests.{ltb-false}
 use Rattle.std.proofs.lemmas.List.{drop_more}
 use Rattle.std.proofs.Math.Seq.{take-length}
 use Rattle.std.proofs.Math.ListN.{drop_of_length-le}
-use Rattle.bins.specs.Bin.{bins}
 use Rattle.history_queue.specs.declared.Queue.{Queue}
 use Rattle.history_set.specs.declared.set.Entry.{Entry}
 use Rattle.history_set.specs.declared.set.Shape.TheVariants.{Histogram, Queue as Queue-at}

@@ -42,6 +42,7 @@ pub struct Histories<'a> {
 }
 
 // Whether any of the entries does.
+#[tactic(auto, using(std::proofs::lemmas::List::drop_more), unfolding(crate::specs::Set::any_outside))]
 fn any_outside(entries: &[Entry], counters: usize, energies: usize) -> bool
     ensures { result ≡ any_outside counters energies entries.now }
 {

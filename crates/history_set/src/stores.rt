@@ -11,6 +11,7 @@ use base_refusals::{Answer, Refusal};
 use history_queue::Queue;
 
 // Whether none of the energies is below boundary 0. All of them are looked at.
+#[tactic(auto, using(std::proofs::lemmas::List::drop_more), unfolding(crate::specs::Set::none_below))]
 fn none_below(held: &[f64]) -> bool
     ensures { result ≡ none_below held.now }
 {
@@ -23,6 +24,7 @@ fn none_below(held: &[f64]) -> bool
 }
 
 // Whether a store is this queue's and holds no energy below boundary 0.
+#[tactic(auto, using(history_queue::proofs::Standing::parts_within, history_queue::proofs::Standing::held_in_store, crate::proofs::Entries::none_below_append))]
 pub fn sound_queue(queue: Queue, store: &[f64]) -> bool
     ensures { result ≡ (suits queue (length store.now) && none_below (held_of (over queue store.now))) }
 {
@@ -46,6 +48,7 @@ fn sound(entry: Entry, energies: &[f64]) -> bool
 }
 
 // Whether the stores of all entries are.
+#[tactic(auto, using(std::proofs::lemmas::List::drop_more), unfolding(crate::specs::Set::all_sound))]
 fn all_sound(entries: &[Entry], energies: &[f64]) -> bool
     requires { stores_inside (length energies.now) entries.now }
     ensures { result ≡ all_sound energies.now entries.now }
