@@ -18,7 +18,7 @@ use Rattle.order_rules.specs.Arrangement.{Reordered, unmoved, after, All, Above,
 use Rattle.order_heap.specs.Inner.{Child, Larger, HeapFrom, Heaped}
 use Rattle.order_rules.proofs.Perms.{perm_length, front_perm, all_perm, all_at, all_of, all_take}
 use Rattle.order_rules.proofs.Energies.{same_at_most, not_below_lem, not_at_most}
-use Rattle.order_rules.proofs.Places.{le_by, same_or_other, exchanged_length, Exchange, exchange_is, front_at, back_at, rising_of}
+use Rattle.order_rules.proofs.Places.{le_by, same_or_other, Exchange, exchange_is, front_at, back_at, rising_of}
 
 -- ---- of two children the one that is not below the other
 module _ (l : List Float) (a : Above l) (p : ℕ) (inside : 2 * p + 1 < length l) where
@@ -145,9 +145,8 @@ module _ {from place : ℕ} {old new : List Float} (s : Sinking from place old n
         le_by (swap.other k (λ q. omega arith) (λ q. omega arith)) (ap (at moved) e ∙ swap.first)
         (s.heap child k (omega (arith, s.reach)) (λ q. omega arith) b g)
 
-    pub sink_on : le (at new child) (at new place) ≡ false → Sinking from child old (exchanged new place child)
-    unfolding moved
-    sink_on e =
+    sunk : le (at new child) (at new place) ≡ false → Sinking from child old moved
+    sunk e =
         let over : T (le (at new place) (at new child)) = not_at_most (at new child) (at new place) (fine child inside) (fine place place_inside) e in
         record {
           same = after s.same swap.turn;
@@ -159,6 +158,10 @@ module _ {from place : ℕ} {old new : List Float} (s : Sinking from place old n
       where
         fine : (k : ℕ) → k < length new → T (above (at new k))
         fine k g = all_at (λ x. T (above x)) new s.above k g
+
+    pub sink_on : le (at new child) (at new place) ≡ false → (next : List Float) → next ≡ exchanged new place child → Sinking from child old next
+    unfolding moved
+    sink_on e next is = subst (Sinking from child old) (sym is) (sunk e)
 
 -- ---- from the middle on no place has a child
 pub heap_start : (l : List Float) (from : ℕ) → from ≡ length l / 2 → HeapFrom from l
@@ -202,12 +205,9 @@ drain_start l a h = record {
 pub drain_done : (left : ℕ) (old new : List Float) → left ≤ 1 → Draining left old new → Ordered old new
 drain_done left old new h d = record { same = d.same; rising = rising_of new (λ i j g k. d.tail i j g (omega arith) k) }
 
-module _ (left : ℕ) (old new : List Float) (d : Draining left old new) (more : 1 < left) where
+module _ (left : ℕ) (old new : List Float) (d : Draining left old new) (more : 1 < left) (taken : List Float) (is : taken ≡ exchanged new 0 (left - 1)) where
   m : ℕ
   m = left - 1
-
-  taken : List Float
-  taken = exchanged new 0 m
 
   m_is : m + 1 ≡ left
   unfolding m
@@ -220,8 +220,8 @@ module _ (left : ℕ) (old new : List Float) (d : Draining left old new) (more :
   none_taken = omega (arith, d.inside)
 
   to_end : Exchange new 0 m taken
-  unfolding taken
-  to_end = exchange_is new 0 m none_taken short refl
+  unfolding m
+  to_end = exchange_is new 0 m none_taken short is
 
   part_length : length (take m taken) ≡ m
   part_length = length-take-le m taken (omega (arith, short, to_end.long))
@@ -311,23 +311,15 @@ module _ (left : ℕ) (old new : List Float) (d : Draining left old new) (more :
       tail = λ i j g a b. new_tail i j g a (subst (λ (n : ℕ). j < n) whole_length b) (dec_lt i m);
     }
 
--- the same, of the list that the exchange leaves
-module _ {left : ℕ} {old new : List Float} (d : Draining left old new) (more : 1 < left) where
-  pub part_inside : left - 1 ≤ length (exchanged new 0 (left - 1))
+-- the same, with the place written out
+module _ {left : ℕ} {old new : List Float} (d : Draining left old new) (more : 1 < left) {taken : List Float} (is : taken ≡ exchanged new 0 (left - 1)) where
+  pub part_above : Above (take (left - 1) taken)
+  part_above = all_take (λ x. T (above x)) (left - 1) taken (all_perm (λ x. T (above x)) (to_end left old new d more taken is).turn d.above)
+
+  pub part_is_heap : HeapFrom 1 (take (left - 1) taken)
   unfolding m
-  part_inside = rw (exchanged_length new 0 (left - 1)) (omega (arith, short left old new d more))
+  part_is_heap = part_heap left old new d more taken is
 
-  pub part_above : Above (take (left - 1) (exchanged new 0 (left - 1)))
-  unfolding m taken
-  part_above =
-      all_take (λ x. T (above x)) (left - 1) (exchanged new 0 (left - 1))
-      (all_perm (λ x. T (above x)) (to_end left old new d more).turn d.above)
-
-  pub part_is_heap : HeapFrom 1 (take (left - 1) (exchanged new 0 (left - 1)))
-  unfolding m taken
-  part_is_heap = part_heap left old new d more
-
-  pub drain_on : (part : List Float) → Heaped 0 (take (left - 1) (exchanged new 0 (left - 1))) part
-      → Draining (left - 1) old (part ++ drop (left - 1) (exchanged new 0 (left - 1)))
-  unfolding m taken whole
-  drain_on part h = drained left old new d more part h
+  pub drain_on : (part : List Float) → Heaped 0 (take (left - 1) taken) part → Draining (left - 1) old (part ++ drop (left - 1) taken)
+  unfolding m whole
+  drain_on part h = drained left old new d more taken is part h

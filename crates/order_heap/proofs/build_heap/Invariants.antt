@@ -4,6 +4,3 @@ use Rattle.order_heap.proofs.build_heap.Given as goal
 
 abbrev pub invariant-loop-from : goal.invariant-loop-from
 invariant-loop-from l = Above l.part × Heaped l.from l.initial.part l.part
-
-abbrev pub decreases-loop-from : goal.decreases-loop-from
-decreases-loop-from l = l.from

@@ -3,6 +3,3 @@ use Rattle.order_heap.proofs.heap_sort.Given as goal
 
 abbrev pub invariant-loop-left : goal.invariant-loop-left
 invariant-loop-left l = Draining l.left l.initial.part l.part
-
-abbrev pub decreases-loop-left : goal.decreases-loop-left
-decreases-loop-left l = l.left
