@@ -2,12 +2,14 @@
 -- Assumes nothing.
 use mathlib.Core.Path.{◌≡◌, refl, sym, ap, ◌∙◌}
 use mathlib.Core.Bool.{Bool, true, false, not, ◌&&◌, cond, true≢false}
-use mathlib.Core.List.{List, [], ◌∷◌}
+use mathlib.Core.List.{List, [], ◌∷◌, ◌++◌}
 use Prim.Native.Nat.{ℕ, suc, ◌+◌, ◌-◌, ◌≤◌, ◌<◌}
 use native.Mathlib.Numerals.{add-one}
 use native.Mathlib.Omega.{arith}
 use borrow.Author.Tests.{eq-eqb, ne_eqb}
-use lib.ListN.{length, get_or, drop, drop_of_length-le}
+use lib.ListN.{length, get_or, take, drop, drop_of_length-le}
+use Rattle.std.proofs.Common.{take-append-drop}
+use borrow.Rule.Slice.PartMut.{Post-is}
 use lib.Seq.{drop-cons, get_or-drop}
 use lib.Ieee.{Float, nan, lt}
 use Rattle.gate.specs.declared.blocks.Totals.{Totals}
@@ -36,16 +38,35 @@ module _ (gate : Float) (rising : List Float) (i : ℕ) where
   unfolding from_gate
   skip_end h = drop_of_length-le rising h ∙ sym (ap (from_gate gate) (drop_of_length-le rising h))
 
+-- ---- a part whose energies are all below the gate, before the rest
 both_true : (a b : Bool) → a && b ≡ true → (a ≡ true) × (b ≡ true)
 both_true true b e = (refl, e)
 both_true false b e = absurd (true≢false (sym e))
 
-pub skip_all : (gate : Float) (rising : List Float) (from i : ℕ) (fine : Bool) (d : Float) → i < length rising
-    → (fine ≡ true → from_gate gate (drop i rising) ≡ from_gate gate (drop from rising)) → fine && lt (get_or rising i d) gate ≡ true
-    → from_gate gate (drop (i + 1) rising) ≡ from_gate gate (drop from rising)
-skip_all gate rising from i fine d h s e =
-    let p = both_true fine (lt (get_or rising i d) gate) e in
-    skip_on gate rising i d h p.1 ∙ s p.0
+below_first : (gate x : Float) (l : List Float) → lt x gate ≡ true → from_gate gate (x ∷ l) ≡ from_gate gate l
+unfolding from_gate
+below_first gate x l e = rw e
+
+module _ (gate : Float) (part rest : List Float) (i : ℕ) where
+  pub below_turn : (fine : Bool) (d : Float) → i < length part → (fine ≡ true → from_gate gate (part ++ rest) ≡ from_gate gate (drop i part ++ rest))
+      → fine && lt (get_or part i d) gate ≡ true → from_gate gate (part ++ rest) ≡ from_gate gate (drop (i + 1) part ++ rest)
+  below_turn fine d h s e =
+      let p = both_true fine (lt (get_or part i d) gate) e in
+      s p.0
+      ∙ ap (λ (l : List Float). from_gate gate (l ++ rest)) (drop-cons part i d h)
+      ∙ below_first gate (get_or part i d) (drop (suc i) part ++ rest) p.1
+      ∙ ap (λ (n : ℕ). from_gate gate (drop n part ++ rest)) (sym (add-one i))
+
+  pub below_end : length part ≤ i → from_gate gate (part ++ rest) ≡ from_gate gate (drop i part ++ rest) → from_gate gate (part ++ rest) ≡ from_gate gate rest
+  below_end h e = e ∙ ap (λ (l : List Float). from_gate gate (l ++ rest)) (drop_of_length-le part h)
+
+-- a stretch that lies all below the gate is passed by
+pub skip_stretch : (gate : Float) (rising : List Float) (i end : ℕ) → i ≤ end
+    → ((rest : List Float) → from_gate gate (take (end - i) (drop i rising) ++ rest) ≡ from_gate gate rest) → from_gate gate (drop end rising) ≡ from_gate gate (drop i rising)
+skip_stretch gate rising i end h below =
+    sym (below (drop end rising))
+    ∙ ap (λ (l : List Float). from_gate gate (take (end - i) (drop i rising) ++ l)) (sym (Post-is i end rising h))
+    ∙ ap (from_gate gate) (take-append-drop (end - i) (drop i rising))
 
 -- ---- the energies at the two ranks among those left
 pub ranks_none : (left : List Float) → length left ≡ 0 → at_ranks left ≡ nothing

@@ -1,5 +1,5 @@
 // The loudness range of energies in rising order: the energies at the two ranks among those that the gate leaves.
-ghost use Rattle.std.specs.Prelude.{◌≡◌, true, ◌≤◌, length, drop};
+ghost use Rattle.std.specs.Prelude.{◌≡◌, true, ◌≤◌, List, ◌++◌, length, drop, Float};
 ghost use Rattle.base_refusals.specs.Outcome.{says};
 ghost use Rattle.gate.specs.Totals.{none, energies_from};
 ghost use Rattle.range_ranks.specs.Span.{said};
@@ -13,10 +13,8 @@ fn sum_of(rising: &[f64]) -> f64
     ensures { result ≡ (energies_from none rising.now).sum }
 {
     let mut sum = 0.0;
-    let mut i = 0;
-    while i < rising.len() {
-        sum = sum + rising[i];
-        i += 1;
+    for energy in rising {
+        sum += *energy;
     }
     sum
 }
@@ -24,26 +22,23 @@ fn sum_of(rising: &[f64]) -> f64
 // How many energies are looked at before a look may stop.
 const STRETCH: usize = 64;
 
-// Whether all from a place up to another are below the gate.
-fn all_below(rising: &[f64], from: usize, until: usize, gate: f64) -> bool
-    requires { (from ≤ until) × (until ≤ length rising.now) }
-    ensures { result ≡ true → from_gate gate (drop until rising.now) ≡ from_gate gate (drop from rising.now) }
+// Whether all energies of a part are below the gate: then what follows them is left as it is without them.
+fn all_below(part: &[f64], gate: f64) -> bool
+    ensures { result ≡ true → (rest : List Float) → from_gate gate (part.now ++ rest) ≡ from_gate gate rest }
 {
     let mut fine = true;
-    let mut i = from;
-    while i < until {
-        fine = fine & (rising[i] < gate);
-        i += 1;
+    for energy in part {
+        fine &= *energy < gate;
     }
     fine
 }
 
-// How many leading energies are below the gate: whole stretches first, then one by one.
+// How many leading energies are below the gate: whole stretches first, then one by one. Both loops stop inside the list, so they go by a place.
 fn skipped(rising: &[f64], gate: f64) -> usize
     ensures { (result ≤ length rising.now) × (drop result rising.now ≡ from_gate gate rising.now) }
 {
     let mut i = 0;
-    while rising.len() - i > STRETCH && all_below(rising, i, i + STRETCH, gate) {
+    while rising.len() - i > STRETCH && all_below(&rising[i..i + STRETCH], gate) {
         i += STRETCH;
     }
     while i < rising.len() {

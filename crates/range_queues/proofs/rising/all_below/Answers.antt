@@ -1,24 +1,16 @@
--- `rising::all_below` meets its contract. The invariant: where `fine` holds, what the energies from `i` on leave is what those from the start on leave.
--- Assumes nothing.
-use mathlib.Core.Path.{◌≡◌, refl, ap, ◌∙◌}
-use Prim.Native.Nat.{ℕ}
-use native.Mathlib.Omega.{arith}
+-- `rising::all_below` meets its contract. The invariant: where `fine` holds, the energies so far are all below the gate. Assumes nothing.
+use Rattle.std.proofs.Common.{refl, arith}
 use lib.Ieee.{nan}
-use lib.ListN.{drop}
-use Rattle.range_queues.specs.Rising.{from_gate}
-use Rattle.range_queues.proofs.Skipping.{skip_all}
+use Rattle.range_queues.proofs.Skipping.{below_turn, below_end}
 use Rattle.range_queues.proofs.rising.all_below.Goals as goal
 
-pub loop-i-init : goal.loop-i-init
-loop-i-init c = (omega arith, λ e. refl)
+pub loop-energy-init : goal.loop-energy-init
+loop-energy-init c = λ e rest. refl
 
-pub loop-i-preserved : goal.loop-i-preserved
-loop-i-preserved c =
-    let a = c.args in
-    (omega arith, λ e. skip_all a.gate a.rising.now a.from c.loop-i.i c.loop-i.fine nan (omega arith) c.loop-i.invariant.1 e)
+pub loop-energy-preserved : goal.loop-energy-preserved
+loop-energy-preserved c = λ e rest.
+    let l = c.loop-energy in
+    below_turn c.args.gate c.args.part.now rest l.energy-index l.fine nan (omega arith) (λ f. l.invariant f rest) e
 
 pub returns : goal.returns
-returns c = λ e.
-    let a = c.args in
-    let all : a.until ≡ c.loop-i.i = omega arith in
-    ap (λ (n : ℕ). from_gate a.gate (drop n a.rising.now)) all ∙ c.loop-i.invariant.1 e
+returns c = λ e rest. let l = c.loop-energy in below_end c.args.gate c.args.part.now rest l.energy-index (omega arith) (l.invariant e rest)
