@@ -13,8 +13,8 @@ use Rattle.history_histogram.specs.Histogram.{largest_count, empty, sums}
 use Rattle.history_set.specs.declared.set.Entry.{Entry}
 use Rattle.history_set.specs.declared.set.Shape.{Shape}
 use Rattle.history_set.specs.declared.set.Shape.TheVariants.{Histogram, Queue as Queue-at}
-use Rattle.history_set.specs.Set.{counters_end, counters_inside, counters_at, shows, shape_shows, all_show}
-use Rattle.history_set.proofs.Entries.{past_the_last, every_at, shows_next, shows_end}
+use Rattle.history_set.specs.Set.{counters_at, shows, shape_shows, all_show}
+use Rattle.history_set.proofs.Entries.{past_the_last, shows_next, shows_end}
 use Rattle.range_histograms.specs.Counted.{AtMost, with_history, added_to}
 
 -- ---- bin by bin
@@ -59,21 +59,17 @@ pub zeros_most : AtMost 0 (replicate bins 0)
 zeros_most bin = zeros bins bin
 
 -- ---- entry by entry
-pub counters_at_lem : (counters : ℕ) (l : List Entry) (count i : ℕ) → i < count → count ≤ length l → counters_inside counters (take count l)
-    → counters_end (get_or l i past_the_last).shape ≤ counters
-counters_at_lem counters = every_at (λ entry. counters_end entry.shape ≤ counters)
-
-module _ (counters : List ℕ) (l : List Entry) (count i : ℕ) (added : List ℕ) where
-  pub added_turn : i < count → count ≤ length l → (next : List ℕ) → next ≡ with_history added (shows counters [] (get_or l i past_the_last))
-      → added_to next (all_show counters [] (drop (i + 1) (take count l))) ≡ added_to added (all_show counters [] (drop i (take count l)))
+module _ (counters : List ℕ) (l : List Entry) (i : ℕ) (added : List ℕ) where
+  pub added_turn : i < length l → (next : List ℕ) → next ≡ with_history added (shows counters [] (get_or l i past_the_last))
+      → added_to next (all_show counters [] (drop (i + 1) l)) ≡ added_to added (all_show counters [] (drop i l))
   unfolding added_to
-  added_turn h g next e =
-      ap (λ (a : List ℕ). added_to a (all_show counters [] (drop (i + 1) (take count l)))) e
-      ∙ sym (ap (added_to added) (shows_next counters [] l count i h g))
+  added_turn h next e =
+      ap (λ (a : List ℕ). added_to a (all_show counters [] (drop (i + 1) l))) e
+      ∙ sym (ap (added_to added) (shows_next counters [] l i h))
 
-  pub added_end : count ≤ i → added_to added (all_show counters [] (drop i (take count l))) ≡ added
+  pub added_end : length l ≤ i → added_to added (all_show counters [] (drop i l)) ≡ added
   unfolding added_to
-  added_end h = ap (added_to added) (shows_end counters [] l count i h)
+  added_end h = ap (added_to added) (shows_end counters [] l i h)
 
 -- energies play no part
 pub added_any : (counters : List ℕ) (energies : List Float) (l : List Entry) (added : List ℕ)

@@ -4,7 +4,9 @@ use Prim.Native.Nat.{ℕ, suc, ◌*◌, ◌^◌, ◌≤◌, zero-le}
 use native.Mathlib.Omega.{arith}
 use lib.Dec.{T, le→leb}
 use lib.IntN.{pos}
-use lib.ListN.{length, take}
+use lib.ListN.{length, get_or, take}
+use Rattle.std.proofs.Common.{◌≡◌, map, ap}
+use Rattle.std.proofs.lemmas.List.{map-id}
 use lib.Ieee.{binary64, in_float}
 use Rattle.range_one.proofs.Counting.{blocks_up_to}
 use Rattle.range_histograms.specs.Counted.{most_in_bin, AtMost, blocks_in}
@@ -22,3 +24,10 @@ blocks_all_most (x ∷ l) b = omega (arith, b 0, blocks_all_most l (λ (k : ℕ)
 pub few_in_float : (blocks : ℕ) → blocks ≤ most_in_bin → T (in_float binary64 (pos blocks))
 unfolding in_float
 few_in_float blocks h = le→leb blocks (2 ^ 53) (omega (arith, h))
+
+-- counters of 64 bits stand for themselves
+pub as_they_are : (l : List ℕ) → map (λ (count : ℕ). count) l ≡ l
+as_they_are l = map-id l
+
+pub most_at : (l : List ℕ) → AtMost most_in_bin (map (λ (count : ℕ). count) l) → AtMost most_in_bin l
+most_at l few bin = omega (arith, few bin, ap (λ (k : List ℕ). get_or k bin 0) (map-id l))

@@ -3,7 +3,7 @@ use mathlib.Core.Path.{◌≡◌, refl, sym, ap, ◌∙◌}
 use mathlib.Core.List.{List, [], ◌∷◌}
 use Prim.Native.Nat.{ℕ, zero, suc, ◌+◌, ◌≤◌}
 use native.Mathlib.Omega.{arith}
-use lib.ListN.{length, get_or, take, replicate, length-take, length-drop}
+use lib.ListN.{length, get_or, replicate, length-take, length-drop}
 use lib.Ieee.{Float}
 use Rattle.bins.specs.Bin.{bins}
 use Rattle.history_histogram.specs.Histogram.{empty, sums}
@@ -15,7 +15,7 @@ use Rattle.range_ranks.specs.Span.{nothing}
 use Rattle.range_histograms.specs.Counted.{with_history, added_to, blocks_in, counted_span}
 use Rattle.range_histograms.proofs.Counting.{count_is}
 use Rattle.range_histograms.proofs.Answers.{counted_none}
-use Rattle.range_histograms.proofs.Adding.{empty_is, added_turn, added_end, added_any}
+use Rattle.range_histograms.proofs.Adding.{empty_is, added_any}
 
 sums_zeros : (n : ℕ) (l : List ℕ) → length l ≡ n → sums (replicate n 0) l ≡ l
 sums_zeros zero [] e = refl
@@ -36,11 +36,13 @@ blocks_zeros (suc n) = omega (arith, blocks_zeros n)
 pub empty_nothing : nothing ≡ counted_span empty
 empty_nothing = sym (counted_none empty (count_is none 0 empty ∙ omega (arith, ap blocks_in (sym empty_is), blocks_zeros bins)))
 
--- the first entry of one is all of them
-pub one_added : (counters : List ℕ) (energies : List Float) (l : List Entry) (count : ℕ) → count ≡ 1 → count ≤ length l
-    → with_history empty (shows counters [] (get_or l 0 past_the_last)) ≡ added_to empty (all_show counters energies (take count l))
-one_added counters energies l count e h =
-    let next = with_history empty (shows counters [] (get_or l 0 past_the_last)) in
-    sym (added_end counters l count 1 next (omega (arith, e)))
-    ∙ added_turn counters l count 0 empty (omega (arith, e)) h next refl
-    ∙ added_any counters energies (take count l) empty
+-- one entry is all of them
+pub one_entry : (l : List Entry) → length l ≡ 1 → get_or l 0 past_the_last ∷ [] ≡ l
+one_entry [] e = absurd (omega (arith, e))
+one_entry (entry ∷ []) e = refl
+one_entry (entry ∷ more ∷ l) e = absurd (omega (arith, e))
+
+pub one_added : (counters : List ℕ) (energies : List Float) (entry : Entry)
+    → with_history empty (shows counters [] entry) ≡ added_to empty (all_show counters energies (entry ∷ []))
+unfolding added_to all_show
+one_added counters energies entry = added_any counters energies (entry ∷ []) empty

@@ -1,16 +1,12 @@
 -- The range over histograms (01, step 9): "counters added bin by bin". What it is of the added counters stands in `range_one`.
-use Rattle.std.specs.Prelude.{ℕ, ◌*◌, List, [], ◌∷◌}
+use Rattle.std.specs.Prelude.{ℕ, List, [], ◌∷◌}
 use Rattle.base_refusals.specs.Outcome.{Question, answers}
 use Rattle.base_refusals.specs.Rows.{by_rows}
-use Rattle.history_histogram.specs.Histogram.{largest_count, empty, sums}
-use Rattle.history_set.specs.Set.{most_histories, History, counted, listed, Histories, histories_of, set_rows}
+use Rattle.history_histogram.specs.Histogram.{empty, sums}
+use Rattle.history_set.specs.Set.{History, counted, listed, Histories, histories_of, set_rows}
 use Rattle.range_ranks.specs.Span.{Span}
-pub use Rattle.range_one.specs.Counted.{AtMost, ranked_in}
+pub use Rattle.range_one.specs.Counted.{most_in_bin, AtMost, ranked_in}
 unfoldable pub use Rattle.range_one.specs.Counted.{blocks_in, running_from, first_past, left_in, gated_blocks, counted_span}
-
--- the most blocks of a bin of 16 histograms
-abbrev pub most_in_bin : ℕ
-most_in_bin = most_histories * largest_count
 
 -- the counters of a history, and of all histories, added bin by bin. A queue has none
 abbrev pub with_history : List ℕ → History → List ℕ

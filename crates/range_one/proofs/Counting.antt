@@ -6,7 +6,10 @@ use native.Mathlib.Nat.{le_of_suc-le-suc, not-suc-le-zero}
 use native.Mathlib.Numerals.{add-one}
 use native.Mathlib.Omega.{arith}
 use lib.IntN.{pos}
-use lib.ListN.{length, get_or, take}
+use lib.ListN.{length, get_or, take, drop, length-drop, length-append}
+use lib.Seq.{take-add, drop-drop, take-append_seam, drop-append_seam}
+use Rattle.std.proofs.Common.{map, sym, ◌++◌}
+use Rattle.std.proofs.lemmas.List.{take-map, get_or-map, length-map, map-append}
 use lib.Ieee.{binary64, mul, of_int}
 use Rattle.bins_tables.specs.Tables.{energy_at}
 use Rattle.gate.specs.declared.blocks.Totals.{Totals}
@@ -59,3 +62,52 @@ unfolding running_from blocks_in
 running_at before [] n h = absurd (not-suc-le-zero h)
 running_at before (x ∷ l) zero h = omega arith
 running_at before (x ∷ l) (suc n) h = omega (arith, running_at (before + x) l n (le_of_suc-le-suc h))
+
+-- ---- counters of some type, by the blocks of each
+module _ {C : Type 0} (counted : C → ℕ) (l : List C) (n : ℕ) where
+  pub counted_part : blocks_in (map counted (take n l)) ≤ blocks_in (map counted l)
+  counted_part = rw (← take-map counted n l) (blocks_part (map counted l) n)
+
+  pub counted_more : (x : C) → n < length l → x ≡ get_or l n x
+      → blocks_in (map counted (take n l)) + counted x ≡ blocks_in (map counted (take (n + 1) l))
+  counted_more x h e =
+      let within : n < length (map counted l) = omega (arith, length-map l counted) in
+      let one = blocks_more (map counted l) n within in
+      let read : get_or (map counted l) n 0 ≡ counted x = get_or-map counted l n x 0 h ∙ ap counted (sym e) in
+      rw (← take-map counted n l, ← take-map counted (n + 1) l) (omega (arith, one, read))
+
+-- ---- a group of bins passed by
+blocks_append : (a b : List ℕ) → blocks_in (a ++ b) ≡ blocks_in a + blocks_in b
+unfolding blocks_in
+blocks_append [] b = omega arith
+blocks_append (x ∷ a) b = omega (arith, blocks_append a b)
+
+module _ {C : Type 0} (counted : C → ℕ) (l group rest : List C) (bin : ℕ) (next : drop bin l ≡ group ++ rest) where
+  group_is : take (length group) (drop bin l) ≡ group
+  group_is = ap (take (length group)) next ∙ take-append_seam group rest
+
+  taken : take (bin + length group) (map counted l) ≡ take bin (map counted l) ++ map counted group
+  taken =
+      take-map counted (bin + length group) l
+      ∙ ap (map counted) (take-add bin (length group) l ∙ ap (λ (r : List C). take bin l ++ r) group_is)
+      ∙ map-append counted (take bin l) group
+      ∙ ap (λ (r : List ℕ). r ++ map counted group) (sym (take-map counted bin l))
+
+  pub group_counted : blocks_in (take bin (map counted l)) + blocks_in (map counted group) ≡ blocks_in (take (bin + length group) (map counted l))
+  group_counted = omega (arith, ap blocks_in taken, blocks_append (take bin (map counted l)) (map counted group))
+
+  -- and there are few of them
+  pub group_few : (most : ℕ) → blocks_in (map counted l) ≤ most → blocks_in (take bin (map counted l)) + blocks_in (map counted group) ≤ most
+  group_few most h = omega (arith, group_counted, blocks_part (map counted l) (bin + length group))
+
+  pub group_passed : drop (bin + length group) l ≡ rest
+  group_passed = sym (drop-drop (length group) bin l) ∙ ap (drop (length group)) next ∙ drop-append_seam group rest
+
+  pub group_inside : bin ≤ length l → bin + length group ≤ length l
+  group_inside h = omega (arith, length-drop bin l, ap length next, length-append group rest)
+
+-- where no bin has more than so many, neither have all of them together
+pub blocks_all : (most : ℕ) (l : List ℕ) → AtMost most l → blocks_in l ≤ length l * most
+unfolding blocks_in
+blocks_all most [] few = zero-le
+blocks_all most (x ∷ l) few = omega (arith, few 0, blocks_all most l (λ (k : ℕ). few (suc k)))

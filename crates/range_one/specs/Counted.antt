@@ -1,9 +1,10 @@
 -- The range of counters (01, step 9): "the gate bin as in 8"; "The answer carries two energies: those of the first bins whose running count, blocks below the
 -- gate included, passes the rank plus that lower count."
-use Rattle.std.specs.Prelude.{ℕ, suc, ◌+◌, ◌-◌, ◌≤◌, ◌≡◌, cond, List, [], ◌∷◌, eqb, ltb, length, get_or, take, Float}
+use Rattle.std.specs.Prelude.{ℕ, suc, ◌+◌, ◌-◌, ◌*◌, ◌≤◌, ◌≡◌, cond, List, [], ◌∷◌, eqb, ltb, length, get_or, take, Float}
 use Rattle.bins_tables.specs.Tables.{energy_at}
 use Rattle.bins.specs.Bin.{bins}
-use Rattle.history_set.specs.Set.{counters_at}
+use Rattle.history_histogram.specs.Histogram.{largest_count}
+use Rattle.history_set.specs.Set.{most_histories, counters_at}
 use Rattle.gate.specs.declared.blocks.Totals.{Totals}
 use Rattle.gate.specs.Totals.{none, bins_from}
 unfoldable pub use Rattle.gate.specs.Totals.{blocks_in}
@@ -11,6 +12,10 @@ use Rattle.gate.specs.Start.{start_bin}
 use Rattle.range_ranks.specs.Ranks.{low_rank, high_rank}
 use Rattle.range_ranks.specs.Span.{Span, found, nothing, gate_energy}
 use Rattle.range_one.specs.declared.Place.{Place}
+
+-- the most blocks of a bin of 16 histograms
+abbrev pub most_in_bin : ℕ
+most_in_bin = most_histories * largest_count
 
 -- no bin has more than so many blocks
 abbrev pub AtMost : ℕ → List ℕ → Type 0

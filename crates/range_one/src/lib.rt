@@ -1,12 +1,20 @@
-// The loudness range of one histogram: the bins of the two ranks among the blocks that the gate leaves.
+// The loudness range of the counters of all bins, one histogram's or several added up: the bins of the two ranks among the blocks that the gate leaves.
 #![tactic(auto)]
 
-ghost use Rattle.std.specs.Prelude.{◌≡◌, ◌+◌, ◌-◌, ◌≤◌, length, take};
+ghost use Rattle.std.specs.Prelude.{◌≡◌, ◌+◌, ◌-◌, ◌*◌, ◌≤◌, ℕ, length, map, take};
 ghost use Rattle.base_refusals.specs.Outcome.{says};
 ghost use Rattle.bins.specs.Bin.{bins};
-ghost use Rattle.gate.specs.Totals.{most_blocks};
 ghost use Rattle.range_ranks.specs.Span.{said};
-ghost use Rattle.range_one.specs.Counted.{blocks_in, running_from, first_past, left_in, span_at, Short};
+ghost use Rattle.range_one.specs.Counted.{
+  most_in_bin,
+  AtMost,
+  blocks_in,
+  running_from,
+  first_past,
+  left_in,
+  span_at,
+  Short,
+};
 
 use bins::Count;
 use range_ranks::spans::Span;
@@ -14,78 +22,114 @@ use range_ranks::spans::Span;
 // So many bins are counted together where the rank lies beyond them.
 const GROUP: usize = 20;
 
-// A bin, and how many blocks stand below it.
-#[derive(Clone, Copy)]
-pub struct Place {
-    pub bin: usize,
-    pub before: u64,
+// A bin's counter: of 32 bits in a histogram, of 64 where several are added up.
+pub trait Counter: Copy {
+    // The blocks that it counts.
+    ghost counted: { Self → ℕ };
+
+    fn wide(self) -> u64
+        ensures { result ≡ counted self };
 }
 
-// How many blocks the bins from one up to another have.
-fn blocks_of(counters: &[Count], from: usize, until: usize) -> u64
-    requires { (from ≤ until) × (until ≤ bins) × (length counters.now ≡ bins) }
-    ensures { blocks_in (take from counters.now) + result ≡ blocks_in (take until counters.now) }
+impl Counter for u32 {
+    ghost counted = { λ count. count };
+
+    fn wide(self) -> u64 {
+        bins::wide(self)
+    }
+}
+
+impl Counter for u64 {
+    ghost counted = { λ count. count };
+
+    fn wide(self) -> u64 {
+        self
+    }
+}
+
+// The counters of all bins. None has more blocks than a bin of 16 histograms.
+#[derive(Drop)]
+pub struct Bins<'a, C: Counter> {
+    pub counters: &'a [C],
+    ghost all: { length counters.now ≡ bins },
+    ghost few: { AtMost most_in_bin (map C.counted counters.now) },
+}
+
+// A bin, and how many blocks stand below it.
+#[derive(Clone, Copy)]
+struct Place {
+    bin: usize,
+    before: u64,
+}
+
+// How many blocks some bins have.
+fn blocks_of<C: Counter>(counters: &[C]) -> u64
+    requires { blocks_in (map C.counted counters.now) ≤ bins * most_in_bin }
+    ensures { result ≡ blocks_in (map C.counted counters.now) }
 {
     let mut blocks: u64 = 0;
-    let mut bin = from;
-    while bin < until {
-        blocks = blocks + bins::wide(counters[bin]);
-        bin += 1;
+    for count in counters {
+        blocks += count.wide();
     }
     blocks
 }
 
-// Groups of bins are passed by as long as the rank lies beyond them.
-fn pass_by(counters: &[Count], from: Place, rank: u64) -> Place
-    requires { (length counters.now ≡ bins) × Short counters.now rank from }
-    ensures { Short counters.now rank result }
-{
-    let mut bin = from.bin;
-    let mut before = from.before;
-    while bin <= bins::BINS - GROUP {
-        let next = before + blocks_of(counters, bin, bin + GROUP);
-        if rank < next {
-            return Place { bin, before };
+impl<'a, C: Counter> Bins<'a, C> {
+    // Groups of bins are passed by as long as the rank lies beyond them.
+    fn pass_by(&self, from: Place, rank: u64) -> Place
+        requires { Short (map C.counted self.now.counters.now) rank from }
+        ensures { Short (map C.counted self.now.counters.now) rank result }
+    {
+        let mut near = from;
+        for group in self.counters[from.bin..].chunks_exact(GROUP) {
+            let before = near.before + blocks_of(group);
+            if rank < before {
+                return near;
+            }
+            near = Place {
+                bin: near.bin + group.len(),
+                before,
+            };
         }
-        before = next;
-        bin += GROUP;
+        near
     }
-    Place { bin, before }
-}
 
-// The first bin whose running count passes the rank.
-fn first_past(counters: &[Count], from: Place, rank: u64) -> Place
-    requires { (length counters.now ≡ bins) × Short counters.now rank from }
-    ensures { (result.bin ≡ first_past rank 0 (running_from 0 counters.now)) × Short counters.now rank result }
-{
-    let near = pass_by(counters, from, rank);
-    let mut bin = near.bin;
-    let mut before = near.before;
-    while bin < bins::BINS {
-        let next = before + bins::wide(counters[bin]);
-        if rank < next {
-            return Place { bin, before };
+    // The first bin whose running count passes the rank.
+    fn first_past(&self, from: Place, rank: u64) -> Place
+        requires { Short (map C.counted self.now.counters.now) rank from }
+        ensures { (result.bin ≡ first_past rank 0 (running_from 0 (map C.counted self.now.counters.now))) × Short (map C.counted self.now.counters.now) rank result }
+    {
+        let near = self.pass_by(from, rank);
+        let mut before = near.before;
+        for bin in near.bin..bins::BINS {
+            let next = before + self.counters[bin].wide();
+            if rank < next {
+                return Place { bin, before };
+            }
+            before = next;
         }
-        before = next;
-        bin += 1;
+        Place {
+            bin: bins::BINS,
+            before,
+        }
     }
-    Place { bin, before }
-}
 
-// The energies at the two ranks among the blocks from a bin on. The low rank is not above the high one, whose search goes on from there.
-fn ranked(counters: &[Count], count: u64, start: usize) -> Span
-    requires { (length counters.now ≡ bins) × (start ≤ bins) × (count ≡ blocks_in counters.now) × (count ≤ most_blocks) }
-    ensures { said result ≡ says (left_in counters.now (blocks_in (take start counters.now)) (count - blocks_in (take start counters.now))) }
-{
-    let before = blocks_of(counters, 0, start);
-    let left = count - before;
-    if left == 0 {
-        return Span::Nothing;
+    // The energies at the two ranks among the blocks from a bin on. The low rank is not above the high one, whose search goes on from there.
+    pub fn ranked(&self, count: u64, start: usize) -> Span
+        requires { (start ≤ bins) × (count ≡ blocks_in (map C.counted self.now.counters.now)) }
+        ensures { said result ≡ says (left_in (map C.counted self.now.counters.now) (blocks_in (take start (map C.counted self.now.counters.now)))
+            (count - blocks_in (take start (map C.counted self.now.counters.now)))) }
+    {
+        let before = blocks_of(&self.counters[..start]);
+        let left = count - before;
+        if left == 0 {
+            return Span::Nothing;
+        }
+        let gate = Place { bin: start, before };
+        let low = self.first_past(gate, range_ranks::low_rank(left - 1) + before);
+        let high = self.first_past(low, range_ranks::high_rank(left - 1) + before);
+        range_ranks::spans::of_bins(low.bin, high.bin)
     }
-    let gate = Place { bin: start, before };
-    let low = first_past(counters, gate, range_ranks::low_rank(left - 1) + before);
-    let high = first_past(counters, low, range_ranks::high_rank(left - 1) + before);
-    range_ranks::spans::of_bins(low.bin, high.bin)
 }
 
 // The range of the histogram whose counters start at a place. There is none where 1,000 counters do not stand there.
@@ -93,11 +137,11 @@ pub fn of_counters(counters: &[Count], start: usize) -> Span
     ensures { said result ≡ says (span_at counters.now start) }
 {
     let started = gate::blocks::started(counters, start, range_ranks::spans::gate_share());
-    let totals = started.totals;
-    let count = totals.count;
-    if count == 0 {
+    if started.totals.count == 0 {
         return Span::Nothing;
     }
-    let end = start + bins::BINS;
-    ranked(&counters[start..end], count, started.bin)
+    let histogram = Bins {
+        counters: &counters[start..start + bins::BINS],
+    };
+    histogram.ranked(started.totals.count, started.bin)
 }

@@ -1,40 +1,31 @@
--- `range_histograms::add_histories` meets its contract. The invariant: the histories from `i` on, on top of what was added, give what all give. Assumes nothing.
-use mathlib.Core.Path.{refl, sym, ◌∙◌}
-use Prim.Native.Nat.{ℕ, ◌*◌}
-use native.Mathlib.Omega.{arith}
-use lib.ListN.{length}
+-- `range_histograms::add_histories` meets its contract. The invariant: the histories that are left, on top of what was added, give what all give. Assumes nothing.
+use Rattle.std.proofs.Common.{ℕ, ◌*◌, ◌≤◌, length, refl, sym, ◌∙◌, arith}
 use Rattle.history_histogram.specs.Histogram.{largest_count}
-use Rattle.range_histograms.proofs.Adding.{counters_at_lem, added_turn, added_end}
+use Rattle.history_set.specs.Set.{counters_end}
+use Rattle.history_set.proofs.Entries.{every_at}
+use Rattle.range_histograms.proofs.Adding.{added_turn, added_end}
 use Rattle.range_histograms.proofs.add_histories.Goals as goal
 
-pub loop-i-init : goal.loop-i-init
-loop-i-init c = let s = c in (omega arith, s.requires.2, λ (k : ℕ). omega (arith, s.requires.3 k), refl)
+pub loop-entry-init : goal.loop-entry-init
+loop-entry-init c = record { few = λ (bin : ℕ). omega (arith, c.requires.2 bin); same = refl }
 
 pub add_history-requires : goal.add_history-requires
-add_history-requires c =
-    let l = c in
-    let s = l in (
-      counters_at_lem (length s.args.counters.now) s.args.entries s.args.count l.loop-i.i (omega arith) (omega arith) s.requires.1,
-      l.loop-i.invariant.1,
-      λ (k : ℕ). omega (arith, l.loop-i.invariant.2 k),
-    )
+add_history-requires c = (
+  every_at (λ entry. counters_end entry.shape ≤ length c.args.counters.now) c.args.entries.now c.loop-entry.entry-index (omega arith) c.requires.1,
+  λ (bin : ℕ). omega (arith, c.loop-entry.invariant.few bin),
+)
 
-pub loop-i-preserved : goal.loop-i-preserved
-loop-i-preserved c =
-    let l = c in
-    let s = l in
-    let done = c.add_history in (
-      omega arith,
-      omega (arith, done.auto.added),
-      λ (k : ℕ). omega (arith, done.ensures.1 (l.loop-i.i * largest_count) l.loop-i.invariant.2 k),
-      added_turn s.args.counters.now s.args.entries s.args.count l.loop-i.i l.loop-i.added (omega arith) (omega arith) done.new.added done.ensures.0
-          ∙ l.loop-i.invariant.3,
-    )
+pub loop-entry-preserved : goal.loop-entry-preserved
+loop-entry-preserved c =
+    let i = c.loop-entry.entry-index in record {
+    few = λ (bin : ℕ). omega (arith, c.add_history.ensures.1 (i * largest_count) c.loop-entry.invariant.few bin);
+    same =
+      added_turn c.args.counters.now c.args.entries.now i c.loop-entry.added (omega arith) c.add_history.new.added c.add_history.ensures.0
+      ∙ c.loop-entry.invariant.same;
+  }
 
 pub returns : goal.returns
-returns c =
-    let l = c in
-    let s = l in (
-      sym (added_end s.args.counters.now s.args.entries s.args.count l.loop-i.i l.loop-i.added (omega arith)) ∙ l.loop-i.invariant.3,
-      λ (k : ℕ). omega (arith, l.loop-i.invariant.2 k),
-    )
+returns c = (
+  sym (added_end c.args.counters.now c.args.entries.now c.loop-entry.entry-index c.loop-entry.added (omega arith)) ∙ c.loop-entry.invariant.same,
+  λ (bin : ℕ). omega (arith, c.loop-entry.invariant.few bin),
+)

@@ -15,15 +15,13 @@ use Rattle.range_histograms.proofs.alone.Goals as goal
 
 pub returns-in-Histogram : goal.returns-in-Histogram
 returns-in-Histogram c =
-    let h = c in
-    let w = h in
-    let a = w.args in
-    let start = h.in-Histogram.start in
-    let inside = subst (λ (s : Shape). counters_end s ≤ length a.counters.now) h.in-Histogram.is w.requires in
+    let a = c.args in
+    let start = c.in-Histogram.start in
+    let inside = subst (λ (s : Shape). counters_end s ≤ length a.counters.now) c.in-Histogram.is c.requires in
     c.of_counters.ensures
     ∙ ap {B = Said Span} says (span_there a.counters.now start inside
     ∙ ap counted_span (counters_alone a.counters.now start inside)
-    ∙ ap (λ (s : Shape). counted_span (with_history empty (shape_shows a.counters.now [] s))) (sym h.in-Histogram.is))
+    ∙ ap (λ (s : Shape). counted_span (with_history empty (shape_shows a.counters.now [] s))) (sym c.in-Histogram.is))
 
 pub returns-in-Queue : goal.returns-in-Queue
 returns-in-Queue c =

@@ -1,29 +1,22 @@
 -- `range_one::blocks_of` meets its contract. The invariant: the sum is that of the bins passed. Assumes nothing.
-use mathlib.Core.Path.{ap, ◌∙◌}
-use Prim.Native.Nat.{ℕ}
-use native.Mathlib.Omega.{arith}
-use lib.ListN.{take}
-use Rattle.history_histogram.specs.Histogram.{largest_count}
+use Rattle.std.proofs.Common.{◌+◌, List, [], map, ap, ◌∙◌, arith}
+use Rattle.std.proofs.lemmas.List.{take_all}
 use Rattle.range_one.specs.Counted.{blocks_in}
-use Rattle.range_one.proofs.Counting.{blocks_more, blocks_up_to}
+use Rattle.range_one.proofs.Counting.{counted_more, counted_part, blocks_none}
 use Rattle.range_one.proofs.blocks_of.Goals as goal
 
-pub loop-bin-init : goal.loop-bin-init
-loop-bin-init c = (omega arith, omega arith)
+pub loop-count-init : goal.loop-count-init
+loop-count-init g c = blocks_none []
 
 pub overflow_add-blocks : goal.overflow_add-blocks
-overflow_add-blocks c =
-    let l = c in
-    let counters = l.args.counters.now in
-    let given = l.type_inv.counters in
-    omega (arith, l.loop-bin.invariant.1, blocks_up_to largest_count counters (λ i. omega (arith, given i)) l.loop-bin.bin, c.wide-blocks.ensures, given l.loop-bin.bin)
+overflow_add-blocks g c =
+    let n = c.loop-count.count-index in
+    omega (arith, c.wide-blocks.ensures, c.requires, counted_more g.C.Counter.counted c.args.counters.now n c.count-item.result c.loop-count-test.true c.count-item.is, counted_part g.C.Counter.counted c.args.counters.now (n + 1))
 
-pub loop-bin-preserved : goal.loop-bin-preserved
-loop-bin-preserved c =
-    let l = c in
-    (omega arith, omega (arith, l.loop-bin.invariant.1, c.wide-blocks.ensures, blocks_more l.args.counters.now l.loop-bin.bin (omega arith)))
+pub loop-count-preserved : goal.loop-count-preserved
+loop-count-preserved g c =
+    let n = c.loop-count.count-index in
+    omega (arith, c.wide-blocks.ensures, counted_more g.C.Counter.counted c.args.counters.now n c.count-item.result c.loop-count-test.true c.count-item.is)
 
 pub returns : goal.returns
-returns c =
-    let l = c in
-    l.loop-bin.invariant.1 ∙ ap (λ (n : ℕ). blocks_in (take n l.args.counters.now)) {x = l.loop-bin.bin} {y = l.args.until} (omega arith)
+returns g c = c.loop-count.invariant ∙ ap (λ (l : List g.row.C.Denot). blocks_in (map g.C.Counter.counted l)) (take_all _ c.args.counters.now c.loop-count-test.false)

@@ -1,0 +1,46 @@
+-- `range_one::Bins::ranked` meets its contract: the blocks below the gate, those left, and the bins of the two ranks. Assumes nothing.
+use Rattle.std.proofs.Common.{◌≡◌, ℕ, ◌-◌, ◌*◌, ◌≤◌, length, map, take, sym, ap, ◌∙◌, arith}
+use Rattle.std.proofs.lemmas.List.{take-map, length-map}
+use Rattle.base_refusals.specs.Outcome.{Said, says}
+use Rattle.bins.specs.Bin.{bins}
+use Rattle.range_ranks.specs.Span.{Span}
+use Rattle.range_one.specs.Counted.{most_in_bin, blocks_in, left_in}
+use Rattle.range_one.proofs.Counting.{blocks_part, blocks_all, counted_part}
+use Rattle.range_one.proofs.Answers.{left_none, left_read}
+use Rattle.range_one.proofs.Bins.ranked.Goals as goal
+
+pub blocks_of-before-requires : goal.blocks_of-before-requires
+blocks_of-before-requires g c =
+    let l = c.args.self.now in
+    omega (
+      arith,
+      counted_part g.C.Counter.counted l.counters.now c.args.start,
+      blocks_all most_in_bin (map g.C.Counter.counted l.counters.now) l.few,
+      length-map l.counters.now g.C.Counter.counted,
+      l.all,
+    )
+
+pub overflow_sub-left : goal.overflow_sub-left
+overflow_sub-left g c = omega (arith, c.blocks_of-before.ensures, c.requires.1, counted_part g.C.Counter.counted c.args.self.now.counters.now c.args.start)
+
+pub returns-then-left-eq0 : goal.returns-then-left-eq0
+returns-then-left-eq0 g c =
+    let counts = map g.C.Counter.counted c.args.self.now.counters.now in
+    let before = c.blocks_of-before.ensures ∙ ap blocks_in (sym (take-map g.C.Counter.counted c.args.start c.args.self.now.counters.now)) in
+    ap {B = Said Span} says (sym (left_none counts c.blocks_of-before.result (c.args.count - c.blocks_of-before.result) c.if-left-eq0.true)
+    ∙ ap (λ (n : ℕ). left_in counts n (c.args.count - n)) before)
+
+pub first_past-low-requires : goal.first_past-low-requires
+first_past-low-requires g c =
+    let before = c.blocks_of-before.ensures ∙ ap blocks_in (sym (take-map g.C.Counter.counted c.args.start c.args.self.now.counters.now)) in
+    (c.requires.0, before, omega arith)
+
+pub returns : goal.returns
+returns g c =
+    let counts = map g.C.Counter.counted c.args.self.now.counters.now in
+    let before = c.blocks_of-before.ensures ∙ ap blocks_in (sym (take-map g.C.Counter.counted c.args.start c.args.self.now.counters.now)) in
+    c.of_bins.ensures
+    ∙ ap {B = Said Span} says (
+    left_read counts c.blocks_of-before.result (c.args.count - c.blocks_of-before.result) c.low_rank.result c.high_rank.result c.first_past-low.result.bin c.first_past-high.result.bin
+    c.if-left-eq0.false c.low_rank.ensures c.high_rank.ensures c.first_past-low.ensures.0 c.first_past-high.ensures.0
+    ∙ ap (λ (n : ℕ). left_in counts n (c.args.count - n)) before)
