@@ -7,7 +7,7 @@ use Rattle.base_refusals.proofs.Rows.{stopped, goes}
 use Rattle.history_histogram.specs.Histogram.{empty}
 use Rattle.history_set.specs.Set.{Histories, histories_of, set_rows}
 use Rattle.range_histograms.specs.Counted.{added_to, counted_span, histogram_range}
-pub use Rattle.range_one.proofs.Answers.{counted_none, counted_some, left_none, left_read}
+pub use Rattle.range_one.proofs.Answers.{counted_none, counted_some, left_none}
 
 module _ (h : Histories) where
   pub histogram_refused : (n : ℕ) → n ≡ number_of (set_rows h) → (n ≡ 0 → ⊥) → refusal n ≡ said_by (histogram_range h)

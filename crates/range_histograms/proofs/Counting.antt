@@ -1,6 +1,6 @@
 -- Counts of blocks over the bins of a set: how far they get. Assumes nothing.
-use mathlib.Core.List.{List, [], ◌∷◌}
-use Prim.Native.Nat.{ℕ, suc, ◌*◌, ◌^◌, ◌≤◌, zero-le}
+use mathlib.Core.List.{List}
+use Prim.Native.Nat.{ℕ, ◌*◌, ◌^◌, ◌≤◌}
 use native.Mathlib.Omega.{arith}
 use lib.Dec.{T, le→leb}
 use lib.IntN.{pos}
@@ -8,7 +8,7 @@ use lib.ListN.{length, get_or, take}
 use Rattle.std.proofs.Common.{◌≡◌, map, ap}
 use Rattle.std.proofs.lemmas.List.{map-id}
 use lib.Ieee.{binary64, in_float}
-use Rattle.range_one.proofs.Counting.{blocks_up_to}
+use Rattle.range_one.proofs.Counting.{blocks_up_to, blocks_all}
 use Rattle.range_histograms.specs.Counted.{most_in_bin, AtMost, blocks_in}
 pub use Rattle.range_one.proofs.Counting.{blocks_more, blocks_none, blocks_part, count_is}
 
@@ -16,9 +16,7 @@ pub blocks_most : (l : List ℕ) → AtMost most_in_bin l → (n : ℕ) → bloc
 blocks_most l b n = blocks_up_to most_in_bin l b n
 
 pub blocks_all_most : (l : List ℕ) → AtMost most_in_bin l → blocks_in l ≤ length l * most_in_bin
-unfolding blocks_in
-blocks_all_most [] b = zero-le
-blocks_all_most (x ∷ l) b = omega (arith, b 0, blocks_all_most l (λ (k : ℕ). b (suc k)))
+blocks_all_most l few = blocks_all most_in_bin l few
 
 -- what a bin of 16 histograms has is a float exactly
 pub few_in_float : (blocks : ℕ) → blocks ≤ most_in_bin → T (in_float binary64 (pos blocks))

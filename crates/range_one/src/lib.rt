@@ -63,7 +63,7 @@ struct Place {
 }
 
 // How many blocks some bins have.
-fn blocks_of<C: Counter>(counters: &[C]) -> u64
+pub fn blocks_of<C: Counter>(counters: &[C]) -> u64
     requires { blocks_in (map C.counted counters.now) ≤ bins * most_in_bin }
     ensures { result ≡ blocks_in (map C.counted counters.now) }
 {

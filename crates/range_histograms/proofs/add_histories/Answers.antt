@@ -18,11 +18,11 @@ add_history-requires c = (
 pub loop-entry-preserved : goal.loop-entry-preserved
 loop-entry-preserved c =
     let i = c.loop-entry.entry-index in record {
-    few = λ (bin : ℕ). omega (arith, c.add_history.ensures.1 (i * largest_count) c.loop-entry.invariant.few bin);
-    same =
-      added_turn c.args.counters.now c.args.entries.now i c.loop-entry.added (omega arith) c.add_history.new.added c.add_history.ensures.0
-      ∙ c.loop-entry.invariant.same;
-  }
+      few = λ (bin : ℕ). omega (arith, c.add_history.ensures.1 (i * largest_count) c.loop-entry.invariant.few bin);
+      same =
+          added_turn c.args.counters.now c.args.entries.now i c.loop-entry.added (omega arith) c.add_history.new.added c.add_history.ensures.0
+          ∙ c.loop-entry.invariant.same;
+    }
 
 pub returns : goal.returns
 returns c = (

@@ -1,4 +1,4 @@
-use Rattle.std.proofs.Common.{◌≡◌, ◌*◌, ◌≤◌, [], drop}
+use Rattle.std.proofs.Common.{◌≡◌, ◌*◌, [], drop}
 use Rattle.history_histogram.specs.Histogram.{largest_count}
 use Rattle.history_set.specs.Set.{all_show}
 use Rattle.range_histograms.specs.Counted.{AtMost, added_to}

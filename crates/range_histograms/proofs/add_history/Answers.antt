@@ -1,5 +1,5 @@
 -- `range_histograms::add_history` meets its contract, shape by shape. Assumes nothing.
-use Rattle.std.proofs.Common.{◌≡◌, ℕ, ◌+◌, ◌-◌, List, [], take, drop, get_or, sym, ap, ◌∙◌, arith}
+use Rattle.std.proofs.Common.{ℕ, ◌+◌, ◌-◌, List, [], take, drop, get_or, sym, ap, ◌∙◌, arith}
 use Rattle.bins.specs.Bin.{bins}
 use Rattle.history_histogram.specs.Histogram.{largest_count, sums}
 use Rattle.history_set.specs.declared.set.Shape.{Shape}

@@ -1,13 +1,13 @@
 -- `range_histograms::of_histograms` meets its contract: the set's refusals first, then counters that start from 0 and have every histogram added.
 -- Assumes nothing.
-use Rattle.std.proofs.Common.{◌≡◌, ℕ, ◌≤◌, List, [], length, get_or, sym, ap, ◌∙◌, arith}
+use Rattle.std.proofs.Common.{ℕ, ◌≤◌, List, [], length, get_or, sym, ap, ◌∙◌, arith}
 use Rattle.base_refusals.specs.Outcome.{says, said_by}
 use Rattle.base_refusals.specs.Refusal.{number}
 use Rattle.base_refusals.proofs.Numbers.{no_number}
 use Rattle.history_histogram.specs.Histogram.{empty}
 use Rattle.history_set.specs.declared.set.Entry.{Entry}
 use Rattle.history_set.specs.Lent.{lent}
-use Rattle.history_set.specs.Set.{all_show, counters_end, histories_of}
+use Rattle.history_set.specs.Set.{all_show, counters_end}
 use Rattle.history_set.proofs.Entries.{past_the_last, every_at, all_chosen, all_counters_inside}
 use Rattle.history_set.proofs.Rows.{kept_lent}
 use Rattle.range_histograms.specs.Counted.{added_to, counted_span}

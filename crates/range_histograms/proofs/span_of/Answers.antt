@@ -1,11 +1,10 @@
 -- `range_histograms::span_of` meets its contract: the totals, the gate's bin, and the two ranks from there on. Assumes nothing.
-use Rattle.std.proofs.Common.{◌≡◌, ℕ, ◌-◌, List, take, sym, ap, ◌∙◌, arith}
+use Rattle.std.proofs.Common.{ℕ, ◌-◌, List, take, sym, ap, ◌∙◌, arith}
 use Rattle.base_refusals.specs.Outcome.{says}
 use Rattle.gate.specs.declared.blocks.Totals.{Totals}
 use Rattle.gate.specs.Totals.{none}
 use Rattle.gate.specs.Start.{start_bin}
 use Rattle.gate.proofs.Start.{start_most}
-use Rattle.range_ranks.specs.Span.{gate_energy}
 use Rattle.range_histograms.specs.Counted.{blocks_in, left_in}
 use Rattle.range_histograms.proofs.Counting.{count_is, as_they_are}
 use Rattle.range_histograms.proofs.Answers.{counted_none, counted_some}

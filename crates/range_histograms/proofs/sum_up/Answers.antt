@@ -1,5 +1,5 @@
 -- `range_histograms::sum_up` meets its contract. The invariant: the bins from `bin` on, on top of what was counted, give what all give. Assumes nothing.
-use Rattle.std.proofs.Common.{◌≡◌, ◌+◌, ◌≤◌, ℕ, List, get_or, drop, pos, refl, sym, ap, ◌∙◌, arith}
+use Rattle.std.proofs.Common.{◌+◌, get_or, drop, pos, refl, sym, ap, ◌∙◌, arith}
 use lib.Ieee.{Float, nan, binary64, add, mul, of_int}
 use Rattle.bins_tables.proofs.Taken.{energy_entry}
 use Rattle.gate.specs.declared.blocks.Totals.{Totals}
@@ -24,13 +24,13 @@ loop-bin-preserved c =
     let bin = c.loop-bin.bin in
     let blocks = get_or counters bin 0 in
     let next : Float → Totals = λ (x : Float). bins_from (record { count = c.loop-bin.count + blocks; sum = add binary64 c.loop-bin.sum x }) (bin + 1) (drop (bin + 1) counters) in record {
-    few = omega (arith, most_at counters c.args.added.now.few bin);
-    same =
-      ap (λ (x : Float). next (mul binary64 x (get_or taken.result bin nan))) c.float.ensures
-      ∙ ap (λ (x : Float). next (mul binary64 (of_int binary64 (pos blocks)) x)) (energy_entry taken.result bin taken.ensures)
-      ∙ bins_turn counters (record { count = c.loop-bin.count; sum = c.loop-bin.sum }) bin (omega arith)
-      ∙ c.loop-bin.invariant.same;
-  }
+      few = omega (arith, most_at counters c.args.added.now.few bin);
+      same =
+          ap (λ (x : Float). next (mul binary64 x (get_or taken.result bin nan))) c.float.ensures
+          ∙ ap (λ (x : Float). next (mul binary64 (of_int binary64 (pos blocks)) x)) (energy_entry taken.result bin taken.ensures)
+          ∙ bins_turn counters (record { count = c.loop-bin.count; sum = c.loop-bin.sum }) bin (omega arith)
+          ∙ c.loop-bin.invariant.same;
+    }
 
 pub returns : goal.returns
 returns c =

@@ -17,21 +17,21 @@ use Rattle.range_one.proofs.Counting.{count_is}
 use Rattle.range_one.proofs.Answers.{counted_some, span_there, span_none, blocks_there}
 use Rattle.range_one.proofs.of_counters.Goals as goal
 
-pub returns-then-count-eq0 : goal.returns-then-count-eq0
-returns-then-count-eq0 c =
-    ap says (sym (span_none c.args.counters.now c.args.start (ap (λ (totals : Totals). totals.count) (sym c.started-started.ensures.0) ∙ c.if-count-eq0.true)))
+pub returns-then-started-eq0 : goal.returns-then-started-eq0
+returns-then-started-eq0 c =
+    ap says (sym (span_none c.args.counters.now c.args.start (ap (λ (totals : Totals). totals.count) (sym c.started-started.ensures.0) ∙ c.if-started-eq0.true)))
 
-pub overflow_add-end : goal.overflow_add-end
-overflow_add-end c =
-    omega (arith, blocks_there c.args.counters.now c.args.start (λ z. c.if-count-eq0.false (ap (λ (totals : Totals). totals.count) c.started-started.ensures.0 ∙ z)))
+pub overflow_add-histogram : goal.overflow_add-histogram
+overflow_add-histogram c =
+    omega (arith, blocks_there c.args.counters.now c.args.start (λ z. c.if-started-eq0.false (ap (λ (totals : Totals). totals.count) c.started-started.ensures.0 ∙ z)))
 
 pub offset_bounds-counters-start : goal.offset_bounds-counters-start
 offset_bounds-counters-start c =
-    search (rules, blocks_there c.args.counters.now c.args.start (λ z. c.if-count-eq0.false (ap (λ (totals : Totals). totals.count) c.started-started.ensures.0 ∙ z)))
+    search (rules, blocks_there c.args.counters.now c.args.start (λ z. c.if-started-eq0.false (ap (λ (totals : Totals). totals.count) c.started-started.ensures.0 ∙ z)))
 
 pub slice_bounds-histogram-end : goal.slice_bounds-histogram-end
 slice_bounds-histogram-end c =
-    omega (arith, blocks_there c.args.counters.now c.args.start (λ z. c.if-count-eq0.false (ap (λ (totals : Totals). totals.count) c.started-started.ensures.0 ∙ z)))
+    omega (arith, blocks_there c.args.counters.now c.args.start (λ z. c.if-started-eq0.false (ap (λ (totals : Totals). totals.count) c.started-started.ensures.0 ∙ z)))
 
 -- the counters of the histogram, as they stand
 as_they_stand : (counters : List ℕ) (start : ℕ) → map (λ (count : ℕ). count) (take (start + bins - start) (drop start counters)) ≡ counters_at counters start
@@ -49,7 +49,7 @@ ranked-requires c =
     let counters = c.args.counters.now in
     let start = c.args.start in
     let totals = c.started-started.result.totals in
-    let inside = blocks_there counters start (λ z. c.if-count-eq0.false (ap (λ (t : Totals). t.count) c.started-started.ensures.0 ∙ z)) in (
+    let inside = blocks_there counters start (λ z. c.if-started-eq0.false (ap (λ (t : Totals). t.count) c.started-started.ensures.0 ∙ z)) in (
       omega (arith, gate_is c.started-started.result.bin c.gate_share.result totals c.started-started.ensures.2 c.gate_share.ensures, start_most (gate_energy totals)),
       ap (λ (t : Totals). t.count) (totals_are counters start totals c.started-started.ensures.0 inside)
           ∙ count_is none 0 (counters_at counters start)
@@ -63,10 +63,10 @@ returns c =
     let part = counters_at counters start in
     let totals = c.started-started.result.totals in
     let bin = c.started-started.result.bin in
-    let inside = blocks_there counters start (λ z. c.if-count-eq0.false (ap (λ (t : Totals). t.count) c.started-started.ensures.0 ∙ z)) in
+    let inside = blocks_there counters start (λ z. c.if-started-eq0.false (ap (λ (t : Totals). t.count) c.started-started.ensures.0 ∙ z)) in
     let gate = gate_is bin c.gate_share.result totals c.started-started.ensures.2 c.gate_share.ensures in
     c.ranked.ensures
     ∙ ap says (
     ap (λ (l : List ℕ). left_in l (blocks_in (take bin l)) (totals.count - blocks_in (take bin l))) (as_they_stand counters start)
-    ∙ sym (counted_some part totals (blocks_in (take bin part)) (totals_are counters start totals c.started-started.ensures.0 inside) c.if-count-eq0.false (ap (λ (n : ℕ). blocks_in (take n part)) gate))
+    ∙ sym (counted_some part totals (blocks_in (take bin part)) (totals_are counters start totals c.started-started.ensures.0 inside) c.if-started-eq0.false (ap (λ (n : ℕ). blocks_in (take n part)) gate))
     ∙ sym (span_there counters start inside))

@@ -1,6 +1,6 @@
 -- `range_one::Bins::first_past` meets its contract. The invariant: what stands below `bin` is known, and does not reach the rank. Assumes nothing.
-use Rattle.std.proofs.Common.{◌≡◌, ℕ, ◌+◌, ◌≤◌, ◌<◌, List, length, get_or, map, take, sym, ap, ◌∙◌, arith}
-use Rattle.std.proofs.lemmas.List.{take-map, get_or-map, length-map}
+use Rattle.std.proofs.Common.{◌≡◌, ℕ, ◌+◌, length, map, take, ap, ◌∙◌, arith}
+use Rattle.std.proofs.lemmas.List.{get_or-map, length-map}
 use Rattle.bins.specs.Bin.{bins}
 use Rattle.range_one.specs.Counted.{blocks_in, most_in_bin}
 use Rattle.range_one.proofs.Counting.{blocks_more, blocks_part, blocks_all}
@@ -43,9 +43,9 @@ loop-bin-preserved g c =
     let counts = map g.C.Counter.counted l.counters.now in
     let long : length counts ≡ bins = length-map l.counters.now g.C.Counter.counted ∙ l.all in
     let read = get_or-map g.C.Counter.counted l.counters.now c.loop-bin.bin c.index-self-bin.result 0 (omega (arith, l.all)) in record {
-    known = omega (arith, c.wide.ensures, read, c.loop-bin.invariant.known, blocks_more counts c.loop-bin.bin (omega (arith, long)));
-    few = omega (arith, c.if-rank-next.false);
-  }
+      known = omega (arith, c.wide.ensures, read, c.loop-bin.invariant.known, blocks_more counts c.loop-bin.bin (omega (arith, long)));
+      few = omega (arith, c.if-rank-next.false);
+    }
 
 pub returns : goal.returns
 returns g c =

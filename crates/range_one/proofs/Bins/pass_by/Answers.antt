@@ -1,10 +1,10 @@
 -- `range_one::Bins::pass_by` meets its contract. The invariant: the bins from `near` on are left, and what stands below it is known and does not reach the
 -- rank. Assumes nothing.
-use Rattle.std.proofs.Common.{ℕ, ◌-◌, ◌*◌, ◌≤◌, length, map, drop, sym, ap, ◌∙◌, arith}
+use Rattle.std.proofs.Common.{◌-◌, ◌*◌, ◌≤◌, length, map, drop, sym, ◌∙◌, arith}
 use Rattle.std.proofs.lemmas.List.{take_all, length-map}
 use lib.ListN.{length-drop}
 use Rattle.bins.specs.Bin.{bins}
-use Rattle.range_one.specs.Counted.{blocks_in, most_in_bin}
+use Rattle.range_one.specs.Counted.{most_in_bin}
 use Rattle.range_one.proofs.Counting.{blocks_all, group_counted, group_few, group_passed, group_inside}
 use Rattle.range_one.proofs.Bins.pass_by.Goals as goal
 
@@ -12,9 +12,9 @@ pub loop-group-init : goal.loop-group-init
 loop-group-init g c =
     let l = c.args.self.now.counters.now in
     let all : length (drop c.args.from.bin l) ≤ length l - c.args.from.bin = omega (arith, length-drop c.args.from.bin l) in record {
-    left = sym (take_all (length l - c.args.from.bin) (drop c.args.from.bin l) all) ∙ sym c.chunks_exact-group-items.ensures.rest ∙ cc;
-    short = c.requires;
-  }
+      left = sym (take_all (length l - c.args.from.bin) (drop c.args.from.bin l) all) ∙ sym c.chunks_exact-group-items.ensures.rest ∙ cc;
+      short = c.requires;
+    }
 
 pub blocks_of-requires : goal.blocks_of-requires
 blocks_of-requires g c =
@@ -58,13 +58,13 @@ loop-group-preserved g c =
     let bin = c.loop-group.near.bin in
     let group = c.in-Some.group.now in
     let rest = c.next.new.self.rest.now in record {
-    left = group_passed g.C.Counter.counted l.counters.now group rest bin next;
-    short = (
-      omega (arith, l.all, group_inside g.C.Counter.counted l.counters.now group rest bin next (omega (arith, l.all, c.loop-group.invariant.short.0))),
-      omega (arith, c.blocks_of.ensures, c.loop-group.invariant.short.1, group_counted g.C.Counter.counted l.counters.now group rest bin next),
-      omega (arith, c.if-rank-before.false),
-    );
-  }
+      left = group_passed g.C.Counter.counted l.counters.now group rest bin next;
+      short = (
+        omega (arith, l.all, group_inside g.C.Counter.counted l.counters.now group rest bin next (omega (arith, l.all, c.loop-group.invariant.short.0))),
+        omega (arith, c.blocks_of.ensures, c.loop-group.invariant.short.1, group_counted g.C.Counter.counted l.counters.now group rest bin next),
+        omega (arith, c.if-rank-before.false),
+      );
+    }
 
 pub returns : goal.returns
 returns g c = c.loop-group.invariant.short

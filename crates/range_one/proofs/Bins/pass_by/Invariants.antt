@@ -1,6 +1,5 @@
-use Rattle.std.proofs.Common.{◌≡◌, ◌≤◌, length, map, take, drop}
-use Rattle.bins.specs.Bin.{bins}
-use Rattle.range_one.specs.Counted.{blocks_in, Short}
+use Rattle.std.proofs.Common.{◌≡◌, map, drop}
+use Rattle.range_one.specs.Counted.{Short}
 use Rattle.range_one.proofs.Bins.pass_by.Given as goal
 
 abbrev pub invariant-loop-group : goal.invariant-loop-group

@@ -1,11 +1,10 @@
 -- `range_one::Bins::ranked` meets its contract: the blocks below the gate, those left, and the bins of the two ranks. Assumes nothing.
-use Rattle.std.proofs.Common.{◌≡◌, ℕ, ◌-◌, ◌*◌, ◌≤◌, length, map, take, sym, ap, ◌∙◌, arith}
+use Rattle.std.proofs.Common.{ℕ, ◌-◌, map, sym, ap, ◌∙◌, arith}
 use Rattle.std.proofs.lemmas.List.{take-map, length-map}
 use Rattle.base_refusals.specs.Outcome.{Said, says}
-use Rattle.bins.specs.Bin.{bins}
 use Rattle.range_ranks.specs.Span.{Span}
 use Rattle.range_one.specs.Counted.{most_in_bin, blocks_in, left_in}
-use Rattle.range_one.proofs.Counting.{blocks_part, blocks_all, counted_part}
+use Rattle.range_one.proofs.Counting.{blocks_all, counted_part}
 use Rattle.range_one.proofs.Answers.{left_none, left_read}
 use Rattle.range_one.proofs.Bins.ranked.Goals as goal
 
