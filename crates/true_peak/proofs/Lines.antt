@@ -1,10 +1,10 @@
 -- Lines of samples: a line with samples stored after its history gives each frame's window as a run, so hearing the samples is scanning the line.
 -- The window of the next frame is this one's without its oldest sample and with one newer. Assumes nothing.
-use mathlib.Core.Path.{◌≡◌, refl, sym, ap, ◌∙◌, subst}
+use mathlib.Core.Path.{◌≡◌, refl, sym, ap, ◌∙◌}
 use mathlib.Core.Logic.{◌⊎◌, inl, inr}
 use mathlib.Core.List.{List, [], ◌∷◌}
 use Prim.Native.Nat.{ℕ, zero, suc, ◌+◌, ◌*◌, ◌-◌, ◌≤◌, ◌<◌}
-use native.Mathlib.Nat.{not-suc-le-zero, le_of_suc-le-suc, add-mul, suc-mul, add-zero, eq-or-lt_of_le}
+use native.Mathlib.Nat.{not-suc-le-zero, le_of_suc-le-suc, add-zero, eq-or-lt_of_le, mul-le-mul_right}
 use native.Mathlib.Omega.{arith}
 use lib.ListN.{length, get_or, take, set}
 use lib.Seq.{sets, get_or-set_other, get_or-set_same}
@@ -160,63 +160,29 @@ unfolding back
 kept_end memory l p k h = let e : 0 ≡ past - k = omega arith in ap (λ (n : ℕ). sets memory (p + k) (back l 0 n)) e
 
 -- ---- a channel's samples go to the line one by one
-pub gathered_turn : (samples l : List Float) (i step n k : ℕ) → k < n → i < length samples
-    → sets (set l (past + k) (get_or samples i nan)) (past + (k + 1)) (column samples (i + step) step (n - (k + 1))) ≡ sets l (past + k) (column samples i step (n - k))
+pub gathered_turn : (samples l : List Float) (first step n k : ℕ) (x : Float) → k < n → first + k * step < length samples → x ≡ get_or samples (first + k * step) nan
+    → sets (set l (past + k) x) (past + (k + 1)) (column samples (first + (k + 1) * step) step (n - (k + 1))) ≡ sets l (past + k) (column samples (first + k * step) step (n - k))
 unfolding column
-gathered_turn samples l i step n k h here =
+gathered_turn samples l first step n k x h here is =
+    let i = first + k * step in
     let e : n - k ≡ suc (n - (k + 1)) = omega arith in
     let g : past + (k + 1) ≡ suc (past + k) = omega arith in
-    ap (λ (x : Float). sets (set l (past + k) x) (past + (k + 1)) (column samples (i + step) step (n - (k + 1)))) (within samples i nan silence here)
+    let next : first + (k + 1) * step ≡ i + step = omega arith in
+    ap (λ (v : Float). sets (set l (past + k) v) (past + (k + 1)) (column samples (first + (k + 1) * step) step (n - (k + 1)))) (is ∙ within samples i nan silence here)
+    ∙ ap (λ (at : ℕ). sets (set l (past + k) (get_or samples i silence)) (past + (k + 1)) (column samples at step (n - (k + 1)))) next
     ∙ ap (λ (p : ℕ). sets (set l (past + k) (get_or samples i silence)) p (column samples (i + step) step (n - (k + 1)))) g
     ∙ ap (λ (m : ℕ). sets l (past + k) (column samples i step m)) (sym e)
 
--- four at a time: these are stored so,
-pub four_stored : (samples l : List Float) (i step k : ℕ) → i + step + step + step < length samples
-    → set (set (set (set l (past + k) (get_or samples i nan)) (past + k + 1) (get_or samples (i + step) nan)) (past + k + 2) (get_or samples (i + step + step) nan)) (past + k + 3) (get_or samples (i + step + step + step) nan)
-    ≡ sets l (past + k) (column samples i step 4)
-unfolding column
-four_stored samples l i step k h =
-    let one : past + k + 1 ≡ suc (past + k) = omega arith in
-    let two : past + k + 2 ≡ suc (suc (past + k)) = omega arith in
-    let three : past + k + 3 ≡ suc (suc (suc (past + k))) = omega arith in
-    rw (
-      within samples i nan silence (omega arith),
-      within samples (i + step) nan silence (omega arith),
-      within samples (i + step + step) nan silence (omega arith),
-      within samples (i + step + step + step) nan silence h,
-      one,
-      two,
-      three,
-    )
-
--- and leave the rest
-pub gathered_four : (samples l : List Float) (i step n k : ℕ) → k + 4 ≤ n
-    → sets (sets l (past + k) (column samples i step 4)) (past + (k + 4)) (column samples (i + step + step + step + step) step (n - (k + 4))) ≡ sets l (past + k) (column samples i step (n - k))
-unfolding column
-gathered_four samples l i step n k h =
-    let e : n - k ≡ suc (suc (suc (suc (n - (k + 4))))) = omega arith in
-    let g : past + (k + 4) ≡ suc (suc (suc (suc (past + k)))) = omega arith in
-    ap (λ (p : ℕ). sets (sets l (past + k) (column samples i step 4)) p (column samples (i + step + step + step + step) step (n - (k + 4)))) g
-    ∙ ap (λ (m : ℕ). sets l (past + k) (column samples i step m)) (sym e)
-
-pub gathered_start : (samples l : List Float) (first step n : ℕ) → first + n * step < length samples + step
-    → (first + (n - 0) * step < length samples + step) × (sets l past (column samples first step (n - 0)) ≡ sets l past (column samples first step n))
-gathered_start samples l first step n h =
-    let e : n ≡ n - 0 = omega arith in
-    (subst (λ (m : ℕ). first + m * step < length samples + step) e h, ap (λ (m : ℕ). sets l past (column samples first step m)) (sym e))
+pub gathered_start : (samples l : List Float) (first step n : ℕ) → sets l past (column samples (first + 0 * step) step (n - 0)) ≡ sets l past (column samples first step n)
+gathered_start samples l first step n =
+    let z : first + 0 * step ≡ first = omega arith in
+    let e : n - 0 ≡ n = omega arith in
+    ap (λ (at : ℕ). sets l past (column samples at step (n - 0))) z ∙ ap (λ (m : ℕ). sets l past (column samples first step m)) e
 
 pub gathered_end : (samples l : List Float) (i step n k : ℕ) → n ≤ k → l ≡ sets l (past + k) (column samples i step (n - k))
 unfolding column
 gathered_end samples l i step n k h = let e : 0 ≡ n - k = omega arith in ap (λ (m : ℕ). sets l (past + k) (column samples i step m)) e
 
--- the places left for n samples, one in each `step`, and for one fewer
-pub times_less : (n k step : ℕ) → k < n → (n - k) * step ≡ (n - (k + 1)) * step + step
-times_less n k step h =
-    let e : n - k ≡ suc (n - (k + 1)) = omega arith in
-    ap (λ (m : ℕ). m * step) e ∙ suc-mul (n - (k + 1)) step
-
--- and for four fewer
-pub times_four : (n k step : ℕ) → k + 4 ≤ n → (n - k) * step ≡ (n - (k + 4)) * step + 4 * step
-times_four n k step h =
-    let e : n - k ≡ n - (k + 4) + 4 = omega arith in
-    ap (λ (m : ℕ). m * step) e ∙ add-mul (n - (k + 4)) 4 step
+-- in a turn there is a sample left
+pub sample_left : (length first step n k : ℕ) → k < n → first + n * step < length + step → first + k * step < length
+sample_left length first step n k h r = let m : (k + 1) * step ≤ n * step = mul-le-mul_right step (omega arith) in omega arith

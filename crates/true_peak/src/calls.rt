@@ -1,11 +1,9 @@
-// The true peak of a call over samples of whatever kind, batch by batch: integers become f32, and floats are heard where they stand.
-ghost use Rattle.std.specs.Prelude.{◌≡◌, ◌+◌, ◌*◌, ◌<◌, ◌≤◌, length, take, drop};
+// The true peak of a call over samples of whatever kind, batch by batch: each becomes an f32 where a channel's samples are gathered.
+ghost use Rattle.std.specs.Prelude.{◌≡◌, ◌+◌, ◌*◌, ◌<◌, ◌≤◌, length, map};
 ghost use Rattle.base_refusals.specs.Answer.{said};
 ghost use Rattle.base_refusals.specs.Outcome.{said_by, kept_by};
-ghost use Rattle.samples.specs.Sample.{samples_of16};
 ghost use Rattle.base_refusals.specs.Rows.{number_of};
 ghost use Rattle.filter_checks.specs.Calls.{frame_rows};
-ghost use Rattle.samples.specs.Source.{source_of};
 ghost use Rattle.samples.specs.Frames.{most_channels};
 ghost use Rattle.true_peak_interp.specs.Interp.{kind_of};
 ghost use Rattle.true_peak_state.specs.Channel.{past};
@@ -14,7 +12,7 @@ ghost use Rattle.true_peak.specs.TruePeak.{processed, seeded};
 ghost use Rattle.true_peak.specs.CallsInner.{places};
 
 use crate::Measured;
-use base_refusals::Answer;
+use samples::Sample;
 use true_peak_state::TruePeak;
 
 // The places of a batch, and the frames that the interpolator takes at a time: a batch is whole runs of them.
@@ -41,111 +39,59 @@ fn state_of(memory: [f32; 184], peaks: [f32; 8]) -> TruePeak
     }
 }
 
-// So many integers from place `from` on, by way of a batch.
-fn hear_ints(
-    rate: u32,
-    t: TruePeak,
-    channels: usize,
-    ints: &[i16],
-    from: usize,
-    size: usize,
-) -> TruePeak
-    requires size_value { number_of (frame_rows channels size) ≡ 0 }
-    requires size_in_bounds { from + size ≤ length ints.now }
-    requires size_le_places { size ≤ places }
-    ensures { result ≡ measured (kind_of rate) (record { channels = channels; samples = take size (drop from (samples_of16 ints.now)) }) t }
+// The state after all samples, batch by batch: each channel goes over a batch by itself, and a batch stays near the processor.
+fn measure<S: Sample>(rate: u32, t: TruePeak, channels: usize, samples: &[S]) -> TruePeak
+    requires { number_of (frame_rows channels (length samples.now)) ≡ 0 }
+    ensures { result ≡ measured (kind_of rate) (record { channels = channels; samples = map S.in_f32 samples.now }) t }
 {
-    let mut batch: [f32; BATCH] = [0.0; BATCH];
-    samples::fills::fill_f32_i16(&mut batch, &ints[from..]);
-    let m = crate::process(rate, t, channels, &batch[..size]);
-    m.state
-}
-
-// So many samples from place `from` on, of one kind: integers, or floats where there are no integers.
-fn hear(
-    rate: u32,
-    t: TruePeak,
-    channels: usize,
-    ints: &[i16],
-    floats: &[f32],
-    from: usize,
-    size: usize,
-) -> TruePeak
-    requires size_value { number_of (frame_rows channels size) ≡ 0 }
-    requires size_in_bounds { from + size ≤ length (source_of ints.now floats.now) }
-    requires size_le_places { size ≤ places }
-    ensures { result ≡ measured (kind_of rate) (record { channels = channels; samples = take size (drop from (source_of ints.now floats.now)) }) t }
-{
-    if ints.len() == 0 {
-        let end = from + size;
-        let m = crate::process(rate, t, channels, &floats[from..end]);
-        return m.state;
-    }
-    hear_ints(rate, t, channels, ints, from, size)
-}
-
-// The state after all samples, batch by batch, floats too: each channel goes over a batch by itself, and a batch stays near the processor.
-fn measure(rate: u32, t: TruePeak, channels: usize, ints: &[i16], floats: &[f32]) -> TruePeak
-    requires { number_of (frame_rows channels (length (source_of ints.now floats.now))) ≡ 0 }
-    ensures { result ≡ measured (kind_of rate) (record { channels = channels; samples = source_of ints.now floats.now }) t }
-{
-    let frames = samples::sources::size_of(ints, floats) / channels;
-    let most = most(channels);
+    let batch = most(channels) * channels;
     let memory = t.memory;
     let peaks = t.peaks;
     let mut w = state_of(memory, peaks);
-    let mut done = 0;
-    while done < frames {
-        let count = samples::fills::shorter(frames - done, most);
-        w = hear(
-            rate,
-            w,
-            channels,
-            ints,
-            floats,
-            done * channels,
-            count * channels,
-        );
-        done += count;
+    let mut left = samples;
+    while !left.is_empty() {
+        let (now, later) = left.split_at(left.len().min(batch));
+        w = crate::measure(rate, w, channels, now);
+        left = later;
     }
     w
 }
 
 // The true peaks after a call over interleaved samples. Calls may be cut between any two frames.
-pub fn process(rate: u32, t: TruePeak, channels: usize, ints: &[i16], floats: &[f32]) -> Measured
-    ensures answer_value { said result.answer ≡ said_by (processed rate (record { channels = channels; samples = source_of ints.now floats.now }) t) }
-    ensures state_value { result.state ≡ kept_by t (processed rate (record { channels = channels; samples = source_of ints.now floats.now }) t) }
+pub fn process<S: Sample>(rate: u32, t: TruePeak, channels: usize, samples: &[S]) -> Measured
+    ensures answer_value { said result.answer ≡ said_by (processed rate (record { channels = channels; samples = map S.in_f32 samples.now }) t) }
+    ensures state_value { result.state ≡ kept_by t (processed rate (record { channels = channels; samples = map S.in_f32 samples.now }) t) }
 {
-    let number = filter_checks::refused_frames(channels, samples::sources::size_of(ints, floats));
-    if number != 0 {
-        return Measured {
-            answer: Answer::Refused(number),
+    match filter_checks::refused_frames(channels, samples.len()) {
+        Err(refusal) => Measured {
+            answer: Err(refusal),
             state: t,
-        };
-    }
-    Measured {
-        answer: Answer::Done,
-        state: measure(rate, t, channels, ints, floats),
+        },
+        Ok(()) => Measured {
+            answer: Ok(()),
+            state: measure(rate, t, channels, samples),
+        },
     }
 }
 
 // The memory after a call whose peaks are not wanted.
-pub fn seed(rate: u32, t: TruePeak, channels: usize, ints: &[i16], floats: &[f32]) -> Measured
-    ensures answer_value { said result.answer ≡ said_by (seeded rate (record { channels = channels; samples = source_of ints.now floats.now }) t) }
-    ensures state_value { result.state ≡ kept_by t (seeded rate (record { channels = channels; samples = source_of ints.now floats.now }) t) }
+pub fn seed<S: Sample>(rate: u32, t: TruePeak, channels: usize, samples: &[S]) -> Measured
+    ensures answer_value { said result.answer ≡ said_by (seeded rate (record { channels = channels; samples = map S.in_f32 samples.now }) t) }
+    ensures state_value { result.state ≡ kept_by t (seeded rate (record { channels = channels; samples = map S.in_f32 samples.now }) t) }
 {
-    let number = filter_checks::refused_frames(channels, samples::sources::size_of(ints, floats));
-    if number != 0 {
-        return Measured {
-            answer: Answer::Refused(number),
+    match filter_checks::refused_frames(channels, samples.len()) {
+        Err(refusal) => Measured {
+            answer: Err(refusal),
             state: t,
-        };
-    }
-    let peaks = t.peaks;
-    let mut moved = measure(rate, t, channels, ints, floats);
-    moved.peaks = peaks;
-    Measured {
-        answer: Answer::Done,
-        state: moved,
+        },
+        Ok(()) => {
+            let peaks = t.peaks;
+            let mut moved = measure(rate, t, channels, samples);
+            moved.peaks = peaks;
+            Measured {
+                answer: Ok(()),
+                state: moved,
+            }
+        }
     }
 }

@@ -1,7 +1,7 @@
 // True peak: the largest absolute phase of each channel, over interleaved samples.
 #![tactic(auto)]
 
-ghost use Rattle.std.specs.Prelude.{◌≡◌, ◌+◌, ◌*◌, ◌<◌, ◌≤◌, ◌^◌, length};
+ghost use Rattle.std.specs.Prelude.{◌≡◌, ◌+◌, ◌*◌, ◌<◌, ◌≤◌, length, map};
 ghost use Rattle.std.proofs.lemmas.List.Edits.{sets};
 ghost use Rattle.base_refusals.specs.Answer.{said};
 ghost use Rattle.base_refusals.specs.Outcome.{said_by, kept_by};
@@ -16,6 +16,7 @@ ghost use Rattle.true_peak_state.specs.TruePeak.{history_at, channel_of, with_ch
 ghost use Rattle.true_peak.specs.TruePeak.{processed};
 
 use base_refusals::Answer;
+use samples::Sample;
 use true_peak_interp::Interp;
 use true_peak_state::TruePeak;
 
@@ -55,39 +56,14 @@ fn recall(memory: &[f32; 184], c: usize, line: &mut [f32; true_peak_scan::LINE])
     ensures past_after { back line.new 0 past ≡ history_at memory.now c }
     ensures line_len_after { length line.new ≡ room }
 {
-    let mut k = 0;
-    while k < TruePeak::PAST {
+    for k in 0..TruePeak::PAST {
         line[TruePeak::PAST - 1 - k] = memory[c * TruePeak::PAST + k];
-        k += 1;
     }
 }
 
-// Four samples of a channel, from place first on, to the line from place k after the history on.
-fn gather_four(
-    samples: &[f32],
-    first: usize,
-    step: usize,
-    k: usize,
-    line: &mut [f32; true_peak_scan::LINE],
-)
-    requires k_bound { k + 4 ≤ stretch }
-    requires step_in_bounds { first + step + step + step < length samples.now }
-    requires samples_len_bound { length samples.now < 2 ^ 64 }
-    ensures { line.new ≡ sets line.old (past + k) (column samples.now first step 4) }
-{
-    let second = first + step;
-    let third = second + step;
-    let fourth = third + step;
-    let at = TruePeak::PAST + k;
-    line[at] = samples[first];
-    line[at + 1] = samples[second];
-    line[at + 2] = samples[third];
-    line[at + 3] = samples[fourth];
-}
-
-// n samples of a channel, from place first on, to the line after the history, four at a time while there are so many.
-fn gather(
-    samples: &[f32],
+// n samples of a channel, from place first on, to the line after the history.
+fn gather<S: Sample>(
+    samples: &[S],
     first: usize,
     step: usize,
     n: usize,
@@ -95,21 +71,10 @@ fn gather(
 )
     requires n_le_stretch { n ≤ stretch }
     requires step_in_bounds { first + n * step < length samples.now + step }
-    requires step_len_bound { length samples.now + step < 2 ^ 64 }
-    ensures { line.new ≡ sets line.old past (column samples.now first step n) }
+    ensures { line.new ≡ sets line.old past (column (map S.in_f32 samples.now) first step n) }
 {
-    let mut i = first;
-    let mut k = 0;
-    while k < n {
-        if n - k < 4 {
-            line[TruePeak::PAST + k] = samples[i];
-            i += step;
-            k += 1;
-        } else {
-            gather_four(samples, i, step, k, line);
-            i += 4 * step;
-            k += 4;
-        }
+    for k in 0..n {
+        line[TruePeak::PAST + k] = samples[first + k * step].to_f32();
     }
 }
 
@@ -120,10 +85,8 @@ fn carry(line: &mut [f32; true_peak_scan::LINE], n: usize)
     ensures past_after { back line.new 0 past ≡ back line.old n past }
     ensures line_len_after { length line.new ≡ room }
 {
-    let mut k = 0;
-    while k < TruePeak::PAST {
+    for k in 0..TruePeak::PAST {
         line[k] = line[n + k];
-        k += 1;
     }
 }
 
@@ -132,18 +95,16 @@ fn keep(line: &[f32; true_peak_scan::LINE], c: usize, memory: &mut [f32; 184])
     requires { c < most_channels }
     ensures { memory.new ≡ sets memory.old (c * past) (back line.now 0 past) }
 {
-    let mut k = 0;
-    while k < TruePeak::PAST {
+    for k in 0..TruePeak::PAST {
         memory[c * TruePeak::PAST + k] = line[TruePeak::PAST - 1 - k];
-        k += 1;
     }
 }
 
 // A channel hears n samples from place first on, its history in the line's first places. Answers its peak.
-fn hear_stretch(
+fn hear_stretch<S: Sample>(
     i: Interp,
     taps: &[f32; Interp::COEFFICIENTS],
-    samples: &[f32],
+    samples: &[S],
     first: usize,
     channels: usize,
     n: usize,
@@ -154,9 +115,8 @@ fn hear_stretch(
     requires taps_value { taps.now ≡ coefficients i.factor }
     requires n_le_stretch { n ≤ stretch }
     requires channels_in_bounds { first + n * channels < length samples.now + channels }
-    requires channels_len_bound { length samples.now + channels < 2 ^ 64 }
     requires line_len { length line.old ≡ room }
-    ensures result_after { channel (back line.new 0 past) result ≡ heard i (channel (back line.old 0 past) peak) (column samples.now first channels n) }
+    ensures result_after { channel (back line.new 0 past) result ≡ heard i (channel (back line.old 0 past) peak) (column (map S.in_f32 samples.now) first channels n) }
     ensures line_len_after { length line.new ≡ room }
 {
     gather(samples, first, channels, n, line);
@@ -166,10 +126,10 @@ fn hear_stretch(
 }
 
 // One channel hears its samples, stretch by stretch. Answers its peak.
-fn one_channel(
+fn one_channel<S: Sample>(
     i: Interp,
     taps: &[f32; Interp::COEFFICIENTS],
-    samples: &[f32],
+    samples: &[S],
     channels: usize,
     frames: usize,
     c: usize,
@@ -181,7 +141,7 @@ fn one_channel(
     requires c_lt_channels { (c < channels) × (channels ≤ most_channels) }
     requires channels_in_bounds { frames * channels ≤ length samples.now }
     requires memory_len { length memory.old ≡ most_channels * past }
-    ensures { let after = heard i (channel (history_at memory.old c) peak) (column samples.now c channels frames) in
+    ensures { let after = heard i (channel (history_at memory.old c) peak) (column (map S.in_f32 samples.now) c channels frames) in
         (result ≡ after.peak) × (memory.new ≡ sets memory.old (c * past) after.history) }
 {
     let mut line = [0.0; true_peak_scan::LINE];
@@ -209,11 +169,11 @@ fn one_channel(
 }
 
 // Channel c hears its samples.
-fn listen(
+fn listen<S: Sample>(
     i: Interp,
     taps: &[f32; Interp::COEFFICIENTS],
     t: TruePeak,
-    samples: &[f32],
+    samples: &[S],
     channels: usize,
     frames: usize,
     c: usize,
@@ -222,7 +182,7 @@ fn listen(
     requires taps_value { taps.now ≡ coefficients i.factor }
     requires c_lt_channels { (c < channels) × (channels ≤ most_channels) }
     requires channels_in_bounds { frames * channels ≤ length samples.now }
-    ensures { result ≡ with_channel t c (heard i (channel_of t c) (column samples.now c channels frames)) }
+    ensures { result ≡ with_channel t c (heard i (channel_of t c) (column (map S.in_f32 samples.now) c channels frames)) }
 {
     let mut w = t;
     let peak = w.peaks[c];
@@ -232,25 +192,23 @@ fn listen(
 }
 
 // Every channel hears its samples.
-fn all_channels(i: Interp, t: TruePeak, channels: usize, samples: &[f32]) -> TruePeak
+fn all_channels<S: Sample>(i: Interp, t: TruePeak, channels: usize, samples: &[S]) -> TruePeak
     requires known { Known i }
     requires channels_nonzero { (0 < channels) × (channels ≤ most_channels) }
-    ensures { result ≡ measured (upsampled i) (record { channels = channels; samples = samples.now }) t }
+    ensures { result ≡ measured (upsampled i) (record { channels = channels; samples = map S.in_f32 samples.now }) t }
 {
     let frames = samples.len() / channels;
     let taps = i.coefficients();
     let mut w = t;
-    let mut c = 0;
-    while c < channels {
+    for c in 0..channels {
         w = listen(i, &taps, w, samples, channels, frames, c);
-        c += 1;
     }
     w
 }
 
-fn measure(rate: u32, t: TruePeak, channels: usize, samples: &[f32]) -> TruePeak
+fn measure<S: Sample>(rate: u32, t: TruePeak, channels: usize, samples: &[S]) -> TruePeak
     requires { (0 < channels) × (channels ≤ most_channels) }
-    ensures { result ≡ measured (kind_of rate) (record { channels = channels; samples = samples.now }) t }
+    ensures { result ≡ measured (kind_of rate) (record { channels = channels; samples = map S.in_f32 samples.now }) t }
 {
     match Interp::of_rate(rate) {
         Some(i) => all_channels(i, t, channels, samples),
@@ -259,19 +217,18 @@ fn measure(rate: u32, t: TruePeak, channels: usize, samples: &[f32]) -> TruePeak
 }
 
 // The true peaks after a call over interleaved samples. Calls may be cut between any two frames.
-pub fn process(rate: u32, t: TruePeak, channels: usize, samples: &[f32]) -> Measured
-    ensures answer_value { said result.answer ≡ said_by (processed rate (record { channels = channels; samples = samples.now }) t) }
-    ensures state_value { result.state ≡ kept_by t (processed rate (record { channels = channels; samples = samples.now }) t) }
+pub fn process<S: Sample>(rate: u32, t: TruePeak, channels: usize, samples: &[S]) -> Measured
+    ensures answer_value { said result.answer ≡ said_by (processed rate (record { channels = channels; samples = map S.in_f32 samples.now }) t) }
+    ensures state_value { result.state ≡ kept_by t (processed rate (record { channels = channels; samples = map S.in_f32 samples.now }) t) }
 {
-    let number = filter_checks::refused_frames(channels, samples.len());
-    if number != 0 {
-        return Measured {
-            answer: Answer::Refused(number),
+    match filter_checks::refused_frames(channels, samples.len()) {
+        Err(refusal) => Measured {
+            answer: Err(refusal),
             state: t,
-        };
-    }
-    Measured {
-        answer: Answer::Done,
-        state: measure(rate, t, channels, samples),
+        },
+        Ok(()) => Measured {
+            answer: Ok(()),
+            state: measure(rate, t, channels, samples),
+        },
     }
 }

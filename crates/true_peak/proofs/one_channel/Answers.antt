@@ -1,4 +1,5 @@
 -- `true_peak::one_channel` meets its contract: the stretches that are left give what the whole call gives. Assumes nothing.
+use mathlib.Core.List.{map}
 use mathlib.Core.List.{List}
 use mathlib.Core.Path.{ap, ◌∙◌}
 use Prim.Native.Nat.{ℕ, ◌+◌, ◌*◌, ◌<◌, ◌≤◌}
@@ -16,40 +17,39 @@ use Rattle.true_peak.proofs.one_channel.Goals as goal
 whole : (left : ℕ) → 128 < left → 128 ≤ left
 whole left h = omega arith
 
--- the next stretch begins where this one ends
-further : (first left step length : ℕ) → 128 < left → first + left * step < length + step → first + 128 * step < length + step
-further first left step length h l = omega (arith, places 128 left step (whole left h))
+-- the next stretch begins at a sample
+further : (first left step length : ℕ) → 128 < left → first + left * step < length + step → first + 128 * step < length
+further first left step length h l = omega (arith, places 129 left step h)
 
 pub loop-left-init : goal.loop-left-init
-loop-left-init c =
+loop-left-init g c =
     let a = c.args in (
       c.recall.ensures.line_len_after,
       (
         omega (arith, c.requires),
-        ap (λ (h : List Float). heard a.i (channel h a.peak) (column a.samples.now a.c a.channels a.frames)) c.recall.ensures.past_after,
+        ap (λ (h : List Float). heard a.i (channel h a.peak) (column (map g.S.Sample.in_f32 a.samples.now) a.c a.channels a.frames)) c.recall.ensures.past_after,
       ),
     )
 
 pub hear_stretch-loud-requires : goal.hear_stretch-loud-requires
-hear_stretch-loud-requires c =
+hear_stretch-loud-requires g c =
     let l = c.loop-left in
     record {
       known = c.requires.known;
       taps_value = c.requires.taps_value;
       n_le_stretch = omega arith;
-      channels_in_bounds = further l.first l.left c.args.channels (length c.args.samples.now) c.loop-left-test.true l.invariant.1.0;
-      channels_len_bound = omega (arith, c.well_formed, c.requires);
+      channels_in_bounds = omega (arith, further l.first l.left c.args.channels (length c.args.samples.now) c.loop-left-test.true l.invariant.1.0);
       line_len = l.invariant.0;
     }
 
 pub overflow_mul-first : goal.overflow_mul-first
-overflow_mul-first c = omega (arith, further c.loop-left.first c.loop-left.left c.args.channels (length c.args.samples.now) c.loop-left-test.true c.loop-left.invariant.1.0, c.requires, c.well_formed)
+overflow_mul-first g c = omega (arith, further c.loop-left.first c.loop-left.left c.args.channels (length c.args.samples.now) c.loop-left-test.true c.loop-left.invariant.1.0, c.well_formed)
 
 pub overflow_add-first : goal.overflow_add-first
-overflow_add-first c = omega (arith, further c.loop-left.first c.loop-left.left c.args.channels (length c.args.samples.now) c.loop-left-test.true c.loop-left.invariant.1.0, c.requires, c.well_formed)
+overflow_add-first g c = omega (arith, further c.loop-left.first c.loop-left.left c.args.channels (length c.args.samples.now) c.loop-left-test.true c.loop-left.invariant.1.0, c.well_formed)
 
 pub loop-left-preserved : goal.loop-left-preserved
-loop-left-preserved c =
+loop-left-preserved g c =
     let l = c.loop-left in
     let a = c.args in
     let t = whole l.left c.loop-left-test.true in
@@ -57,7 +57,7 @@ loop-left-preserved c =
       h.ensures.line_len_after,
       (
         omega (arith, places 128 l.left a.channels t, l.invariant.1.0),
-        stretches_turn a.i a.samples.now l.first a.channels l.left 128 (channel (back l.line 0 past) l.loud) (channel (back h.new.line 0 past) h.result)
+        stretches_turn a.i (map g.S.Sample.in_f32 a.samples.now) l.first a.channels l.left 128 (channel (back l.line 0 past) l.loud) (channel (back h.new.line 0 past) h.result)
             t
             h.ensures.result_after
             ∙ l.invariant.1.1,
@@ -65,19 +65,18 @@ loop-left-preserved c =
     )
 
 pub hear_stretch-loud-requires-2 : goal.hear_stretch-loud-requires-2
-hear_stretch-loud-requires-2 c =
+hear_stretch-loud-requires-2 g c =
     let l = c.loop-left in
     record {
       known = c.requires.known;
       taps_value = c.requires.taps_value;
       n_le_stretch = omega (arith, c.loop-left-test.false);
       channels_in_bounds = l.invariant.1.0;
-      channels_len_bound = omega (arith, c.well_formed, c.requires);
       line_len = l.invariant.0;
     }
 
 pub returns : goal.returns
-returns c =
+returns g c =
     let l = c.loop-left in
     let a = c.args in
     let e = c.hear_stretch-loud-2.ensures.result_after ∙ l.invariant.1.1 in

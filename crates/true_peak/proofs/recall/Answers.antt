@@ -1,20 +1,19 @@
 -- `true_peak::recall` meets its contract: the places done hold the history back from the newest. Assumes nothing.
-use borrow.Author.Rules.{rules}
-use native.Mathlib.Omega.{arith}
+use Rattle.std.proofs.Common.{arith, rules}
 use Rattle.true_peak.proofs.Lines.{recalled_start, recalled_turn, recalled_end}
 use Rattle.true_peak.proofs.recall.Goals as goal
 
 pub loop-k-init : goal.loop-k-init
-loop-k-init c = (search rules, (c.requires.line_len, recalled_start c.args.memory.now c.args.line.now c.args.c))
+loop-k-init c = (c.requires.line_len, recalled_start c.args.memory.now c.args.line.now c.args.c)
 
 pub loop-k-preserved : goal.loop-k-preserved
 loop-k-preserved c =
     let l = c.loop-k in
     let a = c.args in
-    (search rules, (search rules, recalled_turn a.memory.now l.line a.c l.k c.loop-k-test.true (omega arith) l.invariant.1.1))
+    (search rules, recalled_turn a.memory.now l.line a.c l.k c.loop-k-test.true (omega arith) l.invariant.1)
 
 pub returns : goal.returns
 returns c =
     let l = c.loop-k in
     let a = c.args in
-    record { past_after = recalled_end a.memory.now l.line a.c l.k c.loop-k-test.false (omega arith) l.invariant.1.1; line_len_after = l.invariant.1.0 }
+    record { past_after = recalled_end a.memory.now l.line a.c l.k c.loop-k-test.false (omega arith) l.invariant.1; line_len_after = l.invariant.0 }

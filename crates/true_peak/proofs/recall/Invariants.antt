@@ -1,13 +1,8 @@
 use mathlib.Core.Path.{◌≡◌}
-use Prim.Native.Nat.{◌-◌, ◌≤◌}
 use lib.ListN.{length}
-use Rattle.true_peak_state.specs.Channel.{past}
 use Rattle.true_peak.specs.Inner.{room}
 use Rattle.true_peak.proofs.Lines.{Recalled}
 use Rattle.true_peak.proofs.recall.Given as goal
 
 abbrev pub invariant-loop-k : goal.invariant-loop-k
-invariant-loop-k l = (l.k ≤ past) × ((length l.line ≡ room) × Recalled l.memory l.line l.c l.k)
-
-abbrev pub decreases-loop-k : goal.decreases-loop-k
-decreases-loop-k l = past - l.k
+invariant-loop-k l = (length l.line ≡ room) × Recalled l.memory l.line l.c l.k
