@@ -1,5 +1,5 @@
 // The functions of the C interface of `Interleaved`; exports_interleaved_c has them for C, as include/xelamphoun.h declares them. C hands over
-// no `Interleaved`: each takes the slice and the numbers, makes the struct, and asks it; the modules have that part, for each kind.
+// no `Interleaved`: each takes the slice and the numbers, makes the struct, and asks it; `part` does so for samples of every kind.
 #![tactic(auto)]
 
 ghost use Rattle.std.specs.Prelude.{◌≡◌};
@@ -7,13 +7,7 @@ ghost use Rattle.samples.specs.Sample.{samples_of16, samples_of_f32};
 ghost use Rattle.base_refusals.specs.Codes.{code, value_or};
 ghost use Rattle.exports_interleaved.specs.Part.{part_of, frames_of_part, sample_of_part, place_code, sample_else};
 
-use interleaved_slices::{Frames, Sample};
-
-mod floats;
-mod ints;
-
-// The code of a channel or a frame past the end.
-const PAST_THE_END: u8 = 130;
+mod part;
 
 pub fn xel_interleaved_channels_i16(
     data: &[i16],
@@ -23,7 +17,7 @@ pub fn xel_interleaved_channels_i16(
 ) -> usize
     ensures { result ≡ (part_of channels first end «data».now).channels }
 {
-    ints::channels(data, channels, first, end)
+    part::channels(data, channels, first, end)
 }
 
 pub fn xel_interleaved_frames_i16(
@@ -36,13 +30,7 @@ pub fn xel_interleaved_frames_i16(
     ensures { (result ≡ code (frames_of_part (part_of channels first end «data».now)))
         × (frames.new ≡ value_or frames.old (frames_of_part (part_of channels first end «data».now))) }
 {
-    match ints::frames(data, channels, first, end) {
-        Frames::Whole(number) => {
-            *frames = number;
-            0
-        }
-        Frames::Refused(number) => number,
-    }
+    part::frames(data, channels, first, end, frames)
 }
 
 pub fn xel_interleaved_sample_i16(
@@ -57,14 +45,7 @@ pub fn xel_interleaved_sample_i16(
     ensures { (result ≡ place_code (sample_of_part samples_of16 (part_of channels first end «data».now) channel frame))
         × (sample.new ≡ sample_else sample.old (sample_of_part samples_of16 (part_of channels first end «data».now) channel frame)) }
 {
-    match ints::sample(data, channels, first, end, channel, frame) {
-        Sample::At(x) => {
-            *sample = x;
-            0
-        }
-        Sample::PastTheEnd => PAST_THE_END,
-        Sample::Refused(number) => number,
-    }
+    part::sample(data, channels, first, end, channel, frame, sample)
 }
 
 pub fn xel_interleaved_channels_f32(
@@ -75,7 +56,7 @@ pub fn xel_interleaved_channels_f32(
 ) -> usize
     ensures { result ≡ (part_of channels first end «data».now).channels }
 {
-    floats::channels(data, channels, first, end)
+    part::channels(data, channels, first, end)
 }
 
 pub fn xel_interleaved_frames_f32(
@@ -88,13 +69,7 @@ pub fn xel_interleaved_frames_f32(
     ensures { (result ≡ code (frames_of_part (part_of channels first end «data».now)))
         × (frames.new ≡ value_or frames.old (frames_of_part (part_of channels first end «data».now))) }
 {
-    match floats::frames(data, channels, first, end) {
-        Frames::Whole(number) => {
-            *frames = number;
-            0
-        }
-        Frames::Refused(number) => number,
-    }
+    part::frames(data, channels, first, end, frames)
 }
 
 pub fn xel_interleaved_sample_f32(
@@ -109,12 +84,5 @@ pub fn xel_interleaved_sample_f32(
     ensures { (result ≡ place_code (sample_of_part samples_of_f32 (part_of channels first end «data».now) channel frame))
         × (sample.new ≡ sample_else sample.old (sample_of_part samples_of_f32 (part_of channels first end «data».now) channel frame)) }
 {
-    match floats::sample(data, channels, first, end, channel, frame) {
-        Sample::At(x) => {
-            *sample = x;
-            0
-        }
-        Sample::PastTheEnd => PAST_THE_END,
-        Sample::Refused(number) => number,
-    }
+    part::sample(data, channels, first, end, channel, frame, sample)
 }

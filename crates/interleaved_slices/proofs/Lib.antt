@@ -1,6 +1,5 @@
 pub mod Places
 pub mod Checking
 pub mod Reading
-pub mod Answers
 pub mod Splitting
 pub mod Cut

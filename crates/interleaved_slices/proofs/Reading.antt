@@ -28,7 +28,7 @@ module _ {A : Type 0} (f : A → Float) (l : List A) (channels channel frame : �
   place h m w k =
       let p : 0 < channels = omega arith in
       goes (answers picked) (frame_rows channels (length l)) (frames_pass channels (length l) p m w)
-      ∙ ap answers (there channels (frames_of channels (length l)) channel frame (sample_at channels (map f l) channel frame) h (subst (λ (n : ℕ). frame < n) (sym (frames_of_lem channels (length l) p)) k))
+      ∙ ap answers (there channels (frames_of channels (length l)) channel frame (at (sample_at channels (map f l) channel frame)) h (subst (λ (n : ℕ). frame < n) (sym (frames_of_lem channels (length l) p)) k))
       ∙ ap (λ (x : Float). answers (at x)) (sample_of f l channels channel frame d h k)
 
   pub read : channel < channels → channels ≤ most_channels → length l % channels ≡ 0 → frame < length l / channels

@@ -1,68 +1,38 @@
-// Interleaved samples by number: how many frames there are, and a channel's sample in a frame, of either kind.
-// Every branch of the two questions stands here; the struct of each kind asks them of the slice that it holds.
+// Interleaved samples by number: how many frames there are, and a channel's sample in a frame.
+// Every branch of the two questions stands here; the struct asks them of the slice that it holds.
 #![tactic(auto)]
 
-ghost use Rattle.std.specs.Prelude.{◌≡◌};
+ghost use Rattle.std.specs.Prelude.{◌≡◌, map};
+ghost use Rattle.base_refusals.specs.Answer.{said};
 ghost use Rattle.base_refusals.specs.Outcome.{said_by};
-ghost use Rattle.samples.specs.Sample.{samples_of16, samples_of_f32};
-ghost use Rattle.interleaved_slices.specs.Shown.{frames_in, sample_or, sample_in};
-ghost use Rattle.interleaved_slices.specs.Said.{frames_said, sample_said};
+ghost use Rattle.interleaved_slices.specs.Shown.{frames_in, sample_in};
+ghost use Rattle.interleaved_slices.specs.Said.{sample_said};
 
-mod interleaving;
+use base_refusals::Refusal;
+use samples::Sample;
+
 pub mod parts;
 
 // How many frames there are.
-#[derive(Clone, Copy)]
-pub enum Frames {
-    Whole(usize),
-    Refused(u8),
-}
-
-// A channel's sample in a frame.
-#[derive(Clone, Copy)]
-pub enum Sample {
-    At(f64),
-    PastTheEnd,
-    Refused(u8),
-}
-
-pub fn frames_of(channels: usize, samples: usize) -> Frames
-    ensures { frames_said result ≡ said_by (frames_in channels samples) }
+pub fn frames_of(channels: usize, samples: usize) -> Result<usize, Refusal>
+    ensures { said result ≡ said_by (frames_in channels samples) }
 {
-    let number = filter_checks::refused_frames(channels, samples);
-    if number != 0 {
-        return Frames::Refused(number);
-    }
-    Frames::Whole(crate::interleaving::frames(channels, samples))
+    filter_checks::refused_frames(channels, samples)?;
+    Ok(samples / channels)
 }
 
-// `sample` stands at the place asked for, if there is one.
-fn sample_or(channels: usize, samples: usize, channel: usize, frame: usize, sample: f64) -> Sample
-    ensures { sample_said result ≡ said_by (sample_or channels samples channel frame sample) }
+// A channel's sample in a frame, and none past the end.
+pub fn sample_at<S: Sample>(
+    samples: &[S],
+    channels: usize,
+    channel: usize,
+    frame: usize,
+) -> Result<Option<f64>, Refusal>
+    ensures { sample_said result ≡ said_by (sample_in channels (map S.in_f64 samples.now) channel frame) }
 {
-    let number = filter_checks::refused_frames(channels, samples);
-    if number != 0 {
-        return Sample::Refused(number);
+    let frames = frames_of(channels, samples.len())?;
+    if channels <= channel || frames <= frame {
+        return Ok(None);
     }
-    if channels <= channel {
-        return Sample::PastTheEnd;
-    }
-    if crate::interleaving::frames(channels, samples) <= frame {
-        return Sample::PastTheEnd;
-    }
-    Sample::At(sample)
-}
-
-pub fn sample_of_i16(samples: &[i16], channels: usize, channel: usize, frame: usize) -> Sample
-    ensures { sample_said result ≡ said_by (sample_in channels (samples_of16 samples.now) channel frame) }
-{
-    let sample = crate::interleaving::sample_i16(samples, channels, channel, frame);
-    sample_or(channels, samples.len(), channel, frame, sample)
-}
-
-pub fn sample_of_f32(samples: &[f32], channels: usize, channel: usize, frame: usize) -> Sample
-    ensures { sample_said result ≡ said_by (sample_in channels (samples_of_f32 samples.now) channel frame) }
-{
-    let sample = crate::interleaving::sample_f32(samples, channels, channel, frame);
-    sample_or(channels, samples.len(), channel, frame, sample)
+    Ok(Some(samples[frame * channels + channel].to_f64()))
 }

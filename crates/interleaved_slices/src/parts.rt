@@ -1,4 +1,4 @@
-// The two parts of interleaved samples that are split at a frame, of either kind. Past the end the first part is the whole.
+// The two parts of interleaved samples that are split at a frame. Past the end the first part is the whole.
 ghost use Rattle.std.specs.Prelude.{◌≡◌, min};
 ghost use Rattle.interleaved_slices.specs.Parts.{place_of, up_to, from_on};
 
@@ -15,30 +15,14 @@ fn before(channels: usize, frame: usize, samples: usize) -> usize
     frame * channels
 }
 
-pub fn up_to_i16(samples: &[i16], channels: usize, frame: usize) -> &[i16]
+pub fn up_to<S>(samples: &[S], channels: usize, frame: usize) -> &[S]
     ensures { result.now ≡ up_to channels frame samples.now }
 {
-    let end = before(channels, frame, samples.len());
-    &samples[..end]
+    &samples[..before(channels, frame, samples.len())]
 }
 
-pub fn from_i16(samples: &[i16], channels: usize, frame: usize) -> &[i16]
+pub fn from_on<S>(samples: &[S], channels: usize, frame: usize) -> &[S]
     ensures { result.now ≡ from_on channels frame samples.now }
 {
-    let start = before(channels, frame, samples.len());
-    &samples[start..]
-}
-
-pub fn up_to_f32(samples: &[f32], channels: usize, frame: usize) -> &[f32]
-    ensures { result.now ≡ up_to channels frame samples.now }
-{
-    let end = before(channels, frame, samples.len());
-    &samples[..end]
-}
-
-pub fn from_f32(samples: &[f32], channels: usize, frame: usize) -> &[f32]
-    ensures { result.now ≡ from_on channels frame samples.now }
-{
-    let start = before(channels, frame, samples.len());
-    &samples[start..]
+    &samples[before(channels, frame, samples.len())..]
 }

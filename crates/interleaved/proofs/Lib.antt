@@ -1,2 +1,0 @@
-pub mod OfInts
-pub mod OfFloats

@@ -1,9 +1,0 @@
--- `interleaved_slices::sample_of_i16` meets its contract: the sample that the slice has there is handed on. Assumes nothing.
-use Rattle.samples.specs.Sample.{sample_of16}
-use Rattle.interleaved_slices.proofs.Checking.{handed}
-use Rattle.interleaved_slices.proofs.sample_of_i16.Goals as goal
-
-pub returns : goal.returns
-returns c =
-    let a = c.args in
-    handed sample_of16 a.samples.now a.channels a.channel a.frame _ _ c.sample_i16-sample.ensures c.sample_or.ensures
