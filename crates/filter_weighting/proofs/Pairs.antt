@@ -62,6 +62,9 @@ module _ {a b stretch : List Float} {step part : ℕ} {one two : Memory} {whole 
   pub both_next : 1 < left → (i + step + 1 < length stretch) × ((j + 1 + part < length dest) × (step ≤ most_channels))
   both_next more = let h = following f.second more in (omega (arith, h.0), (omega (arith, h.1.0, size), h.1.1))
 
+  pub both_at : (i0 j0 left0 : ℕ) → i ≡ i0 → j ≡ j0 → left ≡ left0 → Both a b stretch step part one two whole m n i0 j0 left0 dest
+  both_at i0 j0 left0 ei ej el = moved (λ p q k. Both a b stretch step part one two whole m n p q k dest) i j left i0 j0 left0 ei ej el f
+
   -- no frames left
   pub both_end : left ≡ 0 → (m ≡ one) × ((n ≡ two) × (dest ≡ whole))
   both_end z =
@@ -70,23 +73,27 @@ module _ {a b stretch : List Float} {step part : ℕ} {one two : Memory} {whole 
 
 module _ {a b stretch : List Float} {step part : ℕ} {one two : Memory} {whole : List Float} {m n : Memory} {i j left : ℕ} {dest : List Float} (f : Both a b stretch step part one two whole m n i j left dest) where
   -- two frames of each
-  pub both_twice : (m1 n1 m2 n2 : Memory) (d1 d2 : List Float) → 1 < left
+  pub both_twice : (m1 n1 m2 n2 : Memory) (d1 d2 : List Float) (i2 j2 left2 : ℕ) → 1 < left → i + step + step ≡ i2 → j + 2 ≡ j2 → left - 2 ≡ left2
       → m1 ≡ next a m (get_or stretch i nan) → n1 ≡ next a n (get_or stretch (i + 1) nan)
       → d1 ≡ set (set dest j (out a b m (get_or stretch i nan))) (j + part) (out a b n (get_or stretch (i + 1) nan))
       → m2 ≡ next a m1 (get_or stretch (i + step) nan) → n2 ≡ next a n1 (get_or stretch (i + step + 1) nan)
       → d2 ≡ set (set d1 (j + 1) (out a b m1 (get_or stretch (i + step) nan))) (j + 1 + part) (out a b n1 (get_or stretch (i + step + 1) nan))
-      → Both a b stretch step part one two whole m2 n2 (i + (step + step)) (j + 2) (left - 2) d2
-  both_twice m1 n1 m2 n2 d1 d2 more em en ed em1 en1 ed1 =
-      moved (λ p q k. Both a b stretch step part one two whole m2 n2 p q k d2) (i + step + step) (j + 1 + 1) (left - 1 - 1) (i + (step + step)) (j + 2) (left - 2) (omega arith) (omega arith) (omega arith)
+      → Both a b stretch step part one two whole m2 n2 i2 j2 left2 d2
+  both_twice m1 n1 m2 n2 d1 d2 i2 j2 left2 more ei ej el em en ed em1 en1 ed1 =
+      moved (λ p q k. Both a b stretch step part one two whole m2 n2 p q k d2) (i + step + step) (j + 1 + 1) (left - 1 - 1) i2 j2 left2 ei (omega arith) (omega arith)
       (both_turn (both_turn f m1 n1 d1 (omega arith) em en ed) m2 n2 d2 (omega arith) em1 en1 ed1)
 
 -- all frames are left
-pub both_start : (a b stretch : List Float) (step part : ℕ) (m n : Memory) (i j left : ℕ) (dest : List Float) → Reach (i + 1) step left (length stretch) → left ≤ part → j + part + left ≤ length dest
+pub both_start : (a b stretch : List Float) (step part : ℕ) (m n : Memory) (i j left : ℕ) (dest : List Float) (i0 j0 left0 : ℕ) → i ≡ i0 → j ≡ j0 → left ≡ left0
+    → Reach (i + 1) step left (length stretch) → left ≤ part → j + part + left ≤ length dest
     → let mine = outs a b m (column stretch i step left) in
     let other = column stretch (i + 1) step left in
-    Both a b stretch step part (after a m (column stretch i step left)) (after a n other) (sets (sets dest j mine) (j + part) (outs a b n other)) m n i j left dest
-both_start a b stretch step part m n i j left dest r h room =
-    record { apart = h; first = refl; second = record { reach = r; room = omega (arith, room, length-sets dest j (outs a b m (column stretch i step left))); memory = refl; given = refl } }
+    Both a b stretch step part (after a m (column stretch i step left)) (after a n other) (sets (sets dest j mine) (j + part) (outs a b n other)) m n i0 j0 left0 dest
+both_start a b stretch step part m n i j left dest i0 j0 left0 ei ej el r h room =
+    let mine = outs a b m (column stretch i step left) in
+    let other = column stretch (i + 1) step left in
+    moved (λ p q k. Both a b stretch step part (after a m (column stretch i step left)) (after a n other) (sets (sets dest j mine) (j + part) (outs a b n other)) m n p q k dest) i j left i0 j0 left0 ei ej el
+    (record { apart = h; first = refl; second = record { reach = r; room = omega (arith, room, length-sets dest j mine); memory = refl; given = refl } })
 
 -- ---- both in state and destination
 

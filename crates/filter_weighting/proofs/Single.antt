@@ -2,8 +2,8 @@
 use Prim.Native.Nat.{ℕ, ◌+◌, ◌-◌, ◌≤◌, ◌<◌}
 use native.Mathlib.Omega.{arith}
 use mathlib.Core.Path.{◌≡◌, refl, ap, sym, subst, ◌∙◌}
-use mathlib.Core.List.{List}
-use lib.ListN.{length, length-set, set, get_or}
+use mathlib.Core.List.{List, map}
+use lib.ListN.{length, length-set, length-map, set, get_or}
 use lib.Seq.{sets}
 use lib.Ieee.{Float, nan}
 use Rattle.samples.specs.Frames.{column, most_channels}
@@ -52,16 +52,31 @@ module _ {a b stretch : List Float} {step : ℕ} {one : Memory} {whole : List Fl
       let r = reach_rest i step left (length stretch) (omega arith) f.reach in
       (reach_here (i + step) step (left - 1) (length stretch) (omega arith) r, (omega (arith, f.room), r.few))
 
+  pub at : (i0 j0 left0 : ℕ) → i ≡ i0 → j ≡ j0 → left ≡ left0 → Single a b stretch step one whole m i0 j0 left0 dest
+  at i0 j0 left0 ei ej el = moved (λ p q k. Single a b stretch step one whole m p q k dest) i j left i0 j0 left0 ei ej el f
+
   -- no frames left
   pub end : left ≡ 0 → (m ≡ one) × (dest ≡ whole)
   end z = (sym (none_after a m stretch i step left z) ∙ f.memory, sym (none_outs a b m stretch i step left dest j z) ∙ f.given)
 
 module _ {a b stretch : List Float} {step : ℕ} {one : Memory} {whole : List Float} {m : Memory} {i j left : ℕ} {dest : List Float} (f : Single a b stretch step one whole m i j left dest) where
   -- two frames
-  pub twice : (m1 m2 : Memory) (d1 d2 : List Float) → 1 < left
+  pub twice : (m1 m2 : Memory) (d1 d2 : List Float) (i2 j2 left2 : ℕ) → 1 < left → i + step + step ≡ i2 → j + 2 ≡ j2 → left - 2 ≡ left2
       → m1 ≡ next a m (get_or stretch i nan) → d1 ≡ set dest j (out a b m (get_or stretch i nan))
       → m2 ≡ next a m1 (get_or stretch (i + step) nan) → d2 ≡ set d1 (j + 1) (out a b m1 (get_or stretch (i + step) nan))
-      → Single a b stretch step one whole m2 (i + (step + step)) (j + 2) (left - 2) d2
-  twice m1 m2 d1 d2 two em ed em1 ed1 =
-      moved (λ p q k. Single a b stretch step one whole m2 p q k d2) (i + step + step) (j + 1 + 1) (left - 1 - 1) (i + (step + step)) (j + 2) (left - 2) (omega arith) (omega arith) (omega arith)
+      → Single a b stretch step one whole m2 i2 j2 left2 d2
+  twice m1 m2 d1 d2 i2 j2 left2 two ei ej el em ed em1 ed1 =
+      moved (λ p q k. Single a b stretch step one whole m2 p q k d2) (i + step + step) (j + 1 + 1) (left - 1 - 1) i2 j2 left2 ei (omega arith) (omega arith)
       (turn (turn f m1 d1 (omega arith) em ed) m2 d2 (omega arith) em1 ed1)
+
+-- all frames are left
+pub start : (a b stretch : List Float) (step : ℕ) (m : Memory) (i j left : ℕ) (dest : List Float) (i0 j0 left0 : ℕ) → i ≡ i0 → j ≡ j0 → left ≡ left0
+    → Reach i step left (length stretch) → j + left ≤ length dest
+    → Single a b stretch step (after a m (column stretch i step left)) (sets dest j (outs a b m (column stretch i step left))) m i0 j0 left0 dest
+start a b stretch step m i j left dest i0 j0 left0 ei ej el r room =
+    moved (λ p q k. Single a b stretch step (after a m (column stretch i step left)) (sets dest j (outs a b m (column stretch i step left))) m p q k dest) i j left i0 j0 left0 ei ej el
+    (record { reach = r; room = room; memory = refl; given = refl })
+
+-- the samples reach as far as the floats that they become
+pub reach_by : {A : Type 0} (float : A → Float) (samples : List A) {i step left : ℕ} → Reach i step left (length samples) → Reach i step left (length (map float samples))
+reach_by float samples {i} {step} {left} r = subst (λ (n : ℕ). Reach i step left n) (sym (length-map samples float)) r

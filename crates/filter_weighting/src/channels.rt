@@ -85,22 +85,21 @@ impl Work {
     {
         let c = self.c;
         let step = self.channels;
+        let first = k * self.part + self.place;
+        let turns = self.frames / 2;
         let mut w = m;
-        let mut left = self.frames;
-        let mut i = k;
-        let mut j = k * self.part + self.place;
-        while 1 < left {
+        for turn in 0..turns {
+            let done = turn * 2;
+            let i = k + done * step;
             let x = samples[i].to_f64();
             let y = samples[i + step].to_f64();
-            w = frame(c, w, x, dest, j);
-            w = frame(c, w, y, dest, j + 1);
-            i += step + step;
-            j += 2;
-            left -= 2;
+            w = frame(c, w, x, dest, first + done);
+            w = frame(c, w, y, dest, first + done + 1);
         }
-        if 0 < left {
-            let x = samples[i].to_f64();
-            return frame(c, w, x, dest, j);
+        let last = turns * 2;
+        if last < self.frames {
+            let x = samples[k + last * step].to_f64();
+            w = frame(c, w, x, dest, first + last);
         }
         w
     }
@@ -117,19 +116,19 @@ impl Work {
         let c = self.c;
         let step = self.channels;
         let part = self.part;
+        let first = k * part + self.place;
+        let turns = self.frames / 2;
         let mut w = p;
-        let mut left = self.frames;
-        let mut i = k;
-        let mut j = k * part + self.place;
-        while 1 < left {
+        for turn in 0..turns {
+            let done = turn * 2;
+            let i = k + done * step;
+            let j = first + done;
             w = w.frame(c, samples, i, dest, j, part);
             w = w.frame(c, samples, i + step, dest, j + 1, part);
-            i += step + step;
-            j += 2;
-            left -= 2;
         }
-        if 0 < left {
-            return w.frame(c, samples, i, dest, j, part);
+        let last = turns * 2;
+        if last < self.frames {
+            w = w.frame(c, samples, k + last * step, dest, first + last, part);
         }
         w
     }

@@ -18,6 +18,24 @@ pub struct Seeded {
     pub state: State,
 }
 
+// The same on a state that is lent.
+fn seed_lent<S: Sample>(
+    c: Coefficients,
+    state: &mut [f64; 40],
+    channels: usize,
+    samples: &[S],
+    map: &[u8],
+) -> Answer
+    ensures { let given = record { values = state.old } in
+        let call = weighing_of c given channels (samples_by S.in_f64 samples.now) map.now in
+        (said result ≡ said_by (moved call)) × (state.new ≡ (kept_by given (moved call)).values) }
+{
+    filter_checks::refused_seed(channels, samples.len(), map)?;
+    let frames = samples.len() / channels;
+    crate::seeding_channels::advance_all(c.a, state, channels, frames, samples, map);
+    Ok(())
+}
+
 // One call over interleaved samples of one kind. A map byte of 0 is an unused channel, 1 a used one.
 pub fn seed<S: Sample>(
     c: Coefficients,
@@ -29,14 +47,10 @@ pub fn seed<S: Sample>(
     ensures answer_value { said result.answer ≡ said_by (moved (weighing_of c s channels (samples_by S.in_f64 samples.now) map.now)) }
     ensures state_value { result.state ≡ kept_by s (moved (weighing_of c s channels (samples_by S.in_f64 samples.now) map.now)) }
 {
-    let mut state = s.values;
-    let answer = filter_checks::refused_seed(channels, samples.len(), map);
-    if answer.is_ok() {
-        let frames = samples.len() / channels;
-        crate::seeding_channels::advance_all(c.a, &mut state, channels, frames, samples, map);
-    }
+    let mut state = s;
+    let answer = seed_lent(c, &mut state.values, channels, samples, map);
     Seeded {
         answer: answer,
-        state: State { values: state },
+        state: state,
     }
 }

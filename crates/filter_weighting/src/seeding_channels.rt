@@ -1,8 +1,7 @@
 // The weighting's state after a call, run by run and channel by channel, with no outputs.
-ghost use Rattle.std.specs.Prelude.{◌≡◌, cond, ◌*◌, ◌<◌, ◌≤◌, length};
+ghost use Rattle.std.specs.Prelude.{◌≡◌, cond, ◌*◌, ◌<◌, ◌≤◌, map, length};
 ghost use Rattle.samples.specs.Frames.{column, most_channels};
 ghost use Rattle.filter_checks.specs.Calls.{used};
-ghost use Rattle.samples.specs.Sample.{samples_by};
 ghost use Rattle.samples.specs.Stretches.{Reach, Whole};
 ghost use Rattle.filter_recurrence.specs.Recurrence.{after, flushed};
 ghost use Rattle.filter_recurrence.specs.Channels.{memory_of, with_memory, over_used};
@@ -23,12 +22,8 @@ fn advance(
     ensures { result ≡ after a m (column samples.now first step count) }
 {
     let mut w = m;
-    let mut left = count;
-    let mut i = first;
-    while 0 < left {
-        w = w.shifted(w.head(a, samples[i]));
-        i += step;
-        left -= 1;
+    for frame in 0..count {
+        w = w.shifted(w.head(a, samples[first + frame * step]));
     }
     w
 }
@@ -60,16 +55,14 @@ fn advance_run(
     channels: usize,
     count: usize,
     samples: &[f64],
-    map: &[u8],
+    bytes: &[u8],
 )
-    requires channels_le_most_channels { (channels ≤ most_channels) × (channels ≡ length map.now) }
+    requires channels_le_most_channels { (channels ≤ most_channels) × (channels ≡ length bytes.now) }
     requires channels_in_bounds { count * channels ≤ length samples.now }
-    ensures { state.new ≡ over_used (λ k m. after a m (column samples.now k channels count)) map.now 0 state.old }
+    ensures { state.new ≡ over_used (λ k m. after a m (column samples.now k channels count)) bytes.now 0 state.old }
 {
-    let mut k = 0;
-    while k < channels {
-        advance_channel(a, state, map[k], samples, k, channels, count);
-        k += 1;
+    for (k, byte) in bytes.iter().enumerate() {
+        advance_channel(a, state, *byte, samples, k, channels, count);
     }
 }
 
@@ -80,12 +73,12 @@ pub(crate) fn advance_all<S: Sample>(
     channels: usize,
     frames: usize,
     samples: &[S],
-    map: &[u8],
+    bytes: &[u8],
 )
     requires whole { Whole channels frames (length samples.now) }
-    requires channels_value { channels ≡ length map.now }
-    ensures { let src = samples_by S.in_f64 samples.now in
-        state.new ≡ over_used (λ k m. flushed (after a m (column src k channels frames))) map.now 0 state.old }
+    requires channels_value { channels ≡ length bytes.now }
+    ensures { let src = map S.in_f64 samples.now in
+        state.new ≡ over_used (λ k m. flushed (after a m (column src k channels frames))) bytes.now 0 state.old }
 {
     let mut run: [f64; samples::sources::RUN] = [0.0; samples::sources::RUN];
     let most = samples::sources::RUN / channels;
@@ -93,8 +86,8 @@ pub(crate) fn advance_all<S: Sample>(
     while done < frames {
         let count = samples::fills::shorter(frames - done, most);
         samples::fills::fill(&mut run, &samples[done * channels..]);
-        advance_run(a, state, channels, count, &run, map);
+        advance_run(a, state, channels, count, &run, bytes);
         done += count;
     }
-    filter_recurrence::flushing::flush_used(state, map);
+    filter_recurrence::flushing::flush_used(state, bytes);
 }

@@ -1,7 +1,5 @@
--- `seeding::advance_channel` meets its contract: a byte of 0 leaves all as it is, and any other puts the channel's memory through `advance`. Assumes nothing.
-use native.Mathlib.Omega.{arith}
-use borrow.Author.Tests.{ne_eqb}
-use mathlib.Core.Path.{ap, ◌∙◌}
+-- `seeding_channels::advance_channel` meets its contract: a byte of 0 leaves all as it is, and any other puts the channel's memory through `advance`. Assumes nothing.
+use Rattle.std.proofs.Common.{ap, ◌∙◌, ne_eqb, arith}
 use Rattle.samples.specs.Frames.{column}
 use Rattle.filter_recurrence.specs.declared.Memory.{Memory}
 use Rattle.filter_recurrence.specs.Recurrence.{after}
@@ -10,11 +8,8 @@ use Rattle.filter_weighting.proofs.seeding_channels.advance_channel.Goals as goa
 
 pub returns : goal.returns
 returns c =
-    let v = c in
-    let l = v in
-    let q = l in
-    let a = q.args in
+    let a = c.args in
     rw (ne_eqb a.byte 0 (λ e. omega arith))
     (c.store.ensures
     ∙ ap (with_memory a.state.now a.k)
-    (v.advance-m.ensures ∙ ap (λ (m : Memory). after a.a m (column a.samples.now a.k a.channels a.count)) l.load.ensures))
+    (c.advance.ensures ∙ ap (λ (m : Memory). after a.a m (column a.samples.now a.k a.channels a.count)) c.load-m.ensures))

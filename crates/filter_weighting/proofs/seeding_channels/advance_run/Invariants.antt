@@ -1,7 +1,4 @@
-use Prim.Native.Nat.{ℕ, ◌-◌, ◌≤◌}
-use mathlib.Core.Path.{◌≡◌}
-use mathlib.Core.List.{List}
-use lib.ListN.{drop}
+use Rattle.std.proofs.Common.{◌≡◌, ℕ, List, drop}
 use lib.Ieee.{Float}
 use Rattle.samples.specs.Frames.{column}
 use Rattle.filter_recurrence.specs.Recurrence.{after}
@@ -14,7 +11,4 @@ moves a samples channels count k v = with_memory v k (after a (memory_of v k) (c
 
 abbrev pub invariant-loop-k : goal.invariant-loop-k
 invariant-loop-k l =
-    (l.k ≤ l.channels) × (each_used (moves l.a l.samples l.channels l.count) (drop l.k l.map) l.k l.state ≡ each_used (moves l.a l.samples l.channels l.count) l.map 0 l.initial.state)
-
-abbrev pub decreases-loop-k : goal.decreases-loop-k
-decreases-loop-k l = l.channels - l.k
+    each_used (moves l.a l.samples l.channels l.count) (drop l.k l.bytes) l.k l.state ≡ each_used (moves l.a l.samples l.channels l.count) l.bytes 0 l.initial.state

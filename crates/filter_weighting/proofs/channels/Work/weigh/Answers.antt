@@ -1,126 +1,85 @@
--- `filter_weighting::weigh` meets its contract: the frames left give what all of them give; two frames a turn, and one more where their number is odd. Assumes nothing.
-use Prim.Native.Nat.{◌+◌, ◌-◌, ◌^◌, ◌≤◌, ◌<◌}
-use native.Mathlib.Omega.{arith}
-use mathlib.Core.Path.{◌≡◌, refl, ap, ◌∙◌}
-use lib.ListN.{length, set}
-use lib.Ieee.{Float}
+-- `Work::weigh` meets its contract: the frames left give what all of them give; two frames a turn, and one more where their number is odd. Assumes nothing.
+use Rattle.std.proofs.Common.{◌≡◌, ℕ, ◌+◌, ◌-◌, ◌*◌, ◌/◌, ◌≤◌, ◌<◌, map, length, get_or, set, refl, ap, ◌∙◌, arith, rules}
+use lib.ListN.{length-map}
+use lib.Ieee.{Float, nan}
 use Rattle.samples.specs.Frames.{most_channels}
-use Rattle.samples.specs.Source.{source_of}
-use Rattle.samples.proofs.Chosen.{source_below}
+use Rattle.samples.proofs.Columns.{read_as}
 use Rattle.filter_recurrence.specs.Recurrence.{next, out}
-use Rattle.filter_weighting.proofs.Single.{turn, here, following, twice, end}
+use Rattle.filter_weighting.specs.Inner.{place_of}
+use Rattle.filter_weighting.proofs.Single.{start, reach_by, turn, here, following, at, twice, end}
+use Rattle.filter_weighting.proofs.channels.Work.weigh.Given.{Over}
 use Rattle.filter_weighting.proofs.channels.Work.weigh.Goals as goal
-use Rattle.filter_weighting.proofs.channels.Work.weigh.Goals.{In-loop-left}
+use Rattle.filter_weighting.proofs.channels.Work.weigh.Goals.{In-loop-turn}
 
-pub overflow_mul-j : goal.overflow_mul-j
-overflow_mul-j c = let s = c in omega (arith, s.requires.frames_in_bounds)
+pub loop-turn-init : goal.loop-turn-init
+loop-turn-init g c =
+    let a = c.args in
+    let w = a.self in
+    let f = g.S.Sample.in_f64 in
+    (refl, start w.c.a w.c.b (map f a.samples.now) w.channels a.m a.k (place_of w a.k) w.frames a.dest.now _ _ _ (omega arith) (omega arith) (omega arith) (reach_by f a.samples.now c.requires.reach) c.requires.frames_in_bounds)
 
-pub overflow_add-j : goal.overflow_add-j
-overflow_add-j c = let s = c in omega (arith, s.requires.frames_in_bounds)
+-- the second sample of a turn is there too
+second : (g : Over) (c : In-loop-turn g) → c.args.k + c.loop-turn.turn * 2 * c.args.self.channels + c.args.self.channels < length c.args.samples.now
+second g c =
+    let t = following c.loop-turn.invariant.1 (omega arith) in
+    omega (arith, t.0, length-map c.args.samples.now g.S.Sample.in_f64)
 
-pub loop-left-init : goal.loop-left-init
-loop-left-init c =
-    let p = c.requires in
-    (refl, record { reach = p.reach; room = p.frames_in_bounds; memory = refl; given = refl })
+pub overflow_add-i-in-loop-turn : goal.overflow_add-i-in-loop-turn
+overflow_add-i-in-loop-turn g c = let h = second g (goal.at.overflow_add-i-in-loop-turn g c).In-loop-turn in search rules
 
--- where the first frame of a turn stands, and the second
-first : (c : In-loop-left) → let s = c in let l = c.loop-left in
-    (l.i < length (source_of s.args.ints.now s.args.floats.now)) × (l.j < length l.dest)
-first c = here c.loop-left.invariant.1 (omega (arith, c.loop-left-test.true))
+pub offset_bounds-samples-i-in-loop-turn : goal.offset_bounds-samples-i-in-loop-turn
+offset_bounds-samples-i-in-loop-turn g c = omega (arith, second g (goal.at.offset_bounds-samples-i-in-loop-turn g c).In-loop-turn)
 
-second : (c : In-loop-left) → let s = c in let l = c.loop-left in
-    (l.i + s.args.work.channels < length (source_of s.args.ints.now s.args.floats.now)) × ((l.j + 1 < length s.args.dest.now) × (s.args.work.channels ≤ most_channels))
-second c =
-    let l = c.loop-left in
-    let r = following l.invariant.1 c.loop-left-test.true in
-    (r.0, (omega (arith, r.1.0, l.invariant.0), r.1.1))
+pub bounds-samples-i-in-loop-turn : goal.bounds-samples-i-in-loop-turn
+bounds-samples-i-in-loop-turn g c = second g (goal.at.bounds-samples-i-in-loop-turn g c).In-loop-turn
 
--- the samples are few enough
-small : (c : In-loop-left) → let a = c.args in length (source_of a.ints.now a.floats.now) < 2 ^ 63
-small c =
-    let s = c in
-    source_below s.args.ints.now s.args.floats.now (2 ^ 63) (omega arith) (omega arith)
-
-pub sample_at-x-requires : goal.sample_at-x-requires
-sample_at-x-requires c = (first (goal.at.sample_at-x-requires c).In-loop-left).0
-
-pub overflow_add-i : goal.overflow_add-i
-overflow_add-i c = let q = c in omega (arith, (second (goal.at.overflow_add-i c).In-loop-left).0, small (goal.at.overflow_add-i c).In-loop-left)
-
-pub sample_at-y-requires : goal.sample_at-y-requires
-sample_at-y-requires c = (second (goal.at.sample_at-y-requires c).In-loop-left).0
-
-pub frame-w-requires : goal.frame-w-requires
-frame-w-requires c = (first (goal.at.frame-w-requires c).In-loop-left).1
-
-pub overflow_add-j-in-loop-left : goal.overflow_add-j-in-loop-left
-overflow_add-j-in-loop-left c =
-    let q = c in
-    omega (arith, (second (goal.at.overflow_add-j-in-loop-left c).In-loop-left).1.0)
-
-pub frame-w-requires-in-loop-left : goal.frame-w-requires-in-loop-left
-frame-w-requires-in-loop-left c =
-    let t = c in
-    let q = t in
-    omega (arith, (second (goal.at.frame-w-requires-in-loop-left c).In-loop-left).1.0, t.frame-w.auto.dest, q.loop-left.invariant.0)
-
-pub overflow_add-i-in-loop-left : goal.overflow_add-i-in-loop-left
-overflow_add-i-in-loop-left c = let q = c in omega (arith, (second (goal.at.overflow_add-i-in-loop-left c).In-loop-left).1.1)
-
-pub overflow_add-i-in-loop-left-2 : goal.overflow_add-i-in-loop-left-2
-overflow_add-i-in-loop-left-2 c =
-    let q = c in
-    omega (arith, (second (goal.at.overflow_add-i-in-loop-left-2 c).In-loop-left).0, (second (goal.at.overflow_add-i-in-loop-left-2 c).In-loop-left).1.1, small (goal.at.overflow_add-i-in-loop-left-2 c).In-loop-left)
-
-pub overflow_add-j-in-loop-left-2 : goal.overflow_add-j-in-loop-left-2
-overflow_add-j-in-loop-left-2 c =
-    let q = c in
-    omega (arith, (second (goal.at.overflow_add-j-in-loop-left-2 c).In-loop-left).1.0)
-
-pub loop-left-preserved : goal.loop-left-preserved
-loop-left-preserved c =
-    let two = c in
-    let one = two in
-    let y = one in
-    let x = y in
-    let q = x in
-    let g = q.args.work.c in
-    let l = q.loop-left in
-    let e = one.frame-w.ensures in
-    let f = two.frame-w-in-loop-left.ensures in (
-      two.frame-w-in-loop-left.auto.dest ∙ one.frame-w.auto.dest ∙ l.invariant.0,
-      twice l.invariant.1 one.frame-w.result two.frame-w-in-loop-left.result _ _ q.loop-left-test.true
-          (e.value ∙ ap (next g.a l.w) x.sample_at-x.ensures)
-          (e.dest_after ∙ ap (λ (v : Float). set l.dest l.j (out g.a g.b l.w v)) x.sample_at-x.ensures)
-          (f.value ∙ ap (next g.a one.frame-w.result) y.sample_at-y.ensures)
-          (f.dest_after ∙ ap (λ (v : Float). set one.frame-w.new.dest (l.j + 1) (out g.a g.b one.frame-w.result v)) y.sample_at-y.ensures),
+pub loop-turn-preserved : goal.loop-turn-preserved
+loop-turn-preserved g c =
+    let a = c.args in
+    let w = a.self.c in
+    let f = g.S.Sample.in_f64 in
+    let l = c.loop-turn in
+    let i = a.k + l.turn * 2 * a.self.channels in
+    let j = a.k * a.self.part + a.self.place + l.turn * 2 in
+    let h = second g (goal.at.loop-turn-preserved g c).In-loop-turn in
+    let src = map f a.samples.now in
+    let x : c.to_f64-x.result ≡ get_or src i nan = c.to_f64-x.ensures ∙ read_as f a.samples.now i _ nan (omega (arith, h)) c.index-samples-i.is in
+    let y : c.to_f64-y.result ≡ get_or src (i + a.self.channels) nan = c.to_f64-y.ensures ∙ read_as f a.samples.now (i + a.self.channels) _ nan h c.index-samples-i-in-loop-turn.is in
+    let e = c.frame-w.ensures in
+    let n = c.frame-w-in-loop-turn.ensures in (
+      c.frame-w-in-loop-turn.auto.dest ∙ c.frame-w.auto.dest ∙ l.invariant.0,
+      twice l.invariant.1 c.frame-w.result c.frame-w-in-loop-turn.result _ _ _ _ _ (omega arith) (omega arith) (omega arith) (omega arith)
+          (e.value ∙ ap (next w.a l.w) x)
+          (e.dest_after ∙ ap (λ (v : Float). set l.dest j (out w.a w.b l.w v)) x)
+          (n.value ∙ ap (next w.a c.frame-w.result) y)
+          (n.dest_after ∙ ap (λ (v : Float). set c.frame-w.new.dest (j + 1) (out w.a w.b c.frame-w.result v)) y),
     )
 
-pub sample_at-x-requires-then-left-gt0 : goal.sample_at-x-requires-then-left-gt0
-sample_at-x-requires-then-left-gt0 c = (here c.loop-left.invariant.1 c.if-left-gt0.true).0
-
-pub frame-requires : goal.frame-requires
-frame-requires c = let q = c in (here q.loop-left.invariant.1 q.if-left-gt0.true).1
-
-pub returns-then-left-gt0 : goal.returns-then-left-gt0
-returns-then-left-gt0 c =
-    let t = c in
-    let x = t in
-    let q = x in
-    let g = q.args.work.c in
-    let l = q.loop-left in
-    let e = t.frame.ensures in
-    let z : l.left - 1 ≡ 0 = omega (arith, q.loop-left-test.false, q.if-left-gt0.true) in
+pub returns-then-last-self : goal.returns-then-last-self
+returns-then-last-self g c =
+    let a = c.args in
+    let w = a.self.c in
+    let f = g.S.Sample.in_f64 in
+    let l = c.loop-turn in
+    let last = a.self.frames / 2 in
+    let i = a.k + last * 2 * a.self.channels in
+    let j = a.k * a.self.part + a.self.place + last * 2 in
+    let src = map f a.samples.now in
+    let t : l.turn ≡ last = omega arith in
+    let now = at l.invariant.1 i j (a.self.frames - last * 2) (ap (λ (n : ℕ). a.k + n * 2 * a.self.channels) t) (omega arith) (omega arith) in
+    let h = here now (omega arith) in
+    let x : c.to_f64-x-then-last-self.result ≡ get_or src i nan =
+    c.to_f64-x-then-last-self.ensures ∙ read_as f a.samples.now i _ nan (omega (arith, h.0, length-map a.samples.now f)) c.index-samples-k.is in
+    let e = c.frame-w-then-last-self.ensures in
     let r = end
-    (turn l.invariant.1 t.frame.result _ q.if-left-gt0.true
-    (e.value ∙ ap (next g.a l.w) x.sample_at-x-then-left-gt0.ensures)
-    (e.dest_after ∙ ap (λ (v : Float). set l.dest l.j (out g.a g.b l.w v)) x.sample_at-x-then-left-gt0.ensures))
-    z in
+    (turn now c.frame-w-then-last-self.result _ (omega arith)
+    (e.value ∙ ap (next w.a l.w) x)
+    (e.dest_after ∙ ap (λ (v : Float). set l.dest j (out w.a w.b l.w v)) x))
+    (omega arith) in
     record { value = r.0; dest_after = r.1 }
 
-pub returns : goal.returns
-returns c =
-    let l = c.loop-left in
-    let z : l.left ≡ 0 = omega (arith, c.if-left-gt0.false) in
-    let r = end l.invariant.1 z in
+pub returns-else-last-self : goal.returns-else-last-self
+returns-else-last-self g c =
+    let l = c.loop-turn in
+    let r = end l.invariant.1 (omega arith) in
     record { value = r.0; dest_after = r.1 }

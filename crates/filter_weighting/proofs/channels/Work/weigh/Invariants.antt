@@ -1,19 +1,16 @@
-use mathlib.Core.Path.{◌≡◌}
-use lib.ListN.{length}
+use Rattle.std.proofs.Common.{◌≡◌, ◌+◌, ◌-◌, ◌*◌, map, length}
 use lib.Seq.{sets}
 use Rattle.samples.specs.Frames.{column}
-use Rattle.samples.specs.Source.{source_of}
 use Rattle.filter_recurrence.specs.Recurrence.{after, outs}
 use Rattle.filter_weighting.proofs.Single.{Single}
 use Rattle.filter_weighting.proofs.channels.Work.weigh.Given as goal
 
-abbrev pub invariant-loop-left : goal.invariant-loop-left
-invariant-loop-left l =
+abbrev pub invariant-loop-turn : goal.invariant-loop-turn
+invariant-loop-turn g l =
+    let heard = column (map g.S.Sample.in_f64 l.samples) l.k l.step l.self.frames in
+    let done = l.turn * 2 in
     (length l.dest ≡ length l.initial.dest)
-    × Single l.c.a l.c.b (source_of l.ints l.floats) l.step
-    (after l.c.a l.initial.w (column (source_of l.ints l.floats) l.k l.step l.initial.left))
-    (sets l.initial.dest l.initial.j (outs l.c.a l.c.b l.initial.w (column (source_of l.ints l.floats) l.k l.step l.initial.left)))
-    l.w l.i l.j l.left l.dest
-
-abbrev pub decreases-loop-left : goal.decreases-loop-left
-decreases-loop-left l = l.left
+    × Single l.c.a l.c.b (map g.S.Sample.in_f64 l.samples) l.step
+    (after l.c.a l.initial.w heard)
+    (sets l.initial.dest l.first (outs l.c.a l.c.b l.initial.w heard))
+    l.w (l.k + done * l.step) (l.first + done) (l.self.frames - done) l.dest

@@ -1,21 +1,19 @@
-use Prim.Native.Nat.{◌+◌}
-use mathlib.Core.Path.{◌≡◌}
-use lib.ListN.{length}
+use Rattle.std.proofs.Common.{◌≡◌, ◌+◌, ◌-◌, ◌*◌, map, length}
 use lib.Seq.{sets}
 use Rattle.samples.specs.Frames.{column}
-use Rattle.samples.specs.Source.{source_of}
 use Rattle.filter_recurrence.specs.Recurrence.{after, outs}
 use Rattle.filter_weighting.proofs.Pairs.{Both}
 use Rattle.filter_weighting.proofs.channels.Work.weigh_two.Given as goal
 
-abbrev pub invariant-loop-left : goal.invariant-loop-left
-invariant-loop-left l =
+abbrev pub invariant-loop-turn : goal.invariant-loop-turn
+invariant-loop-turn g l =
+    let src = map g.S.Sample.in_f64 l.samples in
+    let one = column src l.k l.step l.self.frames in
+    let two = column src (l.k + 1) l.step l.self.frames in
+    let done = l.turn * 2 in
     (length l.dest ≡ length l.initial.dest)
-    × Both l.c.a l.c.b (source_of l.ints l.floats) l.step l.part
-    (after l.c.a l.initial.w.one (column (source_of l.ints l.floats) l.k l.step l.initial.left))
-    (after l.c.a l.initial.w.two (column (source_of l.ints l.floats) (l.k + 1) l.step l.initial.left))
-    (sets (sets l.initial.dest l.initial.j (outs l.c.a l.c.b l.initial.w.one (column (source_of l.ints l.floats) l.k l.step l.initial.left))) (l.initial.j + l.part) (outs l.c.a l.c.b l.initial.w.two (column (source_of l.ints l.floats) (l.k + 1) l.step l.initial.left)))
-    l.w.one l.w.two l.i l.j l.left l.dest
-
-abbrev pub decreases-loop-left : goal.decreases-loop-left
-decreases-loop-left l = l.left
+    × Both l.c.a l.c.b src l.step l.part
+    (after l.c.a l.initial.w.one one)
+    (after l.c.a l.initial.w.two two)
+    (sets (sets l.initial.dest l.first (outs l.c.a l.c.b l.initial.w.one one)) (l.first + l.part) (outs l.c.a l.c.b l.initial.w.two two))
+    l.w.one l.w.two (l.k + done * l.step) (l.first + done) (l.self.frames - done) l.dest
