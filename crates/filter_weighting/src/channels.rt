@@ -155,13 +155,7 @@ impl Work {
     }
 
     // Channels k and k + 1, both used.
-    fn weigh_pair<S: Sample>(
-        self,
-        state: &mut [f64; 40],
-        samples: &[S],
-        k: usize,
-        dest: &mut [f64],
-    )
+    fn weigh_pair<S: Sample>(self, state: &mut [f64; 40], samples: &[S], k: usize, dest: &mut [f64])
         requires k_bound { k + 1 < most_channels }
         requires reach { Reach (k + 1) self.channels self.frames (length samples.now) }
         requires frames_le_part { (self.frames ≤ self.part) × (place_of self k + self.part + self.frames ≤ length dest.old) }

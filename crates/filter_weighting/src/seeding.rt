@@ -26,9 +26,8 @@ fn seed_lent<S: Sample>(
     samples: &[S],
     map: &[u8],
 ) -> Answer
-    ensures { let given = record { values = state.old } in
-        let call = weighing_of c given channels (samples_by S.in_f64 samples.now) map.now in
-        (said result ≡ said_by (moved call)) × (state.new ≡ (kept_by given (moved call)).values) }
+    ensures { let call = weighing_of c (record { values = state.old }) channels (samples_by S.in_f64 samples.now) map.now in
+        (said result ≡ said_by (moved call)) × (state.new ≡ (kept_by call.state (moved call)).values) }
 {
     filter_checks::refused_seed(channels, samples.len(), map)?;
     let frames = samples.len() / channels;

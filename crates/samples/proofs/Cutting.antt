@@ -81,7 +81,10 @@ step {places} {channels} wide all left e =
 pub all_frames : (channels counted : ℕ) (ints : List ℤ) (floats : List Float) → Framed channels counted → counted ≡ length (source_of ints floats)
     → length ints < 2 ^ 63 → length floats < 2 ^ 63 → Whole channels (counted / channels) (length (source_of ints floats))
 all_frames channels counted ints floats ok e h k =
-    record { some = ok.some; few = ok.few; whole = ok.whole ∙ e; small = source_below ints floats (2 ^ 63) h k }
+    record { some = ok.some; few = ok.few; whole = ok.whole ∙ e }
+
+pub whole_frames : (channels samples : ℕ) → Framed channels samples → Whole channels (samples / channels) samples
+whole_frames channels samples ok = record { some = ok.some; few = ok.few; whole = ok.whole }
 
 -- their number is the definition's
 pub frames_are : (channels counted samples : ℕ) → 0 < channels → counted ≡ samples → counted / channels ≡ frames_of channels samples

@@ -1,5 +1,5 @@
 -- A call's samples in stretches: what the inner functions rely on once nothing is refused.
-use Rattle.std.specs.Prelude.{◌≡◌, ℕ, ◌+◌, ◌*◌, ◌^◌, ◌<◌, ◌≤◌}
+use Rattle.std.specs.Prelude.{◌≡◌, ℕ, ◌+◌, ◌*◌, ◌<◌, ◌≤◌}
 use Rattle.samples.specs.Frames.{most_channels}
 
 -- the places of a stretch
@@ -20,4 +20,3 @@ pub record Whole (channels frames samples : ℕ) : Type 0 where
   pub some : 0 < channels
   pub few : channels ≤ most_channels
   pub whole : frames * channels ≡ samples
-  pub small : samples < 2 ^ 63

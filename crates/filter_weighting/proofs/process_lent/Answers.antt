@@ -1,5 +1,5 @@
 -- `filter_weighting::process_lent` meets its contract: the check's refusal is the call's, and past it state and destination are what the definitions say. Assumes nothing.
-use Rattle.std.proofs.Common.{◌≡◌, ℕ, ◌/◌, true, List, length, sym, ap, ◌∙◌, le_of_eq}
+use Rattle.std.proofs.Common.{◌≡◌, ℕ, true, List, length, sym, ap, ◌∙◌, le_of_eq}
 use Rattle.std.proofs.lemmas.Result.{err_from_is_err_and}
 use lib.ListN.{length-map}
 use lib.Ieee.{Float}

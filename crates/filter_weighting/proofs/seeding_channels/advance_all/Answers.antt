@@ -1,5 +1,5 @@
 -- `seeding_channels::advance_all` meets its contract: the state is that after the frames done, and the flush comes last. Assumes nothing.
-use Rattle.std.proofs.Common.{◌≡◌, ℕ, ◌*◌, ◌-◌, map, length, drop, take, refl, sym, ap, ◌∙◌, arith, rules}
+use Rattle.std.proofs.Common.{◌≡◌, ℕ, ◌*◌, map, length, refl, sym, ap, ◌∙◌, arith, rules}
 use lib.ListN.{length-map}
 use Rattle.samples.specs.Frames.{column}
 use Rattle.samples.specs.Stretches.{run_places}

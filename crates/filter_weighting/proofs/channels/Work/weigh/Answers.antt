@@ -1,8 +1,7 @@
 -- `Work::weigh` meets its contract: the frames left give what all of them give; two frames a turn, and one more where their number is odd. Assumes nothing.
-use Rattle.std.proofs.Common.{◌≡◌, ℕ, ◌+◌, ◌-◌, ◌*◌, ◌/◌, ◌≤◌, ◌<◌, map, length, get_or, set, refl, ap, ◌∙◌, arith, rules}
+use Rattle.std.proofs.Common.{◌≡◌, ℕ, ◌+◌, ◌-◌, ◌*◌, ◌/◌, ◌<◌, map, length, get_or, set, refl, ap, ◌∙◌, arith, rules}
 use lib.ListN.{length-map}
 use lib.Ieee.{Float, nan}
-use Rattle.samples.specs.Frames.{most_channels}
 use Rattle.samples.proofs.Columns.{read_as}
 use Rattle.filter_recurrence.specs.Recurrence.{next, out}
 use Rattle.filter_weighting.specs.Inner.{place_of}

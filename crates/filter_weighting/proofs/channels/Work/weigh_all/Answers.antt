@@ -1,5 +1,5 @@
 -- `Work::weigh_all` meets its contract: the channels left, from the state and the destination as they are, give what all of them give, and the flush comes last. Assumes nothing.
-use Rattle.std.proofs.Common.{◌≡◌, ℕ, ◌≤◌, map, length, refl, sym, ap, ◌∙◌, arith, rules}
+use Rattle.std.proofs.Common.{◌≡◌, ℕ, ◌≤◌, map, length, sym, ap, ◌∙◌, arith, rules}
 use Rattle.filter_recurrence.specs.Recurrence.{flushed}
 use Rattle.filter_recurrence.specs.Channels.{over_used}
 use Rattle.filter_recurrence.proofs.Each.{each_end}

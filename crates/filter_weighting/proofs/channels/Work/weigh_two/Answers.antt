@@ -1,9 +1,9 @@
 -- `Work::weigh_two` meets its contract: the frames left of both channels give what all of them give; two frames a turn, and one more where their number is odd. Assumes nothing.
-use Rattle.std.proofs.Common.{ℕ, ◌+◌, ◌-◌, ◌*◌, ◌/◌, ◌<◌, ◌≡◌, map, length, refl, ap, ◌∙◌, arith, rules}
+use Rattle.std.proofs.Common.{ℕ, ◌+◌, ◌-◌, ◌*◌, ◌/◌, ◌<◌, ◌≡◌, map, length, refl, ap, ◌∙◌, arith}
 use lib.ListN.{length-map}
 use Rattle.filter_weighting.specs.Inner.{place_of}
 use Rattle.filter_weighting.proofs.Single.{reach_by}
-use Rattle.filter_weighting.proofs.Pairs.{both_start, both_here, both_next, both_at, both_turn, both_twice, both_end}
+use Rattle.filter_weighting.proofs.Pairs.{both_start, both_next, both_at, both_turn, both_twice, both_end}
 use Rattle.filter_weighting.proofs.channels.Work.weigh_two.Given.{Over}
 use Rattle.filter_weighting.proofs.channels.Work.weigh_two.Goals as goal
 use Rattle.filter_weighting.proofs.channels.Work.weigh_two.Goals.{In-loop-turn}
