@@ -1,22 +1,15 @@
--- A channel's peak among the eight places that are stored: read where it has one, and 0 elsewhere. Assumes nothing.
-use borrow.Author.Tests.{lt-ltb, le-ltb}
-use Prim.Native.Nat.{ℕ, ◌≤◌, ◌<◌}
-use native.Mathlib.Omega.{arith}
-use mathlib.Core.Path.{◌≡◌, sym}
-use mathlib.Core.List.{List}
-use lib.ListN.{length, get_or, get_or-eq_default}
-use lib.Ieee.{Float, nan}
+-- A channel's peak among the places that are stored: read where it has one, and 0 elsewhere. Assumes nothing.
+use Rattle.std.proofs.Common.{◌≡◌, ℕ, Bool, true, false, cond, List, refl, ltb, get_or, slice_get, None}
+use Rattle.std.proofs.lemmas.Option.{unwrap_or-slice_get}
+use Rattle.std.specs.Option.{unwrap_or}
+use lib.Ieee.{Float}
 use Rattle.base_floats.specs.Entry.{plus_zero}
-use Rattle.samples.proofs.Columns.{within}
 use Rattle.filter.specs.declared.Filter.{Filter}
 use Rattle.filter.specs.Peaks.{peak_of}
 
-module _ (f : Filter) (stored : List Float) (channel : ℕ) where
-  pub no_channel : f.channels ≤ channel → plus_zero ≡ peak_of f stored channel
-  no_channel h = rw (le-ltb _ _ h)
-
-  pub no_place : length stored ≡ 8 → channel < f.channels → 8 ≤ channel → plus_zero ≡ peak_of f stored channel
-  no_place eight h past = rw (lt-ltb _ _ h) (sym (get_or-eq_default stored plus_zero (omega arith)))
-
-  pub place : length stored ≡ 8 → channel < f.channels → channel < 8 → get_or stored channel nan ≡ peak_of f stored channel
-  place eight h there = rw (lt-ltb _ _ h) (within stored channel nan plus_zero (omega arith))
+pub peak_stored : (f : Filter) (stored : List Float) (channel : ℕ) → unwrap_or (cond (ltb channel f.channels) (slice_get stored channel) None) plus_zero ≡ peak_of f stored channel
+peak_stored f stored channel = go (ltb channel f.channels)
+  where
+    go : (there : Bool) → unwrap_or (cond there (slice_get stored channel) None) plus_zero ≡ cond there (get_or stored channel plus_zero) plus_zero
+    go true = unwrap_or-slice_get stored channel plus_zero
+    go false = refl

@@ -5,6 +5,7 @@ ghost use Rattle.std.specs.Prelude.{◌≡◌};
 ghost use Rattle.true_peak_state.specs.TruePeak.{silent};
 ghost use Rattle.filter.specs.Filter.{at_rest, no_peaks, resting, moved};
 
+use base_refusals::Answer;
 use filter_recurrence::Coefficients;
 use filter_recurrence::states::State;
 use filter_sample_peak::Peaks;
@@ -35,7 +36,7 @@ pub struct Filter {
 // What a call comes to, with the filter as it is afterwards. A refused call leaves it as given.
 #[derive(Clone, Copy)]
 pub struct Filtered {
-    pub answer: base_refusals::Answer,
+    pub answer: Answer,
     pub filter: Filter,
 }
 
@@ -44,10 +45,10 @@ pub fn new(channels: usize, rate: u32, switches: Switches, coefficients: Coeffic
     ensures { result ≡ resting channels rate switches coefficients }
 {
     Filter {
-        channels: channels,
-        rate: rate,
-        switches: switches,
-        coefficients: coefficients,
+        channels,
+        rate,
+        switches,
+        coefficients,
         state: State { values: [0.0; 40] },
         peaks: Peaks { values: [0.0; 8] },
         true_peak: TruePeak::new(),
@@ -58,16 +59,11 @@ pub fn new(channels: usize, rate: u32, switches: Switches, coefficients: Coeffic
 pub fn with(filter: Filter, state: State, peaks: Peaks, trues: TruePeak) -> Filter
     ensures { result ≡ moved filter state peaks trues }
 {
-    let switches = filter.switches;
-    let coefficients = filter.coefficients;
     Filter {
-        channels: filter.channels,
-        rate: filter.rate,
-        switches: switches,
-        coefficients: coefficients,
-        state: state,
-        peaks: peaks,
+        state,
+        peaks,
         true_peak: trues,
+        ..filter
     }
 }
 
@@ -75,17 +71,21 @@ pub fn with(filter: Filter, state: State, peaks: Peaks, trues: TruePeak) -> Filt
 pub fn reset(filter: Filter) -> Filter
     ensures { result ≡ moved filter at_rest (record { values = no_peaks }) silent }
 {
-    let switches = filter.switches;
-    let coefficients = filter.coefficients;
-    new(filter.channels, filter.rate, switches, coefficients)
+    new(
+        filter.channels,
+        filter.rate,
+        filter.switches,
+        filter.coefficients,
+    )
 }
 
 // The filter with peaks of 0.
 pub fn reset_peaks(filter: Filter) -> Filter
     ensures { result ≡ moved filter filter.state (record { values = no_peaks }) (record { memory = filter.true_peak.memory; peaks = no_peaks }) }
 {
-    let state = filter.state;
-    let mut trues = filter.true_peak;
-    trues.peaks = [0.0; 8];
-    with(filter, state, Peaks { values: [0.0; 8] }, trues)
+    let trues = TruePeak {
+        peaks: [0.0; 8],
+        ..filter.true_peak
+    };
+    with(filter, filter.state, Peaks { values: [0.0; 8] }, trues)
 }
