@@ -9,11 +9,11 @@ ghost use Rattle.history_histogram.specs.Merge.{merge_into};
 ghost use Rattle.history_queue.specs.Adding.{enqueued};
 ghost use Rattle.exports_histories.specs.Queues.{queue_over, after_add};
 
-use base_refusals::Answer;
 use base_refusals::codes::number_of;
 use bins::Count;
 use history_queue::Queue;
 
+#[tactic(auto, using(base_refusals::proofs::Told::answer_told))]
 pub fn xel_histogram_add(counters: &mut [Count], energy: f64) -> u8
     ensures { (result ≡ code (add_to counters.old energy))
         × (counters.new ≡ kept_by counters.old (add_to counters.old energy)) }
@@ -21,6 +21,7 @@ pub fn xel_histogram_add(counters: &mut [Count], energy: f64) -> u8
     number_of(history_histogram::add(counters, energy))
 }
 
+#[tactic(auto, using(base_refusals::proofs::Told::answer_told))]
 pub fn xel_histogram_merge(into: &mut [Count], from: &[Count]) -> u8
     ensures { (result ≡ code (merge_into into.old from.now))
         × (into.new ≡ kept_by into.old (merge_into into.old from.now)) }
@@ -28,6 +29,7 @@ pub fn xel_histogram_merge(into: &mut [Count], from: &[Count]) -> u8
     number_of(history_histogram::merging::merge(into, from))
 }
 
+#[tactic(auto, using(base_refusals::proofs::Told::answer_told))]
 pub fn xel_histogram_reset(counters: &mut [Count]) -> u8
     ensures { (result ≡ code (cleared counters.old))
         × (counters.new ≡ kept_by counters.old (cleared counters.old)) }
@@ -36,6 +38,7 @@ pub fn xel_histogram_reset(counters: &mut [Count]) -> u8
 }
 
 // A refused call stores nothing: head, held and store may be read-only, or be read meanwhile.
+#[tactic(auto, using(base_refusals::proofs::Told::answer_told))]
 pub fn xel_queue_add(
     maximum: usize,
     head: &mut usize,
@@ -54,14 +57,9 @@ pub fn xel_queue_add(
         held: *held,
     };
     let queued = history_queue::adding::add(given, store, energy);
-    let answer = queued.answer;
-    match answer {
-        Answer::Done => {
-            let after = queued.queue;
-            *head = after.head;
-            *held = after.held;
-            0
-        }
-        Answer::Refused(number) => number,
+    if queued.answer.is_ok() {
+        *head = queued.queue.head;
+        *held = queued.queue.held;
     }
+    number_of(queued.answer)
 }

@@ -15,6 +15,7 @@ pub mod merging;
 pub const LARGEST_COUNT: Count = 4294967295;
 
 // A block of this energy is counted in its bin. Below boundary 0 it is dropped.
+#[tactic(auto, using(bins::proofs::Bins::bin_below), unfolding(crate::specs::Histogram::add_to))]
 pub fn add(counters: &mut [Count], energy: f64) -> Answer
     ensures { (said result ≡ said_by (add_to counters.old energy))
         × (counters.new ≡ kept_by counters.old (add_to counters.old energy)) }
@@ -35,6 +36,7 @@ pub fn add(counters: &mut [Count], energy: f64) -> Answer
 }
 
 // Every counter becomes 0.
+#[tactic(auto, using(crate::proofs::Counters::all_zero), unfolding(crate::specs::Histogram::cleared))]
 pub fn reset(counters: &mut [Count]) -> Answer
     ensures { (said result ≡ said_by (cleared counters.old))
         × (counters.new ≡ kept_by counters.old (cleared counters.old)) }

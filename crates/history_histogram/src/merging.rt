@@ -9,6 +9,7 @@ use base_refusals::{Answer, Refusal};
 use bins::Count;
 
 // Whether no two counters add up to more than the largest count, by a look at every bin.
+#[tactic(auto, using(crate::proofs::Room::look_turn, crate::proofs::Room::look_end))]
 fn has_room(into: &[Count], from: &[Count]) -> bool
     requires { length into.now ≡ length from.now }
     ensures { result ≡ room into.now from.now }
@@ -20,6 +21,7 @@ fn has_room(into: &[Count], from: &[Count]) -> bool
     fits
 }
 
+#[tactic(auto, using(crate::proofs::Sums::sums_all, crate::proofs::Sums::sums_turn))]
 fn add_all(into: &mut [Count], from: &[Count])
     requires { (length into.old ≡ length from.now) × (room into.old from.now ≡ true) }
     ensures { into.new ≡ sums into.old from.now }
@@ -30,20 +32,17 @@ fn add_all(into: &mut [Count], from: &[Count])
 }
 
 // The counters of `from` are added to those of `into`, or none is.
+#[tactic(auto, unfolding(crate::specs::Merge::merge_into))]
 pub fn merge(into: &mut [Count], from: &[Count]) -> Answer
     ensures { (said result ≡ said_by (merge_into into.old from.now))
         × (into.new ≡ kept_by into.old (merge_into into.old from.now)) }
 {
-    if into.len() != bins::BINS {
+    if into.len() != bins::BINS || from.len() != bins::BINS {
         return Err(Refusal::STORE);
     }
-    if from.len() != bins::BINS {
-        return Err(Refusal::STORE);
+    if !has_room(into, from) {
+        return Err(Refusal::FULL);
     }
-    if has_room(into, from) {
-        add_all(into, from);
-        Ok(())
-    } else {
-        Err(Refusal::FULL)
-    }
+    add_all(into, from);
+    Ok(())
 }
