@@ -2,9 +2,8 @@
 use mathlib.Core.Path.{◌≡◌, refl, sym, ap, ◌∙◌}
 use mathlib.Core.List.{List, [], ◌∷◌}
 use Prim.Native.Nat.{ℕ, suc, ◌+◌, ◌≤◌, ◌<◌}
-use native.Mathlib.Omega.{arith}
 use borrow.Author.Tests.{eq-eqb, ne_eqb}
-use lib.ListN.{length, get_or, take, drop, length-take}
+use lib.ListN.{length, get_or, drop}
 use lib.Ieee.{Float}
 use Rattle.base_refusals.specs.declared.Refusal.TheVariants.{MODE}
 use Rattle.base_refusals.specs.Outcome.{Outcome, went, refused, answers, Said, said_by, kept_by}
@@ -13,7 +12,7 @@ use Rattle.base_refusals.proofs.Rows.{Refuses, goes, rows_then}
 use Rattle.base_refusals.proofs.Behind.{stopped_first, goes_on, stays, through}
 use Rattle.history_histogram.specs.Histogram.{empty}
 use Rattle.history_set.specs.declared.set.Entry.{Entry}
-use Rattle.history_set.specs.Set.{History, counted, listed, Histories, histories_of, shows, all_show, set_rows}
+use Rattle.history_set.specs.Set.{History, Histories, histories_of, shows, all_show, set_rows}
 use Rattle.history_set.proofs.Entries.{past_the_last, shows_next, shows_end}
 use Rattle.range_ranks.specs.Span.{Span}
 use Rattle.range_histograms.specs.Counted.{added_to, counted_span, histogram_range}
@@ -21,30 +20,22 @@ use Rattle.range_queues.specs.Listed.{all_held, placed_in, held_span, room_row, 
 use Rattle.range.specs.Range.{queues_by, queues_in, work_after, span_over, mode_rows, range_of}
 
 -- ---- how many are queues
-module _ (counters : List ℕ) (energies : List Float) (l : List Entry) (count i : ℕ) where
-  pub queues_next : i < count → count ≤ length l
-      → queues_in (all_show counters energies (drop i (take count l)))
-      ≡ queues_by (shows counters energies (get_or l i past_the_last)) + queues_in (all_show counters energies (drop (i + 1) (take count l)))
+module _ (counters : List ℕ) (energies : List Float) (l : List Entry) (i : ℕ) where
+  pub queues_next : i < length l
+      → queues_in (all_show counters energies (drop i l))
+      ≡ queues_by (shows counters energies (get_or l i past_the_last)) + queues_in (all_show counters energies (drop (i + 1) l))
   unfolding queues_in
-  queues_next h g = ap queues_in (shows_next counters energies l count i h g)
+  queues_next h = ap queues_in (shows_next counters energies l i h)
 
-  pub queues_end : count ≤ i → queues_in (all_show counters energies (drop i (take count l))) ≡ 0
+  pub queues_end : length l ≤ i → queues_in (all_show counters energies (drop i l)) ≡ 0
   unfolding queues_in
-  queues_end h = ap queues_in (shows_end counters energies l count i h)
+  queues_end h = ap queues_in (shows_end counters energies l i h)
 
-pub queues_one : (history : History) → queues_by history ≤ 1
-queues_one (counted counters) = omega arith
-queues_one (listed energies) = omega arith
-
-shown_length : (counters : List ℕ) (energies : List Float) (l : List Entry) → length (all_show counters energies l) ≡ length l
+-- as many as entries
+pub shown_length : (counters : List ℕ) (energies : List Float) (l : List Entry) → length (all_show counters energies l) ≡ length l
 unfolding all_show
 shown_length counters energies [] = refl
 shown_length counters energies (entry ∷ l) = ap suc (shown_length counters energies l)
-
--- as many as count
-pub histories_count : (counters : List ℕ) (energies : List Float) (l : List Entry) (count : ℕ) → count ≤ length l
-    → length (all_show counters energies (take count l)) ≡ count
-histories_count counters energies l count h = omega (arith, shown_length counters energies (take count l), length-take count l)
 
 -- ---- the question
 module _ (h : Histories) (work : List Float) where

@@ -1,60 +1,47 @@
--- `range::loudness_range` meets its contract: too many entries, then by how many of the histories are queues. Assumes nothing.
-use mathlib.Core.Path.{◌≡◌, refl, sym, ◌∙◌}
-use native.Mathlib.Omega.{arith}
-use lib.ListN.{length}
+-- `range::loudness_range` meets its contract, by how many of the histories are queues. Assumes nothing.
+use Rattle.std.proofs.Common.{◌≡◌, List, length, refl, sym, ap, ◌∙◌, arith}
 use Rattle.base_refusals.specs.Refusal.{number}
-use Rattle.base_refusals.specs.declared.Refusal.TheVariants.{SET}
 use Rattle.base_refusals.proofs.Numbers.{no_number}
-use Rattle.history_set.specs.Set.{histories, histories_of}
-use Rattle.history_set.proofs.Rows.{too_many, set_refused}
+use Rattle.history_set.specs.declared.set.Entry.{Entry}
+use Rattle.history_set.specs.declared.set.Histories.{Histories as Lent}
+use Rattle.history_set.specs.Lent.{lent}
+use Rattle.history_set.specs.Set.{all_show, chosen, histories_of}
+use Rattle.history_set.proofs.Entries.{all_chosen}
 use Rattle.range.specs.Range.{queues_in}
-use Rattle.range.proofs.Answers.{histories_count, range_refused, range_histograms, range_queues, range_mixed}
+use Rattle.range.proofs.Answers.{shown_length, range_refused, range_histograms, range_queues, range_mixed}
 use Rattle.range.proofs.loudness_range.Goals as goal
-use Rattle.range.proofs.loudness_range.Goals.{After-queues_in-queues}
 
-queues_are : (q : After-queues_in-queues) → q.queues_in-queues.result ≡ queues_in (histories_of (histories q.args.entries q.args.count q.args.counters.now q.args.energies.now))
-queues_are q = let h = histories q.args.entries q.args.count q.args.counters.now q.args.energies.now in q.queues_in-queues.ensures h.counters h.energies
+-- how many of the set's histories are queues, and how many there are
+queues_are : (set : Lent) → queues_in (all_show set.counters.now set.energies.now set.entries.now) ≡ queues_in (histories_of (lent set))
+queues_are set = ap (λ (l : List Entry). queues_in (all_show set.counters.now set.energies.now l)) (sym (all_chosen set))
 
-as_many : (q : After-queues_in-queues) → length (histories_of (histories q.args.entries q.args.count q.args.counters.now q.args.energies.now)) ≡ q.args.count
-as_many q =
-    let h = histories q.args.entries q.args.count q.args.counters.now q.args.energies.now in
-    histories_count h.counters h.energies h.entries h.count (omega (arith, q.if-count-gt-MOST.false))
+as_many : (set : Lent) → length (histories_of (lent set)) ≡ length set.entries.now
+as_many set = shown_length set.counters.now set.energies.now (chosen (lent set)) ∙ ap (λ (l : List Entry). length l) (all_chosen set)
 
-pub returns-then-count-gt-MOST : goal.returns-then-count-gt-MOST
-returns-then-count-gt-MOST c =
-    let s = c in
-    let r = range_refused (histories s.args.entries s.args.count s.args.counters.now s.args.energies.now) s.args.work.now (number SET) (sym (set_refused (histories s.args.entries s.args.count s.args.counters.now s.args.energies.now) (too_many (histories s.args.entries s.args.count s.args.counters.now s.args.energies.now) c.if-count-gt-MOST.true))) (no_number SET) in
-    (r.says, r.keeps)
-
-pub returns-then-queues-eq0 : goal.returns-then-queues-eq0
-returns-then-queues-eq0 c =
-    let q = c in
-    let s = q in
-    let r = range_histograms (histories s.args.entries s.args.count s.args.counters.now s.args.energies.now) s.args.work.now (sym (queues_are (goal.at.returns-then-queues-eq0 c).After-queues_in-queues) ∙ c.if-queues-eq0.true) in
+pub returns-then-only_histograms : goal.returns-then-only_histograms
+returns-then-only_histograms c =
+    let set = c.args.set in
+    let r = range_histograms (lent set) c.args.work.now (omega (arith, c.queues_in-queues.ensures set.counters.now set.energies.now, queues_are set)) in
     (c.of_histograms.ensures ∙ r.0, r.1)
 
-pub returns-then-queues-count : goal.returns-then-queues-count
-returns-then-queues-count c =
-    let o = c in
-    let t = o in
-    let q = t in
-    let s = q in
-    rw (range_queues (histories s.args.entries s.args.count s.args.counters.now s.args.energies.now) s.args.work.now (λ e. t.if-queues-eq0.false (queues_are (goal.at.returns-then-queues-count c).After-queues_in-queues ∙ e)) (sym (queues_are (goal.at.returns-then-queues-count c).After-queues_in-queues) ∙ t.if-queues-count.true ∙ sym (as_many (goal.at.returns-then-queues-count c).After-queues_in-queues)))
-    (o.of_queues.ensures.0, o.of_queues.ensures.1)
+pub returns-then-only_queues : goal.returns-then-only_queues
+returns-then-only_queues c =
+    let set = c.args.set in
+    let counted = c.queues_in-queues.ensures set.counters.now set.energies.now in
+    let same =
+    range_queues (lent set) c.args.work.now (λ e. c.if-only_histograms.false (omega (arith, counted, queues_are set, e))) (omega (arith, counted, queues_are set, as_many set)) in
+    rw same (c.of_queues.ensures.0, c.of_queues.ensures.1)
 
-pub returns-then-refusal-ne0 : goal.returns-then-refusal-ne0
-returns-then-refusal-ne0 c =
-    let k = c in
-    let s = k in
-    let r = range_refused (histories s.args.entries s.args.count s.args.counters.now s.args.energies.now) s.args.work.now k.checked-refusal.result k.checked-refusal.ensures c.if-refusal-ne0.true in
+pub returns-in-Err : goal.returns-in-Err
+returns-in-Err c =
+    let r = range_refused (lent c.args.set) c.args.work.now (number c.in-Err.refusal) c.in-Err.ensures (no_number c.in-Err.refusal) in
     (r.says, r.keeps)
 
-pub returns : goal.returns
-returns c =
-    let k = c in
-    let e = k in
-    let q = e in
-    let s = q in
-    let h = histories s.args.entries s.args.count s.args.counters.now s.args.energies.now in
-    rw (range_mixed h s.args.work.now (λ p. e.if-queues-eq0.false (queues_are (goal.at.returns c).After-queues_in-queues ∙ p)) (λ p. e.if-queues-count.false (queues_are (goal.at.returns c).After-queues_in-queues ∙ p ∙ as_many (goal.at.returns c).After-queues_in-queues))
-    (sym k.checked-refusal.ensures ∙ c.if-refusal-ne0.false)) (refl, refl)
+pub returns-in-Ok : goal.returns-in-Ok
+returns-in-Ok c =
+    let set = c.args.set in
+    let counted = c.queues_in-queues.ensures set.counters.now set.energies.now in
+    let mixed =
+    range_mixed (lent set) c.args.work.now (λ e. c.if-only_histograms.false (omega (arith, counted, queues_are set, e)))
+    (λ e. c.if-only_queues.false (omega (arith, counted, queues_are set, as_many set, e))) (sym c.in-Ok.ensures) in
+    rw mixed (refl, refl)

@@ -1,33 +1,28 @@
--- `range::queues_in` meets its contract. The invariant: those counted before `i`, with those from there on, are all. Assumes nothing.
-use mathlib.Core.List.{List, []}
-use Prim.Native.Nat.{ℕ}
-use native.Mathlib.Omega.{arith}
-use lib.ListN.{get_or}
-use lib.Ieee.{Float}
-use Rattle.history_set.specs.Set.{shows}
-use Rattle.history_set.proofs.Entries.{past_the_last}
-use Rattle.range.proofs.Answers.{queues_next, queues_end, queues_one}
+-- `range::queues_in` meets its contract. The invariant: those that were counted, with those among the entries that are left, are all. Assumes nothing.
+use Rattle.std.proofs.Common.{ℕ, List, Float, ap, arith}
+use Rattle.history_set.specs.declared.set.Shape.{Shape}
+use Rattle.history_set.specs.Set.{shape_shows}
+use Rattle.range.specs.Range.{queues_by}
+use Rattle.range.proofs.Answers.{queues_next, queues_end}
 use Rattle.range.proofs.queues_in.Goals as goal
+use Rattle.range.proofs.queues_in.Goals.{in-Queue, in_default}
 
-pub loop-i-init : goal.loop-i-init
-loop-i-init c = (omega arith, omega arith, λ counters energies. omega arith)
-
-pub overflow_add-queues : goal.overflow_add-queues
-overflow_add-queues c =
-    let l = c in
-    omega (arith, c.queues_by-queues.ensures [] [], queues_one (shows [] [] (get_or l.args.entries l.loop-i.i past_the_last)))
-
-pub loop-i-preserved : goal.loop-i-preserved
-loop-i-preserved c =
-    let l = c in
-    let a = l.args in (
-      omega arith,
-      omega (arith, c.queues_by-queues.ensures [] [], queues_one (shows [] [] (get_or a.entries l.loop-i.i past_the_last))),
-      λ (counters : List ℕ) (energies : List Float). omega (arith, l.loop-i.invariant.2 counters energies, queues_next counters energies a.entries a.count l.loop-i.i (omega arith) (omega arith), c.queues_by-queues.ensures counters energies),
-    )
+pub loop-entry-preserved : goal.loop-entry-preserved
+loop-entry-preserved c =
+    let next = λ (counters : List ℕ) (energies : List Float). queues_next counters energies c.args.entries.now c.loop-entry.entry-index (omega arith) in
+    let by = λ (counters : List ℕ) (energies : List Float) (s : Shape). queues_by (shape_shows counters energies s) in
+    elim c.match-entry.branch [
+      | in-Queue w ↦ record {
+        few = omega arith;
+        all = λ counters energies. omega (arith, c.loop-entry.invariant.all counters energies, next counters energies, ap (by counters energies) w.in-Queue.is);
+      }
+      | in_default w ↦ record {
+        few = omega arith;
+        all = λ counters energies. omega (arith, c.loop-entry.invariant.all counters energies, next counters energies, ap (by counters energies) w.in_default.is);
+      }
+    ]
 
 pub returns : goal.returns
 returns c =
-    let l = c in
-    let a = l.args in
-    λ (counters : List ℕ) (energies : List Float). omega (arith, l.loop-i.invariant.2 counters energies, queues_end counters energies a.entries a.count l.loop-i.i (omega arith))
+    λ (counters : List ℕ) (energies : List Float).
+    omega (arith, c.loop-entry.invariant.all counters energies, queues_end counters energies c.args.entries.now c.loop-entry.entry-index (omega arith))
