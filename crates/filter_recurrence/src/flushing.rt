@@ -6,11 +6,15 @@ ghost use Rattle.filter_recurrence.specs.Channels.{memory_of, with_memory, over_
 
 use crate::Memory;
 
-// The smallest normal f64 is 2^-1022. A NaN is not below it, and stays.
+// 2^-1022, the smallest normal f64, and its negative bound the values that are flushed. Two comparisons are fewer operations than the library's `abs` and one.
 fn flush_one(v: f64) -> f64
     ensures { result ≡ flush v }
 {
-    if v.abs() < f64::MIN_POSITIVE { 0.0 } else { v }
+    if -f64::MIN_POSITIVE < v && v < f64::MIN_POSITIVE {
+        0.0
+    } else {
+        v
+    }
 }
 
 impl Memory {

@@ -1,24 +1,17 @@
--- `flushing::flush_one` meets its contract: the library's absolute value is the definition's. Assumes nothing.
-use Rattle.std.proofs.Common.{◌≡◌, Bool, true, false, sym, refl, ap, ◌∙◌}
-use lib.Ieee.{Float, nan, inf, fin, of_bits, lt}
-use Rattle.std.specs.Float.{float_with_sign}
-use Rattle.base_floats.specs.Largest.{magnitude}
-use Rattle.filter_recurrence.specs.Recurrence.{smallest}
+-- `flushing::flush_one` meets its contract: a magnitude is below 2^-1022 where the value is between that and its negative. Assumes nothing.
+use Rattle.std.proofs.Common.{negsuc, arith}
+use lib.Ieee.{neg, of_bits}
+use Rattle.base_floats.specs.Entry.{plus_zero}
+use Rattle.base_floats.proofs.Magnitude.{between}
 use Rattle.filter_recurrence.proofs.flushing.flush_one.Goals as goal
+use Rattle.filter_recurrence.proofs.flushing.flush_one.Goals.{else-v-via-then-v+else-v-2, else-v-via-else-v}
 
-size : (v : Float) → float_with_sign false v ≡ magnitude v
-unfolding float_with_sign
-size nan = refl
-size (inf s) = refl
-size (fin s m e) = refl
+pub returns-then-v-2 : goal.returns-then-v-2
+unfolding neg of_bits
+returns-then-v-2 c = rw (between 1 (negsuc 1021) (omega arith) c.args.v plus_zero) (simp (c.if-v.true, c.if-v-2.true))
 
-below : (v x : Float) (b : Bool) → x ≡ float_with_sign false v → lt x smallest ≡ b → lt (magnitude v) smallest ≡ b
-below v x b e h = ap (λ (y : Float). lt y smallest) (sym (e ∙ size v)) ∙ h
-
-pub returns-then-abs : goal.returns-then-abs
-unfolding of_bits
-returns-then-abs c = rw (below c.args.v _ true c.abs.ensures.value c.if-abs.true)
-
-pub returns-else-abs : goal.returns-else-abs
-unfolding of_bits
-returns-else-abs c = rw (below c.args.v _ false c.abs.ensures.value c.if-abs.false)
+pub returns-else-v : goal.returns-else-v
+unfolding neg of_bits
+returns-else-v c =
+    rw (between 1 (negsuc 1021) (omega arith) c.args.v plus_zero)
+    (elim c.else-v.branch [ else-v-via-then-v+else-v-2 w ↦ simp (w.if-v.true, w.if-v-2.false) | else-v-via-else-v w ↦ simp w.if-v.false ])
