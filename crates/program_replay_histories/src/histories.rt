@@ -1,116 +1,82 @@
 // The cases of histories: adds to a histogram, merges of two, adds to a queue.
-use base_refusals::Answer;
 use bins::Count;
 use history_queue::Queue;
+use history_queue::adding::Queued;
+
+// The bytes of a case from a place on, and none past its end.
+fn after(case: &[u8], place: usize) -> &[u8] {
+    &case[place.min(case.len())..]
+}
+
+// A bin past the last has no count.
+fn count_at(counters: &[Count], bin: usize) -> u64 {
+    counters.get(bin).map_or(0, |count| bins::wide(*count))
+}
 
 // ---- adds to a histogram
 // 64 times u64 pattern of an energy, u16 its bin, u16 the count there afterwards; then u16 how many bins have a count.
 // An energy that is dropped has a bin past the last, with count 0.
 pub(crate) fn adds_same(case: &[u8]) -> bool {
-    let mut counters: [Count; 1000] = [0; 1000];
+    let mut counters: [Count; bins::BINS] = [0; bins::BINS];
     all_added(case, &mut counters) && bins_hit(&counters) == base_fields::number_at(case, 768, 2)
 }
 
 fn all_added(case: &[u8], counters: &mut [Count]) -> bool {
-    let mut at = 0;
-    while at < 768 {
-        let energy = base_floats::float_of(base_fields::number_at(case, at, 8));
-        let bin = base_fields::number_at(case, at + 8, 2) as usize;
-        let count = base_fields::number_at(case, at + 10, 2);
-        if !added(counters, energy, bin, count) {
+    for add in case.chunks(12).take(64) {
+        if !added(counters, add) {
             return false;
         }
-        at += 12;
     }
     true
 }
 
-// Whether the energy is counted, and its bin has this count.
-fn added(counters: &mut [Count], energy: f64, bin: usize, count: u64) -> bool {
-    let answer = history_histogram::add(counters, energy);
-    base_refusals::codes::number_of(answer) == 0 && count_at(counters, bin) == count
-}
-
-// A number that is no count stands for none.
-fn narrowed(number: u64) -> Count {
-    if 4294967295 < number {
-        return 0;
-    }
-    number as Count
-}
-
-// A bin past the last has no count.
-fn count_at(counters: &[Count], bin: usize) -> u64 {
-    if bin < counters.len() {
-        return bins::wide(counters[bin]);
-    }
-    0
+// Whether the energy is counted, and its bin has the count afterwards.
+fn added(counters: &mut [Count], add: &[u8]) -> bool {
+    let energy = base_floats::float_of(base_fields::number_at(add, 0, 8));
+    let bin = base_fields::number_at(add, 8, 2) as usize;
+    history_histogram::add(counters, energy).is_ok()
+        && count_at(counters, bin) == base_fields::number_at(add, 10, 2)
 }
 
 fn bins_hit(counters: &[Count]) -> u64 {
-    let mut hit = 0;
-    let mut bin = 0;
-    while bin < counters.len() {
-        if counters[bin] == 0 {
-            bin += 1;
-            continue;
-        }
-        hit += 1;
-        bin += 1;
-    }
-    hit
+    counters.iter().filter(|count| **count != 0).count() as u64
 }
 
 // ---- merges
 // u16 refusal (0: merged), u16 how many counters are added; then 16 times u16 bin, u32 its count in one histogram, in the other, and in the first afterwards.
 pub(crate) fn merge_same(case: &[u8]) -> bool {
-    let mut into: [Count; 1000] = [0; 1000];
-    let mut from: [Count; 1000] = [0; 1000];
-    fill(case, false, &mut into);
-    fill(case, true, &mut from);
+    let mut into: [Count; bins::BINS] = [0; bins::BINS];
+    let mut from: [Count; bins::BINS] = [0; bins::BINS];
+    fill(case, 2, &mut into);
+    fill(case, 6, &mut from);
     merged(case, &mut into, &from) && all_counted(case, &into)
 }
 
 fn merged(case: &[u8], into: &mut [Count], from: &[Count]) -> bool {
-    let length = base_fields::number_at(case, 2, 2) as usize;
-    if from.len() < length {
-        return false;
-    }
-    let answer = history_histogram::merging::merge(into, &from[..length]);
-    base_refusals::codes::number_of(answer) as u64 == base_fields::number_at(case, 0, 2)
-}
-
-// Every bin of the case gets its count in the one histogram, or in the other.
-fn fill(case: &[u8], other: bool, counters: &mut [Count]) {
-    let mut at = 0;
-    while at < 224 {
-        let bin = base_fields::number_at(case, at + 4, 2) as usize;
-        let count = if other {
-            base_fields::number_at(case, at + 10, 4)
-        } else {
-            base_fields::number_at(case, at + 6, 4)
-        };
-        put(counters, bin, narrowed(count));
-        at += 14;
+    match from.get(..base_fields::number_at(case, 2, 2) as usize) {
+        Some(part) => {
+            let answer = history_histogram::merging::merge(into, part);
+            base_refusals::codes::number_of(answer) as u64 == base_fields::number_at(case, 0, 2)
+        }
+        None => false,
     }
 }
 
-fn put(counters: &mut [Count], bin: usize, count: Count) {
-    if bin < counters.len() {
-        counters[bin] = count;
+// Every bin of the case gets the count that stands at this place of its 14 bytes. A number that is no count stands for none.
+fn fill(case: &[u8], at: usize, counters: &mut [Count]) {
+    for bin in after(case, 4).chunks(14).take(16) {
+        let count = Count::try_from(base_fields::number_at(bin, at, 4)).unwrap_or(0);
+        if let Some(counter) = counters.get_mut(base_fields::number_at(bin, 0, 2) as usize) {
+            *counter = count;
+        }
     }
 }
 
 fn all_counted(case: &[u8], counters: &[Count]) -> bool {
-    let mut at = 0;
-    while at < 224 {
-        let bin = base_fields::number_at(case, at + 4, 2) as usize;
-        if count_at(counters, bin) != base_fields::number_at(case, at + 14, 4) {
-            return false;
-        }
-        at += 14;
-    }
-    true
+    after(case, 4).chunks(14).take(16).all(|bin| {
+        count_at(counters, base_fields::number_at(bin, 0, 2) as usize)
+            == base_fields::number_at(bin, 10, 4)
+    })
 }
 
 // ---- adds to a queue
@@ -118,15 +84,14 @@ fn all_counted(case: &[u8], counters: &[Count]) -> bool {
 // then the 8 patterns of the store.
 pub(crate) fn queue_same(case: &[u8]) -> bool {
     let mut store = [0.0; 8];
-    part_queued(case, &mut store) && patterns_same(case, 176, &store)
+    part_queued(case, &mut store) && patterns_same(after(case, 176), &store)
 }
 
 fn part_queued(case: &[u8], store: &mut [f64]) -> bool {
-    let places = base_fields::number_at(case, 2, 2) as usize;
-    if store.len() < places {
-        return false;
+    match store.get_mut(..base_fields::number_at(case, 2, 2) as usize) {
+        Some(part) => all_queued(case, part),
+        None => false,
     }
-    all_queued(case, &mut store[..places])
 }
 
 fn all_queued(case: &[u8], store: &mut [f64]) -> bool {
@@ -135,45 +100,27 @@ fn all_queued(case: &[u8], store: &mut [f64]) -> bool {
         head: base_fields::number_at(case, 4, 2) as usize,
         held: base_fields::number_at(case, 6, 2) as usize,
     };
-    let mut at = 8;
-    while at < 176 {
-        let energy = base_floats::float_of(base_fields::number_at(case, at, 8));
+    for add in after(case, 8).chunks(14).take(12) {
+        let energy = base_floats::float_of(base_fields::number_at(add, 0, 8));
         let queued = history_queue::adding::add(queue, store, energy);
-        let answer = queued.answer;
-        queue = queued.queue;
-        if !queued_same(case, at, answer, queue) {
+        if !queued_same(add, queued) {
             return false;
         }
-        at += 14;
+        queue = queued.queue;
     }
     true
 }
 
-// Whether the answer to the energy at a place, and the queue afterwards, are the case's.
-fn queued_same(case: &[u8], at: usize, answer: Answer, queue: Queue) -> bool {
-    if 4096 < at {
-        return false;
-    }
-    base_refusals::codes::number_of(answer) as u64 == base_fields::number_at(case, at + 8, 2)
-        && queue.head as u64 == base_fields::number_at(case, at + 10, 2)
-        && queue.held as u64 == base_fields::number_at(case, at + 12, 2)
+// Whether the answer to the energy, and the queue afterwards, are the case's.
+fn queued_same(add: &[u8], queued: Queued) -> bool {
+    base_refusals::codes::number_of(queued.answer) as u64 == base_fields::number_at(add, 8, 2)
+        && queued.queue.head as u64 == base_fields::number_at(add, 10, 2)
+        && queued.queue.held as u64 == base_fields::number_at(add, 12, 2)
 }
 
-// Whether a list of at most 24 floats has the case's patterns from a place on.
-fn patterns_same(case: &[u8], from: usize, values: &[f64]) -> bool {
-    if 4096 < from {
-        return false;
-    }
-    let mut place = 0;
-    while place < 24 {
-        if place < values.len() {
-            if base_floats::pattern_of(values[place])
-                != base_fields::number_at(case, from + 8 * place, 8)
-            {
-                return false;
-            }
-        }
-        place += 1;
-    }
-    true
+// Whether the floats have these patterns.
+fn patterns_same(patterns: &[u8], values: &[f64]) -> bool {
+    values.iter().zip(patterns.chunks(8)).all(|(value, pattern)| {
+        base_floats::pattern_of(*value) == base_fields::number_at(pattern, 0, 8)
+    })
 }
