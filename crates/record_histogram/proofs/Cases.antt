@@ -5,15 +5,15 @@ use Prim.Native.Nat.{ℕ}
 use native.Mathlib.Omega.{arith}
 use borrow.Author.Tests.{eq-eqb, eqb-true}
 use lib.ListN.{length}
-use Rattle.base_refusals.specs.Outcome.{Outcome, went, NoValues, done}
+use Rattle.base_refusals.specs.Outcome.{Outcome, went, NoValues, done, refusal, said_by}
 use Rattle.base_refusals.specs.Rows.{number_of, by_rows}
 use Rattle.bins.specs.Bin.{bins}
 use Rattle.record_layout.specs.declared.Model.{Model}
 use Rattle.record_layout.specs.declared.Kind.TheVariants.{Histogram}
-use Rattle.record_layout.specs.Layout.{histogram_length, length_in, frame_rows}
-use Rattle.base_refusals.proofs.Rows.{goes, rows_then}
+use Rattle.record_layout.specs.Layout.{histogram_length, length_in, frame_rows, frame_of}
+use Rattle.base_refusals.proofs.Rows.{Refuses, goes, rows_then}
 use Rattle.base_refusals.proofs.Behind.{goes_on}
-use Rattle.record_layout.proofs.Frames.{framed}
+use Rattle.record_layout.proofs.Frames.{framed, stopped_there}
 use Rattle.record_histogram.specs.Record.{record_length, counters_in, store_rows, read_counters}
 
 -- bytes that pass are as many as a record has
@@ -40,3 +40,8 @@ module _ (model : Model) (bytes counters : List ℕ) (e : number_of (frame_rows 
 
   pub read_went : length counters ≡ bins → read_counters model bytes counters ≡ went (counters_in model bytes) done
   read_went h = read_behind ∙ goes (went (counters_in model bytes) done) (store_rows counters) (store_passes counters h)
+
+-- ---- a call that the frame stops
+pub stopped_by_frame : (model : Model) (bytes counters : List ℕ) (n : ℕ) → refusal n ≡ said_by (frame_of (Histogram model) bytes) → Refuses (read_counters model bytes counters) counters n
+unfolding read_counters
+stopped_by_frame model bytes counters n e = stopped_there (went (counters_in model bytes) done) (Histogram model) bytes (store_rows counters) counters n e

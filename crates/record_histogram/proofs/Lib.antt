@@ -1,5 +1,3 @@
-pub mod Copies
 pub mod Cases
-pub mod Words
 pub mod WriterCases
 pub mod Again

@@ -1,15 +1,17 @@
 -- One turn of a loop that reads or writes fields of one width: what is left gives what all of it gives. Assumes nothing.
 use mathlib.Core.Path.{◌≡◌, sym, ap, ◌∙◌}
 use mathlib.Core.List.{List, [], ◌∷◌, ◌++◌, append_assoc, append-nil}
-use Prim.Native.Nat.{ℕ, suc, ◌+◌, ◌-◌, ◌≤◌, ◌<◌}
+use Prim.Native.Nat.{ℕ, zero, suc, ◌+◌, ◌*◌, ◌-◌, ◌≤◌, ◌<◌}
 use native.Mathlib.Numerals.{add-one}
 use native.Mathlib.Omega.{arith}
-use lib.ListN.{length, get_or, take, drop, set}
-use lib.Seq.{sets, drop-cons, drop-drop, take-suc-set, take_all}
+use lib.ListN.{length, get_or, take, drop, set, length-take, length-drop}
+use Rattle.std.specs.Simd.{first_chunks}
+use borrow.Rule.Slice.PartMut.{put_mid}
+use lib.Seq.{sets, sets-eq, drop-cons, drop-drop, take-suc-set, take_all}
 use lib.ListN.{drop_of_length-le}
 use Rattle.base_fields.specs.declared.Order.{Order}
 use Rattle.base_fields.specs.Field.{number_in, bytes_of}
-use Rattle.base_fields.proofs.Orders.{bytes_length}
+use Rattle.base_fields.proofs.Orders.{bytes_length, number_within}
 use Rattle.record_layout.specs.Layout.{numbers_in, all_bytes}
 
 -- ---- reading
@@ -59,3 +61,44 @@ pub write_end : (order : Order) (width : ℕ) (out numbers : List ℕ) (at i : �
     → sets out at (all_bytes order width (drop i numbers)) ≡ out
 unfolding all_bytes
 write_end order width out numbers at i h = rw (drop_of_length-le numbers {i = i} h)
+
+-- ---- parts
+-- a part that is written, as long as it was
+pub part_put : (out part : List ℕ) (at n : ℕ) → length part ≡ n → at + n ≤ length out → put_mid at n out part ≡ sets out at part
+part_put out part at n e h =
+    ap (λ (k : ℕ). take at out ++ (part ++ drop k (drop at out))) (sym e)
+    ∙ ap (λ (l : List ℕ). take at out ++ (part ++ l)) (drop-drop (length part) at out)
+    ∙ sym (append_assoc (take at out) part (drop (at + length part) out))
+    ∙ sym (sets-eq part out at (omega arith))
+
+-- a number's bytes put into a part as wide as they are
+pub field_put : (order : Order) (out part : List ℕ) (at width n number : ℕ) → n ≡ width → at + width ≤ length out
+    → part ≡ bytes_of order (length (take n (drop at out))) number → put_mid at n out part ≡ sets out at (bytes_of order width number)
+field_put order out part at width n number w h e =
+    let l : length (take n (drop at out)) ≡ width = simp (length-take, length-drop) (omega arith) in
+    let p : part ≡ bytes_of order width number = e ∙ ap (λ (k : ℕ). bytes_of order k number) l in
+    part_put out part at n (ap length p ∙ bytes_length order width number ∙ sym w) (omega arith) ∙ ap (sets out at) p
+
+-- all places are written
+pub sets_whole : {A : Type 0} (out all : List A) → length out ≡ length all → sets out 0 all ≡ all
+sets_whole out all e = sets-eq all out 0 (omega arith) ∙ rw (drop_of_length-le out {i = 0 + length all} (omega arith)) (append-nil all)
+
+-- a part up to the end
+pub rest_is : (bytes : List ℕ) (at : ℕ) → take (length bytes - at) (drop at bytes) ≡ drop at bytes
+rest_is bytes at = take_all (length bytes - at) (drop at bytes) (simp length-drop (omega arith))
+
+-- a part of so many bytes among those that there are
+pub chunk_at : (width count : ℕ) (bytes : List ℕ) (i : ℕ) (d : List ℕ) → i < count → get_or (first_chunks width count bytes) i d ≡ take width (drop (width * i) bytes)
+chunk_at width zero bytes i d h = absurd (omega arith)
+chunk_at width (suc count) bytes zero d h = ap (λ (k : ℕ). take width (drop k bytes)) {x = 0} {y = width * 0} (omega arith)
+chunk_at width (suc count) bytes (suc i) d h =
+    chunk_at width count (drop width bytes) i d (omega arith)
+    ∙ ap (take width) (drop-drop (width * i) width bytes)
+    ∙ ap (λ (k : ℕ). take width (drop k bytes)) {x = width + width * i} {y = width * suc i} (omega arith)
+
+-- and the number in it
+pub chunk_number : (order : Order) (width count : ℕ) (bytes : List ℕ) (chunks : List (List ℕ)) (i value : ℕ) → chunks ≡ first_chunks width count bytes → i < count
+    → value ≡ number_in order width (get_or chunks i []) → value ≡ number_in order width (drop (width * i) bytes)
+chunk_number order width count bytes chunks i value c h v =
+    v ∙ ap (λ (all : List (List ℕ)). number_in order width (get_or all i [])) c ∙ ap (number_in order width) (chunk_at width count bytes i [] h)
+    ∙ number_within order width (drop (width * i) bytes) width (omega arith)

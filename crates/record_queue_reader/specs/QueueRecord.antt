@@ -5,7 +5,7 @@ use Rattle.std.specs.Prelude.{ℕ, ◌+◌, ◌*◌, Bool, true, not, ◌&&◌, 
 use Rattle.std.specs.Float.{binary64}
 use Rattle.std.specs.Float.Ieee.{of_bits, to_bits, is_nan}
 use Rattle.base_refusals.specs.declared.Refusal.TheVariants.{STORE, LENGTH, CONTENT}
-use Rattle.base_refusals.specs.Outcome.{Outcome, went, Question, answers, Said, says, refusal}
+use Rattle.base_refusals.specs.Outcome.{Outcome, went, Question, answers}
 use Rattle.base_refusals.specs.Rows.{Row, row, by_rows}
 use Rattle.history_queue.specs.declared.Queue.{Queue}
 use Rattle.bins.specs.Energy.{dropped}
@@ -14,13 +14,6 @@ use Rattle.record_layout.specs.declared.Model.{Model}
 use Rattle.record_layout.specs.declared.Model.TheVariants.{Ours, Third}
 use Rattle.record_layout.specs.declared.Kind.TheVariants.{Queue as QueueKind}
 use Rattle.record_layout.specs.Layout.{energy_width, queue_least, number_from, entries_in, length_in, frame_rows}
-use Rattle.record_queue_reader.specs.declared.Received.{Received}
-use Rattle.record_queue_reader.specs.declared.Received.TheVariants.{Held, Refused}
-
--- what each case of `Received` says
-abbrev pub said : Received → Said Queue
-said (Held queue) = says queue
-said (Refused n) = refusal n
 
 -- ---- the fields
 abbrev pub maximum_in : Model → List ℕ → ℕ

@@ -1,29 +1,28 @@
 // Records of kinds 2 and 258: the energies of a queue, oldest first, read.
 #![tactic(auto)]
 
-ghost use Rattle.std.specs.Prelude.{◌≡◌, true, ◌+◌, ◌-◌, ◌*◌, ◌≤◌, length, drop};
-ghost use Rattle.std.proofs.lemmas.List.Edits.{sets};
+ghost use Rattle.std.specs.Prelude.{◌≡◌, ℕ, Bool, true, ◌-◌, ◌*◌, ◌/◌, ◌≤◌, length};
 ghost use Rattle.std.specs.Float.{binary64};
 ghost use Rattle.std.specs.Float.Ieee.{of_bits};
 ghost use Rattle.base_refusals.specs.Outcome.{said_by, kept_by};
-ghost use Rattle.base_fields.specs.Field.{number_in};
-ghost use Rattle.record_layout.specs.Layout.{length_width, number_width, energy_width, least_length, numbers_in, length_in};
+ghost use Rattle.base_refusals.specs.Answer.{said};
+ghost use Rattle.record_layout.specs.Layout.{length_width, energy_width, least_length, numbers_in, length_in};
 ghost use Rattle.record_queue_reader.specs.QueueRecord.{
   numbers_fit,
   pattern_fits,
+  every,
   all_fit,
   energies_of,
   check_queue,
   read_energies,
   read_queue,
   read_third_queue,
-  said,
 };
-ghost use Rattle.record_queue_reader.specs.Inner.{finite_fits, all_finite, body_checked};
+ghost use Rattle.record_queue_reader.specs.Inner.{finite_fits, body_checked};
 
 use base_fields::Order;
 use base_floats::{INFINITY_PATTERN, NAN_PATTERN};
-use base_refusals::Answer;
+use base_refusals::Refusal;
 use history_queue::Queue;
 use record_layout::{Kind, Model};
 
@@ -39,33 +38,18 @@ pub const HELD_AT: usize = MAXIMUM_AT + NUMBER;
 
 pub const ENERGIES_AT: usize = HELD_AT + NUMBER;
 
-// What a reader answers.
-#[derive(Clone, Copy)]
-pub enum Received {
-    Held(Queue),
-    Refused(u8),
-}
-
+#[tactic(auto, unfolding(crate::specs::QueueRecord::numbers_fit))]
 fn numbers_fit(maximum: usize, held: usize) -> bool
     ensures { result ≡ numbers_fit maximum held }
 {
-    if maximum < 1 {
-        return false;
-    }
-    if maximum > history_queue::LONGEST {
-        return false;
-    }
-    held <= maximum
+    1 <= maximum && maximum <= history_queue::LONGEST && held <= maximum
 }
 
 // Whether a pattern is that of a finite energy from boundary 0 on, as almost every one is.
 fn finite_fits(pattern: u64) -> bool
     ensures { result ≡ finite_fits pattern }
 {
-    if pattern < INFINITY_PATTERN {
-        return f64::from_bits(pattern) >= bins::lowest_boundary();
-    }
-    false
+    pattern < INFINITY_PATTERN && f64::from_bits(pattern) >= bins::lowest_boundary()
 }
 
 // Whether a pattern may stand in a record: that of an energy from boundary 0 on, or NaN's.
@@ -75,102 +59,67 @@ fn pattern_fits(pattern: u64) -> bool
     finite_fits(pattern) | (pattern == INFINITY_PATTERN) | (pattern == NAN_PATTERN)
 }
 
-// The energy of a pattern that fits: every pattern but NaN's own is read as it is.
+// The energy of a pattern that fits: every pattern but NaN's own is read as it is. `base_floats::float_of` would look for every NaN's.
 fn energy_of(pattern: u64) -> f64
     requires { pattern_fits pattern ≡ true }
     ensures { result ≡ of_bits binary64 pattern }
 {
     if pattern == NAN_PATTERN {
-        return 0.0 / 0.0;
+        return f64::NAN;
     }
     f64::from_bits(pattern)
 }
 
-fn number_at(order: Order, bytes: &[u8], at: usize) -> usize
-    requires { at + number_width ≤ length bytes.now }
-    ensures { result ≡ number_in order number_width (drop at bytes.now) }
+// Whether a test lets the patterns in fields of eight bytes pass. Every pattern is looked at, also past one that does not.
+fn every<F: Fn(u64) -> bool>(order: Order, fields: &[u8], test: F) -> bool
+    requires { F.IsAlwaysCallable test }
+    ensures { (told : ℕ → Bool) → ((pattern : ℕ) (passes : Bool) → F.post test pattern passes → passes ≡ told pattern)
+        → result ≡ every told (numbers_in order energy_width (length fields.now / energy_width) fields.now) }
 {
-    let end = at + NUMBER;
-    base_fields::words::word(order, &bytes[at..end]) as usize
-}
-
-fn pattern_at(order: Order, bytes: &[u8], at: usize) -> u64
-    requires { at + energy_width ≤ length bytes.now }
-    ensures { result ≡ number_in order energy_width (drop at bytes.now) }
-{
-    let end = at + ENERGY;
-    base_fields::words::double_word(order, &bytes[at..end])
-}
-
-// Every pattern is looked at, also past one that does not fit.
-fn all_fit(order: Order, bytes: &[u8], at: usize, count: usize) -> bool
-    requires { at + energy_width * count ≤ length bytes.now }
-    ensures { result ≡ all_fit (numbers_in order energy_width count (drop at bytes.now)) }
-{
-    let mut fit = true;
-    let mut i = 0;
-    while i < count {
-        fit = fit & pattern_fits(pattern_at(order, bytes, at + ENERGY * i));
-        i += 1;
+    let (patterns, _) = fields.as_chunks::<ENERGY>();
+    let mut all = true;
+    for pattern in patterns {
+        all &= test(base_fields::words::double_word(order, pattern));
     }
-    fit
-}
-
-fn all_finite(order: Order, bytes: &[u8], at: usize, count: usize) -> bool
-    requires { at + energy_width * count ≤ length bytes.now }
-    ensures { result ≡ all_finite (numbers_in order energy_width count (drop at bytes.now)) }
-{
-    let mut finite = true;
-    let mut i = 0;
-    while i < count {
-        finite = finite & finite_fits(pattern_at(order, bytes, at + ENERGY * i));
-        i += 1;
-    }
-    finite
+    all
 }
 
 // Infinity and NaN are rare, and the test that lets them in takes longer.
-fn energies_fit(order: Order, bytes: &[u8], at: usize, count: usize) -> bool
-    requires { at + energy_width * count ≤ length bytes.now }
-    ensures { result ≡ all_fit (numbers_in order energy_width count (drop at bytes.now)) }
+fn energies_fit(order: Order, fields: &[u8]) -> bool
+    ensures { result ≡ all_fit (numbers_in order energy_width (length fields.now / energy_width) fields.now) }
 {
-    if all_finite(order, bytes, at, count) {
-        return true;
-    }
-    all_fit(order, bytes, at, count)
+    every(order, fields, finite_fits) || every(order, fields, pattern_fits)
 }
 
-fn read_energies(order: Order, bytes: &[u8], at: usize, count: usize, store: &mut [f64])
-    requires { (at + energy_width * count ≤ length bytes.now)
-        × (count ≤ length store.old)
-        × (all_fit (numbers_in order energy_width count (drop at bytes.now)) ≡ true) }
-    ensures { store.new ≡ sets store.old 0 (energies_of (numbers_in order energy_width count (drop at bytes.now))) }
+fn read_energies(order: Order, fields: &[u8], store: &mut [f64])
+    requires { (energy_width * length store.old ≤ length fields.now)
+        × (all_fit (numbers_in order energy_width (length store.old) fields.now) ≡ true) }
+    ensures { store.new ≡ energies_of (numbers_in order energy_width (length store.old) fields.now) }
 {
-    let mut i = 0;
-    while i < count {
-        store[i] = energy_of(pattern_at(order, bytes, at + ENERGY * i));
-        i += 1;
+    let (patterns, _) = fields.as_chunks::<ENERGY>();
+    for (i, energy) in store.iter_mut().enumerate() {
+        *energy = energy_of(base_fields::words::double_word(order, &patterns[i]));
     }
 }
 
 // What comes after the length and the kind.
-fn check_body(model: Model, bytes: &[u8]) -> Received
+fn check_body(model: Model, bytes: &[u8]) -> Result<Queue, Refusal>
     requires { (least_length ≤ length bytes.now) × (length_in bytes.now ≡ length bytes.now - length_width) }
     ensures { said result ≡ said_by (body_checked model bytes.now) }
 {
     let order = record_layout::order_of(Kind::Queue(model));
-    let maximum = number_at(order, bytes, MAXIMUM_AT);
-    let held = number_at(order, bytes, HELD_AT);
+    let maximum = base_fields::words::word(order, &bytes[MAXIMUM_AT..HELD_AT]) as usize;
+    let held = base_fields::words::word(order, &bytes[HELD_AT..ENERGIES_AT]) as usize;
     if !numbers_fit(maximum, held) {
-        return Received::Refused(base_refusals::CONTENT);
+        return Err(Refusal::CONTENT);
     }
     if bytes.len() != ENERGIES_AT + ENERGY * held {
-        return Received::Refused(base_refusals::LENGTH);
+        return Err(Refusal::LENGTH);
     }
-    if !energies_fit(order, bytes, ENERGIES_AT, held) {
-        return Received::Refused(base_refusals::CONTENT);
+    if !energies_fit(order, &bytes[ENERGIES_AT..]) {
+        return Err(Refusal::CONTENT);
     }
-    Received::Held(Queue {
+    Ok(Queue {
         maximum,
         head: 0,
         held,
@@ -178,35 +127,29 @@ fn check_body(model: Model, bytes: &[u8]) -> Received
 }
 
 // The queue that a model's record has, whatever store it is to be read into, or the refusal that comes first.
-pub fn check_queue(model: Model, bytes: &[u8]) -> Received
+pub fn check_queue(model: Model, bytes: &[u8]) -> Result<Queue, Refusal>
     ensures { said result ≡ said_by (check_queue model bytes.now) }
 {
-    match record_layout::frame(Kind::Queue(model), bytes) {
-        Answer::Done => check_body(model, bytes),
-        Answer::Refused(number) => Received::Refused(number),
-    }
+    record_layout::frame(Kind::Queue(model), bytes)?;
+    check_body(model, bytes)
 }
 
 // The queue of a model's record, its energies from the store's first place on. Every check is made before an energy is written.
-fn read_of(model: Model, bytes: &[u8], store: &mut [f64]) -> Received
+fn read_of(model: Model, bytes: &[u8], store: &mut [f64]) -> Result<Queue, Refusal>
     ensures { (said result ≡ said_by (read_energies model bytes.now store.old))
         × (store.new ≡ kept_by store.old (read_energies model bytes.now store.old)) }
 {
-    match check_queue(model, bytes) {
-        Received::Held(queue) => {
-            if store.len() != queue.maximum {
-                return Received::Refused(base_refusals::STORE);
-            }
-            let order = record_layout::order_of(Kind::Queue(model));
-            read_energies(order, bytes, ENERGIES_AT, queue.held, store);
-            Received::Held(queue)
-        }
-        Received::Refused(number) => Received::Refused(number),
+    let queue = check_queue(model, bytes)?;
+    if store.len() != queue.maximum {
+        return Err(Refusal::STORE);
     }
+    let order = record_layout::order_of(Kind::Queue(model));
+    read_energies(order, &bytes[ENERGIES_AT..], &mut store[..queue.held]);
+    Ok(queue)
 }
 
 // Kind 2.
-pub fn read_queue(bytes: &[u8], store: &mut [f64]) -> Received
+pub fn read_queue(bytes: &[u8], store: &mut [f64]) -> Result<Queue, Refusal>
     ensures { (said result ≡ said_by (read_queue bytes.now store.old))
         × (store.new ≡ kept_by store.old (read_queue bytes.now store.old)) }
 {
@@ -214,7 +157,7 @@ pub fn read_queue(bytes: &[u8], store: &mut [f64]) -> Received
 }
 
 // Kind 258.
-pub fn read_third_queue(bytes: &[u8], store: &mut [f64]) -> Received
+pub fn read_third_queue(bytes: &[u8], store: &mut [f64]) -> Result<Queue, Refusal>
     ensures { (said result ≡ said_by (read_third_queue bytes.now store.old))
         × (store.new ≡ kept_by store.old (read_third_queue bytes.now store.old)) }
 {

@@ -11,6 +11,8 @@ use Rattle.base_fields.specs.declared.Order.{Order}
 use Rattle.bins.specs.Bin.{bins}
 use Rattle.record_layout.specs.declared.Kind.TheVariants.{Histogram}
 use Rattle.record_layout.specs.Layout.{head_width, count_width, order_of, all_bytes}
+use Rattle.record_layout.proofs.Runs.{all_length}
+use Rattle.record_layout.proofs.Turns.{part_put}
 use Rattle.record_histogram.specs.Writing.{counters_record, write_counters}
 use Rattle.record_histogram.proofs.WriterCases.{whole_length, histogram_put}
 use Rattle.record_histogram.proofs.writer.write_of.Goals as goal
@@ -30,10 +32,6 @@ returns-then-out-lt-RECORD c =
     )
     (refl, refl)
 
-pub write_counters-requires : goal.write_counters-requires
-write_counters-requires c =
-    (c.if-counters-ne-BINS.false, omega arith)
-
 pub returns : goal.returns
 unfolding write_counters
 returns c =
@@ -46,7 +44,8 @@ returns c =
       le-ltb (length out) (length (counters_record a.model counters)) (omega arith),
     ) (
       ap says (sym l),
-      c.write_counters.ensures
+      part_put c.put_head.new.out c.write_counters.new.fields 6 4000 (omega (arith, ap length c.write_counters.ensures, all_length c.order_of.result 4 counters)) (omega arith)
+          ∙ ap (sets c.put_head.new.out head_width) c.write_counters.ensures
           ∙ ap (λ (order : Order). sets c.put_head.new.out head_width (all_bytes order count_width counters)) c.order_of.ensures
           ∙ ap (λ (start : List ℕ). sets start head_width (all_bytes (order_of (Histogram a.model)) count_width counters)) c.put_head.ensures
           ∙ histogram_put a.model counters c.if-counters-ne-BINS.false out (omega arith),
