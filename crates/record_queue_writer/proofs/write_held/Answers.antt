@@ -1,17 +1,19 @@
 -- `record_queue_writer::write_held` meets its contract: the energies held are two slices of the store, one after the other. Assumes nothing.
 use mathlib.Core.Path.{◌≡◌, sym, ap, ◌∙◌}
-use mathlib.Core.List.{List}
+use mathlib.Core.List.{List, ◌++◌}
 use Prim.Native.Nat.{ℕ, ◌+◌, ◌-◌, ◌*◌}
 use native.Mathlib.Omega.{arith}
-use lib.ListN.{length, length-append}
+use lib.ListN.{length, drop, length-append, length-take, length-drop}
 use lib.Seq.{sets}
 use lib.Ieee.{Float}
 use Rattle.history_queue.specs.declared.Parts.{Parts}
 use Rattle.history_queue.specs.Queue.{over, held_of, slice, in_parts}
 use Rattle.history_queue.proofs.Standing.{slice_length, Within, parts_within, held_in_store}
 use Rattle.record_layout.specs.Layout.{energy_width, least_length, all_bytes}
+use Rattle.record_layout.proofs.Runs.{all_length}
+use Rattle.record_layout.proofs.Turns.{rest_is}
 use Rattle.record_queue_reader.specs.QueueRecord.{patterns_of}
-use Rattle.record_queue_writer.proofs.Places.{parts_put, held_number}
+use Rattle.record_queue_writer.proofs.Places.{patterns_length, parts_bytes, two_parts, held_number}
 use Rattle.record_queue_writer.proofs.write_held.Goals as goal
 use Rattle.record_queue_writer.proofs.write_held.Goals.{After-parts-parts}
 
@@ -38,57 +40,100 @@ whole c =
     let both = length-append (slice parts.from parts.until (lent c)) (slice parts.start parts.end (lent c)) in
     omega (arith, older_length c, newer_length c, both, ap length (both_parts c), held_number c.args.queue (lent c))
 
-pub overflow_sub-next : goal.overflow_sub-next
-overflow_sub-next c = let w = within (goal.at.overflow_sub-next c).After-parts-parts in omega arith
+pub offset_bounds-store-parts : goal.offset_bounds-store-parts
+offset_bounds-store-parts c = let w = within (goal.at.offset_bounds-store-parts c).After-parts-parts in omega arith
 
-pub overflow_mul-next : goal.overflow_mul-next
-overflow_mul-next c = let w = within (goal.at.overflow_mul-next c).After-parts-parts in omega arith
+pub slice_bounds-older-count : goal.slice_bounds-older-count
+slice_bounds-older-count c = let w = within (goal.at.slice_bounds-older-count c).After-parts-parts in omega arith
 
-pub overflow_add-next : goal.overflow_add-next
-overflow_add-next c = let w = within (goal.at.overflow_add-next c).After-parts-parts in omega arith
+pub slice_bounds-older-start : goal.slice_bounds-older-start
+slice_bounds-older-start c = let w = within (goal.at.slice_bounds-older-start c).After-parts-parts in omega arith
 
-pub offset_bounds-store-from : goal.offset_bounds-store-from
-offset_bounds-store-from c = let w = within (goal.at.offset_bounds-store-from c).After-parts-parts in omega arith
+pub slice_bounds-older-end : goal.slice_bounds-older-end
+slice_bounds-older-end c = let w = within (goal.at.slice_bounds-older-end c).After-parts-parts in omega arith
 
-pub slice_bounds-write_energies-count : goal.slice_bounds-write_energies-count
-slice_bounds-write_energies-count c = let w = within (goal.at.slice_bounds-write_energies-count c).After-parts-parts in omega arith
+pub offset_bounds-store-parts-2 : goal.offset_bounds-store-parts-2
+offset_bounds-store-parts-2 c = let w = within (goal.at.offset_bounds-store-parts-2 c).After-parts-parts in omega arith
 
-pub slice_bounds-write_energies-start : goal.slice_bounds-write_energies-start
-slice_bounds-write_energies-start c = let w = within (goal.at.slice_bounds-write_energies-start c).After-parts-parts in omega arith
+pub slice_bounds-newer-count : goal.slice_bounds-newer-count
+slice_bounds-newer-count c = let w = within (goal.at.slice_bounds-newer-count c).After-parts-parts in omega arith
+
+pub slice_bounds-newer-start : goal.slice_bounds-newer-start
+slice_bounds-newer-start c = let w = within (goal.at.slice_bounds-newer-start c).After-parts-parts in omega arith
+
+pub slice_bounds-newer-end : goal.slice_bounds-newer-end
+slice_bounds-newer-end c = let w = within (goal.at.slice_bounds-newer-end c).After-parts-parts in omega arith
 
 pub slice_bounds-write_energies-end : goal.slice_bounds-write_energies-end
-slice_bounds-write_energies-end c = let w = within (goal.at.slice_bounds-write_energies-end c).After-parts-parts in omega arith
+slice_bounds-write_energies-end c =
+    let here = (goal.at.slice_bounds-write_energies-end c).After-parts-parts in
+    omega (arith, older_length here, whole here, c.requires.1)
+
+pub slice_bounds-write_energies-end-2 : goal.slice_bounds-write_energies-end-2
+slice_bounds-write_energies-end-2 c =
+    let here = (goal.at.slice_bounds-write_energies-end-2 c).After-parts-parts in
+    let o = older_length here in
+    let w = whole here in
+    simp length-take (omega (arith, c.requires.1))
 
 pub write_energies-requires : goal.write_energies-requires
 write_energies-requires c =
-    omega (arith, whole (goal.at.write_energies-requires c).After-parts-parts, older_length (goal.at.write_energies-requires c).After-parts-parts, c.requires.1)
+    let here = (goal.at.write_energies-requires c).After-parts-parts in
+    let o = older_length here in
+    let w = whole here in
+    simp length-take (omega (arith, c.requires.1))
 
-pub offset_bounds-store-start : goal.offset_bounds-store-start
-offset_bounds-store-start c = let w = within (goal.at.offset_bounds-store-start c).After-parts-parts in omega arith
+pub slice_bounds-write_energies-count : goal.slice_bounds-write_energies-count
+slice_bounds-write_energies-count c =
+    let a = c.args in
+    let here = (goal.at.slice_bounds-write_energies-count c).After-parts-parts in
+    let older = slice c.parts-parts.result.from c.parts-parts.result.until a.store.now in
+    let first = ap length c.write_energies.ensures ∙ all_length a.order 8 (patterns_of older) in
+    let all = length-append c.write_energies.new.fields (drop (8 * length older) a.fields.now) in
+    let o = older_length here in
+    let n = newer_length here in
+    let w = whole here in
+    omega (arith, patterns_length older, length-drop (8 * length older) a.fields.now, c.requires.1)
 
-pub slice_bounds-write_energies-count-2 : goal.slice_bounds-write_energies-count-2
-slice_bounds-write_energies-count-2 c = let w = within (goal.at.slice_bounds-write_energies-count-2 c).After-parts-parts in omega arith
-
-pub slice_bounds-write_energies-start-2 : goal.slice_bounds-write_energies-start-2
-slice_bounds-write_energies-start-2 c = let w = within (goal.at.slice_bounds-write_energies-start-2 c).After-parts-parts in omega arith
-
-pub slice_bounds-write_energies-end-2 : goal.slice_bounds-write_energies-end-2
-slice_bounds-write_energies-end-2 c = let w = within (goal.at.slice_bounds-write_energies-end-2 c).After-parts-parts in omega arith
+pub slice_bounds-write_energies-start : goal.slice_bounds-write_energies-start
+slice_bounds-write_energies-start c =
+    let a = c.args in
+    let here = (goal.at.slice_bounds-write_energies-start c).After-parts-parts in
+    let older = slice c.parts-parts.result.from c.parts-parts.result.until a.store.now in
+    let first = ap length c.write_energies.ensures ∙ all_length a.order 8 (patterns_of older) in
+    let all = length-append c.write_energies.new.fields (drop (8 * length older) a.fields.now) in
+    let o = older_length here in
+    let n = newer_length here in
+    let w = whole here in
+    omega (arith, patterns_length older, length-drop (8 * length older) a.fields.now, c.requires.1)
 
 pub write_energies-requires-2 : goal.write_energies-requires-2
 write_energies-requires-2 c =
-    omega (arith, whole (goal.at.write_energies-requires-2 c).After-parts-parts, newer_length (goal.at.write_energies-requires-2 c).After-parts-parts, c.requires.1)
+    let a = c.args in
+    let here = (goal.at.write_energies-requires-2 c).After-parts-parts in
+    let older = slice c.parts-parts.result.from c.parts-parts.result.until a.store.now in
+    let first = ap length c.write_energies.ensures ∙ all_length a.order 8 (patterns_of older) in
+    let all = length-append c.write_energies.new.fields (drop (8 * length older) a.fields.now) in
+    let o = older_length here in
+    let n = newer_length here in
+    let w = whole here in
+    let base = c.write_energies.new.fields ++ drop (8 * length older) a.fields.now in
+    ap length (rest_is base (8 * length older)) ∙ length-drop (8 * length older) base
+    ∙ omega (arith, patterns_length older, length-drop (8 * length older) a.fields.now, c.requires.1)
 
 pub returns : goal.returns
 returns c =
     let a = c.args in
-    let out = a.out.now in
-    let store = a.store.now in
+    let order = a.order in
+    let here = (goal.at.returns c).After-parts-parts in
     let parts = c.parts-parts.result in
-    let older = slice parts.from parts.until store in
-    let newer = slice parts.start parts.end store in
-    let next = least_length + energy_width * (parts.until - parts.from) in
-    c.write_energies-2.ensures
-    ∙ ap (λ (o : List ℕ). sets o next (all_bytes a.order energy_width (patterns_of newer))) c.write_energies.ensures
-    ∙ parts_put a.order out older newer least_length next (omega (arith, older_length (goal.at.returns c).After-parts-parts))
-    ∙ ap (λ (l : List Float). sets out least_length (all_bytes a.order energy_width (patterns_of l))) (sym (both_parts (goal.at.returns c).After-parts-parts))
+    let older = slice parts.from parts.until a.store.now in
+    let newer = slice parts.start parts.end a.store.now in
+    let first = ap length c.write_energies.ensures ∙ all_length order 8 (patterns_of older) in
+    let second = ap length c.write_energies-2.ensures ∙ all_length order 8 (patterns_of newer) in
+    two_parts c.write_energies.new.fields c.write_energies-2.new.fields a.fields.now (8 * length older) (omega (arith, first, patterns_length older))
+    (omega (arith, second, patterns_length newer, older_length here, newer_length here, whole here, c.requires.1))
+    ∙ ap (λ (l : List ℕ). l ++ c.write_energies-2.new.fields) c.write_energies.ensures
+    ∙ ap (λ (l : List ℕ). all_bytes order 8 (patterns_of older) ++ l) c.write_energies-2.ensures
+    ∙ parts_bytes order older newer
+    ∙ ap (λ (l : List Float). all_bytes order 8 (patterns_of l)) (sym (both_parts here))
