@@ -1,5 +1,5 @@
 -- Conversion (02, CR 3): "a conversion each way that keeps every count and energy". Kinds 1 and 257 are converted to each other, and kinds 2 and 258.
-use Rattle.std.specs.Prelude.{ℕ, true, List, [], ◌∷◌, ◌++◌, ltb, length}
+use Rattle.std.specs.Prelude.{ℕ, true, Option, None, Some, List, [], ◌∷◌, ◌++◌, ltb, length}
 use Rattle.base_refusals.specs.declared.Refusal.TheVariants.{LENGTH, KIND}
 use Rattle.base_refusals.specs.Outcome.{Outcome}
 use Rattle.base_refusals.specs.Rows.{Row, row, by_rows}
@@ -7,8 +7,6 @@ use Rattle.record_layout.specs.declared.Model.{Model}
 use Rattle.record_layout.specs.declared.Model.TheVariants.{Ours, Third}
 use Rattle.record_layout.specs.declared.Kind.{Kind}
 use Rattle.record_layout.specs.declared.Kind.TheVariants.{Histogram, Queue}
-use Rattle.record_layout.specs.declared.Known.{Known}
-use Rattle.record_layout.specs.declared.Known.TheVariants.{Of, Unknown}
 use Rattle.record_layout.specs.Layout.{of_model, head_width, frame_rows, room_row, written_to, known_of}
 use Rattle.record_histogram.specs.Record.{counters_in}
 use Rattle.record_histogram.specs.Writing.{counters_record}
@@ -42,13 +40,13 @@ converted kind bytes out = by_rows (convert_rows kind bytes out) (written_to out
 
 -- ---- a kind asked for by its number
 -- "KIND now knows four": no record is of another
-abbrev pub asked_rows : Known → List ℕ → List ℕ → List Row
-asked_rows (Of kind) bytes out = convert_rows kind bytes out
-asked_rows Unknown bytes out = row LENGTH (ltb (length bytes) head_width) ∷ row KIND true ∷ []
+abbrev pub asked_rows : Option Kind → List ℕ → List ℕ → List Row
+asked_rows (Some kind) bytes out = convert_rows kind bytes out
+asked_rows None bytes out = row LENGTH (ltb (length bytes) head_width) ∷ row KIND true ∷ []
 
-abbrev pub asked_record : Known → List ℕ → List ℕ
-asked_record (Of kind) bytes = converted_record kind bytes
-asked_record Unknown bytes = []
+abbrev pub asked_record : Option Kind → List ℕ → List ℕ
+asked_record (Some kind) bytes = converted_record kind bytes
+asked_record None bytes = []
 
 unfoldable pub converted_asked : ℕ → List ℕ → List ℕ → Outcome (List ℕ) ℕ
 converted_asked number bytes out = by_rows (asked_rows (known_of number) bytes out) (written_to out (asked_record (known_of number) bytes))

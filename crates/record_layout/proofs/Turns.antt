@@ -7,7 +7,7 @@ use native.Mathlib.Omega.{arith}
 use lib.ListN.{length, get_or, take, drop, set, length-take, length-drop}
 use Rattle.std.specs.Simd.{first_chunks}
 use borrow.Rule.Slice.PartMut.{put_mid}
-use lib.Seq.{sets, sets-eq, drop-cons, drop-drop, take-suc-set, take_all}
+use lib.Seq.{sets, sets-eq, length-sets, drop-cons, drop-drop, take-suc-set, take_all}
 use lib.ListN.{drop_of_length-le}
 use Rattle.base_fields.specs.declared.Order.{Order}
 use Rattle.base_fields.specs.Field.{number_in, bytes_of}
@@ -70,6 +70,9 @@ part_put out part at n e h =
     ∙ ap (λ (l : List ℕ). take at out ++ (part ++ l)) (drop-drop (length part) at out)
     ∙ sym (append_assoc (take at out) part (drop (at + length part) out))
     ∙ sym (sets-eq part out at (omega arith))
+
+pub put_length : (out part : List ℕ) (at n : ℕ) → length part ≡ n → at + n ≤ length out → length (put_mid at n out part) ≡ length out
+put_length out part at n e h = ap length (part_put out part at n e h) ∙ length-sets out at part
 
 -- a number's bytes put into a part as wide as they are
 pub field_put : (order : Order) (out part : List ℕ) (at width n number : ℕ) → n ≡ width → at + width ≤ length out
