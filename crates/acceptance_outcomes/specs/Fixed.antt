@@ -4,17 +4,17 @@
 -- here, whatever its bits.
 use Rattle.std.specs.Prelude.{◌≡◌, List, ℕ, Float}
 use Rattle.base_refusals.specs.Outcome.{Outcome, Said, said_by, kept_by}
-use Rattle.base_refusals.specs.Answer.{said as said_answer}
-use Rattle.bins.specs.Reading.{reading_of, said as said_level}
+use Rattle.base_refusals.specs.Answer.{said}
+use Rattle.bins.specs.Reading.{reading_of}
 use Rattle.history_histogram.specs.Histogram.{add_to, cleared}
 use Rattle.history_histogram.specs.Merge.{merge_into}
 use Rattle.history_queue.specs.Queue.{Stored}
 use Rattle.history_queue.specs.Adding.{enqueued}
 use Rattle.history_set.specs.declared.set.Entry.{Entry}
 use Rattle.history_set.specs.Set.{Histories}
-use Rattle.gate.specs.Gate.{gate_of, said as said_gated}
+use Rattle.gate.specs.Gate.{gate_of}
 use Rattle.gate.specs.Relative.{relative_of, said as said_threshold}
-use Rattle.gate.specs.GatedEnergy.{gated_energy_of, said as said_energy}
+use Rattle.gate.specs.GatedEnergy.{gated_energy_of}
 use Rattle.range_ranks.specs.Span.{said as said_range}
 use Rattle.range_histograms.specs.Counted.{histogram_range}
 use Rattle.range_queues.specs.Listed.{queue_range}
@@ -36,14 +36,14 @@ Fixes {Answer} {Values} Kept said = (given : Kept) (call : Outcome Kept Values) 
 
 -- the operations, each by what its contract says of it. A question keeps nothing
 pub record EachFixed : Type 0 where
-  pub reading : (energy : Float) → Fixed said_level tt (reading_of energy)
-  pub histogram_add : (counters : List ℕ) (energy : Float) → Fixed said_answer counters (add_to counters energy)
-  pub histogram_merge : (into from : List ℕ) → Fixed said_answer into (merge_into into from)
-  pub histogram_reset : (counters : List ℕ) → Fixed said_answer counters (cleared counters)
+  pub reading : (energy : Float) → Fixed said tt (reading_of energy)
+  pub histogram_add : (counters : List ℕ) (energy : Float) → Fixed said counters (add_to counters energy)
+  pub histogram_merge : (into from : List ℕ) → Fixed said into (merge_into into from)
+  pub histogram_reset : (counters : List ℕ) → Fixed said counters (cleared counters)
   -- the queue by value and its lent store
-  pub queue_add : (s : Stored) (energy : Float) → Fixed said_answer s (enqueued s energy)
-  pub gate : (h : Histories) → Fixed said_gated tt (gate_of h)
-  pub gated_energy : (h : Histories) → Fixed said_energy tt (gated_energy_of h)
+  pub queue_add : (s : Stored) (energy : Float) → Fixed said s (enqueued s energy)
+  pub gate : (h : Histories) → Fixed said tt (gate_of h)
+  pub gated_energy : (h : Histories) → Fixed said tt (gated_energy_of h)
   pub relative_threshold : (entry : Entry) (counters : List ℕ) (energies : List Float) → Fixed said_threshold tt (relative_of entry counters energies)
   -- the work slice; and the range over histograms and over queues by themselves
   pub loudness_range : (h : Histories) (work : List Float) → Fixed said_range work (range_of h work)
