@@ -1,13 +1,12 @@
--- What each part of the filter leaves of a call that passes: what its definition says. Assumes nothing.
-use Prim.Native.Nat.{ℕ}
-use mathlib.Core.Path.{◌≡◌, refl, ap, ◌∙◌}
-use mathlib.Core.Bool.{Bool, true, false, cond}
-use mathlib.Core.List.{List}
-use lib.ListN.{length}
+-- What each part of the filter leaves of a call: what its definition says, where the call passes and the part is on. Assumes nothing.
+use Rattle.std.proofs.Common.{◌≡◌, ℕ, true, false, List, refl, sym, ap, ◌∙◌, length}
 use lib.Ieee.{Float}
-use Rattle.base_refusals.specs.Outcome.{Outcome, kept_by, went, NoValues, done}
+use Rattle.base_refusals.specs.declared.Refusal.{Refusal}
+use Rattle.base_refusals.specs.Refusal.{number}
+use Rattle.base_refusals.specs.Outcome.{Outcome, Said, says, refusal, said_by, kept_by, went, NoValues, done}
 use Rattle.base_refusals.specs.Rows.{number_of}
-use Rattle.base_refusals.proofs.Rows.{goes}
+use Rattle.base_refusals.proofs.Numbers.{no_number}
+use Rattle.base_refusals.proofs.Rows.{stopped, goes}
 use Rattle.samples.specs.Kinds.{size_of, as_f64, as_f32}
 use Rattle.samples.proofs.ByKind.{size_f64, size_f32}
 use Rattle.filter_checks.specs.Calls.{sizes, frame_rows}
@@ -22,63 +21,88 @@ use Rattle.true_peak_state.specs.declared.TruePeak.{TruePeak}
 use Rattle.true_peak_state.specs.TruePeak.{measured}
 use Rattle.true_peak.specs.TruePeak as trues
 use Rattle.filter.specs.declared.Filter.{Filter}
-use Rattle.filter.specs.Call.{Call, weighing, hearing, weighed_state}
-use Rattle.filter.specs.Process.{weighed_dest, measured_peaks, measured_true_peaks, process_rows}
+use Rattle.filter.specs.Filter.{moved}
+use Rattle.filter.specs.Call.{Call, Kept, given, standing, kept, weighing, hearing, weighed_state}
+use Rattle.filter.specs.Process.{weighed_dest, measured_peaks, measured_true_peaks, process_rows, processed}
 
--- ---- the weighting
+-- ---- the weighting by itself
 
 module _ (call : recurrence.Weighing) (dest : List Float) (start : ℕ) where
-  abbrev leaves : weighting.Kept
-  leaves = record { state = record { values = recurrence.state_after call }; dest = weighting.dest_after call dest start }
+  abbrev weighs : weighting.Kept
+  weighs = record { state = record { values = recurrence.state_after call }; dest = weighting.dest_after call dest start }
 
-  went_on : number_of (weighting.weighing_rows call dest start) ≡ 0 → weighting.kept call dest start ≡ leaves
+  went_on : number_of (weighting.weighing_rows call dest start) ≡ 0 → weighting.kept call dest start ≡ weighs
   unfolding weighting.weighed
-  went_on e = ap (kept_by (record { state = call.state; dest = dest })) (goes (went leaves done) (weighting.weighing_rows call dest start) e)
+  went_on e = ap (kept_by (record { state = call.state; dest = dest })) (goes (went weighs done) (weighting.weighing_rows call dest start) e)
 
-  abbrev rows : Bool → ℕ
-  rows on = number_of (calls.process_rows on (sizes call.channels (length call.samples) (length dest) start) call.map)
+-- ---- a call
 
-  -- DEST is checked where loudness is on
-  on_state : (on : Bool) → rows on ≡ 0
-      → cond on (weighting.kept call dest start).state call.state ≡ cond on (record { values = recurrence.state_after call }) call.state
-  on_state true e = ap (λ (k : weighting.Kept). k.state) (went_on e)
-  on_state false e = refl
-
-  on_dest : (on : Bool) → rows on ≡ 0 → cond on (weighting.kept call dest start).dest dest ≡ cond on (weighting.dest_after call dest start) dest
-  on_dest true e = ap (λ (k : weighting.Kept). k.dest) (went_on e)
-  on_dest false e = refl
-
--- ---- a call that passes
-
-module _ (call : Call) (ok : number_of (process_rows call) ≡ 0) where
+module _ (call : Call) where
   abbrev f : Filter
   f = call.filter
 
-  -- so many samples of its channels pass
-  frames : (n : ℕ) → n ≡ size_of call.samples → number_of (frame_rows f.channels n) ≡ 0
-  frames n e =
-      ap (λ (m : ℕ). number_of (frame_rows f.channels m)) e
-      ∙ seed_frames f.channels (size_of call.samples) call.map
-      (process_seeds f.switches.loudness (sizes f.channels (size_of call.samples) (length call.dest) call.start) call.map ok)
+  abbrev leaves : Outcome Kept NoValues
+  leaves = went (record { filter = moved f (weighed_state call) (measured_peaks call) (measured_true_peaks call); dest = weighed_dest call }) done
 
-  weighs : rows (weighing call) call.dest call.start f.switches.loudness ≡ 0
-  weighs =
-      ap (λ (m : ℕ). number_of (calls.process_rows f.switches.loudness (sizes f.channels m (length call.dest) call.start) call.map)) (size_f64 call.samples) ∙ ok
+  -- it is refused, and all stays
+  pub stays : (r : Refusal) → number r ≡ number_of (process_rows call) → (refusal (number r) ≡ said_by (processed call)) × (given call ≡ kept processed call)
+  unfolding processed
+  stays r e = let s = stopped leaves (process_rows call) (given call) (number r) e (no_number r) in (s.says, s.keeps)
 
-  pub peaks_are : cond f.switches.peak (kept_by f.peaks (raised f.channels (as_f64 call.samples) f.peaks)) f.peaks ≡ measured_peaks call
-  unfolding raised
-  peaks_are =
-      let samples = as_f64 call.samples in
-      ap (λ (o : Outcome Peaks NoValues). cond f.switches.peak (kept_by f.peaks o) f.peaks)
-      (goes (went (record { values = peaks_after f.channels samples f.peaks.values }) done) (frame_rows f.channels (length samples)) (frames (length samples) (size_f64 call.samples)))
+  -- it passes
+  module _ (ok : number_of (process_rows call) ≡ 0) where
+    pub moves : (state peaks memory true_peaks dest : List Float) → state ≡ (weighed_state call).values → peaks ≡ (measured_peaks call).values
+        → memory ≡ (measured_true_peaks call).memory → true_peaks ≡ (measured_true_peaks call).peaks → dest ≡ weighed_dest call
+        → (◌≡◌ {A = Said NoValues} (says done) (said_by (processed call)))
+        × (standing f (record { state = state; peaks = peaks; memory = memory; true_peaks = true_peaks }) dest ≡ kept processed call)
+    unfolding processed
+    moves state peaks memory true_peaks dest s p m t d =
+        let z = sym (goes leaves (process_rows call) ok) in
+        (ap said_by z, (λ i. standing f (record { state = s i; peaks = p i; memory = m i; true_peaks = t i }) (d i)) ∙ ap (kept_by (given call)) z)
 
-  pub trues_are : cond f.switches.true_peak (kept_by f.true_peak (trues.processed f.rate (hearing call) f.true_peak)) f.true_peak ≡ measured_true_peaks call
-  trues_are =
-      ap (λ (o : Outcome TruePeak NoValues). cond f.switches.true_peak (kept_by f.true_peak o) f.true_peak)
-      (goes (went (measured (kind_of f.rate) (hearing call) f.true_peak) done) (trues.peak_rows (hearing call)) (frames (length (as_f32 call.samples)) (size_f32 call.samples)))
+    -- so many samples of its channels pass
+    frames : (n : ℕ) → n ≡ size_of call.samples → number_of (frame_rows f.channels n) ≡ 0
+    frames n e =
+        ap (λ (m : ℕ). number_of (frame_rows f.channels m)) e
+        ∙ seed_frames f.channels (size_of call.samples) call.map
+        (process_seeds f.switches.loudness (sizes f.channels (size_of call.samples) (length call.dest) call.start) call.map ok)
 
-  pub state_is : cond f.switches.loudness (weighting.kept (weighing call) call.dest call.start).state f.state ≡ weighed_state call
-  state_is = on_state (weighing call) call.dest call.start f.switches.loudness weighs
+    module _ (floats : List Float) (e : as_f64 call.samples ≡ floats) where
+      pub peaks_on : f.switches.peak ≡ true → (after : List Float) → after ≡ (kept_by f.peaks (raised f.channels floats f.peaks)).values → after ≡ (measured_peaks call).values
+      unfolding raised
+      peaks_on on after h =
+          let samples = as_f64 call.samples in
+          rw on (h ∙ ap (λ (x : List Float). (kept_by f.peaks (raised f.channels x f.peaks)).values) (sym e)
+          ∙ ap (λ (o : Outcome Peaks NoValues). (kept_by f.peaks o).values)
+          (goes (went (record { values = peaks_after f.channels samples f.peaks.values }) done) (frame_rows f.channels (length samples)) (frames (length samples) (size_f64 call.samples))))
 
-  pub dest_is : cond f.switches.loudness (weighting.kept (weighing call) call.dest call.start).dest call.dest ≡ weighed_dest call
-  dest_is = on_dest (weighing call) call.dest call.start f.switches.loudness weighs
+      pub weighing_on : f.switches.loudness ≡ true → (state dest : List Float) →
+          let k = weighting.kept (recurrence.weighing_of f.coefficients f.state f.channels floats call.map) call.dest call.start in
+          (state ≡ k.state.values) × (dest ≡ k.dest) → (state ≡ (weighed_state call).values) × (dest ≡ weighed_dest call)
+      weighing_on on state dest h =
+          let samples = as_f64 call.samples in
+          let rows : number_of (weighting.weighing_rows (weighing call) call.dest call.start) ≡ 0 =
+          (λ i. number_of (calls.process_rows (sym on i) (sizes f.channels (size_f64 call.samples i) (length call.dest) call.start) call.map)) ∙ ok in
+          let same = ap (λ (x : List Float). weighting.kept (recurrence.weighing_of f.coefficients f.state f.channels x call.map) call.dest call.start) (sym e)
+          ∙ went_on (weighing call) call.dest call.start rows in
+          rw on (h.0 ∙ ap (λ (k : weighting.Kept). k.state.values) same, h.1 ∙ ap (λ (k : weighting.Kept). k.dest) same)
+
+    pub trues_on : (floats : List Float) → as_f32 call.samples ≡ floats → f.switches.true_peak ≡ true → (memory peaks : List Float) →
+        let after = kept_by f.true_peak (trues.processed f.rate (record { channels = f.channels; samples = floats }) f.true_peak) in
+        (memory ≡ after.memory) × (peaks ≡ after.peaks) → (memory ≡ (measured_true_peaks call).memory) × (peaks ≡ (measured_true_peaks call).peaks)
+    trues_on floats e on memory peaks h =
+        let same = ap (λ (x : List Float). kept_by f.true_peak (trues.processed f.rate (record { channels = f.channels; samples = x }) f.true_peak)) (sym e)
+        ∙ ap (λ (o : Outcome TruePeak NoValues). kept_by f.true_peak o)
+        (goes (went (measured (kind_of f.rate) (hearing call) f.true_peak) done) (trues.peak_rows (hearing call)) (frames (length (as_f32 call.samples)) (size_f32 call.samples))) in
+        rw on (h.0 ∙ ap (λ (t : TruePeak). t.memory) same, h.1 ∙ ap (λ (t : TruePeak). t.peaks) same)
+
+  -- what is off leaves its own things
+  pub peaks_off : f.switches.peak ≡ false → (after : List Float) → after ≡ f.peaks.values → after ≡ (measured_peaks call).values
+  peaks_off off after h = rw off h
+
+  pub trues_off : f.switches.true_peak ≡ false → (memory peaks : List Float) → memory ≡ f.true_peak.memory → peaks ≡ f.true_peak.peaks
+      → (memory ≡ (measured_true_peaks call).memory) × (peaks ≡ (measured_true_peaks call).peaks)
+  trues_off off memory peaks m p = rw off (m, p)
+
+  pub weighing_off : f.switches.loudness ≡ false → (f.state.values ≡ (weighed_state call).values) × (call.dest ≡ weighed_dest call)
+  weighing_off off = rw off (refl, refl)

@@ -1,57 +1,73 @@
--- `process_lent` meets its contract: the number of the check is the refusal, and past it each part leaves what the definitions say. Assumes nothing.
-use Prim.Native.Nat.{ℕ}
-use mathlib.Core.Path.{◌≡◌, sym, ap, ◌∙◌}
-use lib.ListN.{length}
-use Rattle.base_refusals.specs.Outcome.{Outcome, said_by, kept_by, went, NoValues, done}
+-- `process_lent` meets its contract: the check's refusal is the call's, and past it each part leaves what the definitions say. Assumes nothing.
+use Rattle.std.proofs.Common.{◌≡◌, ℕ, List, sym, ap, ◌∙◌, length}
+use Rattle.std.proofs.lemmas.Result.{err_from_is_err_and}
+use lib.Ieee.{Float}
 use Rattle.base_refusals.specs.Rows.{number_of}
-use Rattle.base_refusals.proofs.Rows.{stopped, goes}
 use Rattle.filter_checks.specs.Calls as calls
-use Rattle.samples.specs.Kinds.{size_of, lent}
-use Rattle.filter_recurrence.specs.declared.states.State.{State}
-use Rattle.filter_sample_peak.specs.declared.Peaks.{Peaks}
-use Rattle.true_peak_state.specs.declared.TruePeak.{TruePeak}
-use Rattle.filter.specs.Filter.{resting, moved, with_arrays}
-use Rattle.filter.specs.Call.{Call, Kept, given, standing, weighed_state}
-use Rattle.filter.proofs.Lent.{lent_size}
-use Rattle.filter.specs.Process.{weighed_dest, measured_peaks, measured_true_peaks, process_rows, processed}
-use Rattle.filter_process.proofs.Parts.{peaks_are, trues_are, state_is, dest_is}
+use Rattle.samples.specs.Kinds.{Samples, size_of}
+use Rattle.samples.specs.Sample.{samples_by}
+use Rattle.filter_recurrence.specs.declared.Coefficients.{Coefficients}
+use Rattle.filter.specs.declared.Switches.{Switches}
+use Rattle.filter.specs.Filter.{Arrays, resting, with_arrays}
+use Rattle.filter.specs.Call.{Call}
+use Rattle.filter.specs.Process.{process_rows, measured_peaks, measured_true_peaks}
+use Rattle.filter_process.proofs.Parts.{stays, moves, peaks_on, peaks_off, trues_on, trues_off, weighing_on, weighing_off}
 use Rattle.filter_process.proofs.process_lent.Goals as goal
+use Rattle.filter_process.proofs.process_lent.Goals.{then-switches, else-switches, then-switches-2, else-switches-2}
 
-abbrev leaves : Call → Outcome Kept NoValues
-leaves k = went (record { filter = moved k.filter (weighed_state k) (measured_peaks k) (measured_true_peaks k); dest = weighed_dest k }) done
+abbrev call_of : ℕ → ℕ → Switches → Coefficients → Arrays → Samples → List ℕ → List Float → ℕ → Call
+call_of channels rate switches coefficients arrays samples map dest start =
+    record { filter = with_arrays (resting channels rate switches coefficients) arrays; samples = samples; map = map; dest = dest; start = start }
 
-numbered : (k : Call) (samples number : ℕ) → samples ≡ size_of k.samples
-    → number ≡ number_of (calls.process_rows k.filter.switches.loudness (calls.sizes k.filter.channels samples (length k.dest) k.start) k.map)
-    → number ≡ number_of (process_rows k)
-numbered k samples number size said =
-    said ∙ ap (λ (n : ℕ). number_of (calls.process_rows k.filter.switches.loudness (calls.sizes k.filter.channels n (length k.dest) k.start) k.map)) size
+-- the check goes by how many samples there are
+numbered : (k : Call) (samples : ℕ) → size_of k.samples ≡ samples
+    → number_of (calls.process_rows k.filter.switches.loudness (calls.sizes k.filter.channels samples (length k.dest) k.start) k.map) ≡ number_of (process_rows k)
+numbered k samples size = ap (λ (n : ℕ). number_of (calls.process_rows k.filter.switches.loudness (calls.sizes k.filter.channels n (length k.dest) k.start) k.map)) (sym size)
 
-pub returns-then-number-ne0 : goal.returns-then-number-ne0
-unfolding processed
-returns-then-number-ne0 c =
+pub returns-in_err-refused_process : goal.returns-in_err-refused_process
+returns-in_err-refused_process g c =
     let a = c.args in
-    let n = c.size_of-samples in
-    let m = c.refused_process-number in
-    let filter = with_arrays (resting a.channels a.rate a.switches (record { a = a.a.now; b = a.b.now }))
-    (record { state = a.state.now; peaks = a.peaks.now; memory = a.memory.now; true_peaks = a.true_peaks.now }) in
-    let k : Call = record { filter = filter; samples = lent a.ints.now a.floats.now; map = a.map.now; dest = a.dest.now; start = a.start } in
-    let f = stopped (leaves k) (process_rows k) (given k) m.result (numbered k n.result m.result (n.ensures ∙ lent_size a.ints.now a.floats.now) m.ensures) c.if-number-ne0.true in
-    (f.says, f.keeps)
+    let arrays : Arrays = record { state = a.state.now; peaks = a.peaks.now; memory = a.memory.now; true_peaks = a.true_peaks.now } in
+    let k = call_of a.channels a.rate a.switches (record { a = a.a.now; b = a.b.now }) arrays (g.S.Sample.lent a.samples.now) a.map.now a.dest.now a.start in
+    let p = err_from_is_err_and c.from_residual.result c.from_residual.ensures.1 in
+    rw (p.1, p.2) (stays k c.in_err-refused_process.field-0.0 (c.in_err-refused_process.ensures ∙ numbered k (length a.samples.now) (g.met.S.Sample.sizes a.samples.now)))
 
-pub returns : goal.returns
-unfolding processed
-returns c =
+pub returns-then-loudness : goal.returns-then-loudness
+returns-then-loudness g c =
     let a = c.args in
-    let n = c.size_of-samples in
-    let m = c.refused_process-number in
-    let filter = with_arrays (resting a.channels a.rate a.switches (record { a = a.a.now; b = a.b.now }))
-    (record { state = a.state.now; peaks = a.peaks.now; memory = a.memory.now; true_peaks = a.true_peaks.now }) in
-    let k : Call = record { filter = filter; samples = lent a.ints.now a.floats.now; map = a.map.now; dest = a.dest.now; start = a.start } in
-    let ok = sym (numbered k n.result m.result (n.ensures ∙ lent_size a.ints.now a.floats.now) m.ensures) ∙ c.if-number-ne0.false in
-    let state = c.weigh.ensures.0 ∙ ap (λ (x : State). x.values) (state_is k ok) in
-    let peaks = c.raise.ensures ∙ ap (λ (x : Peaks). x.values) (peaks_are k ok) in
-    let memory = c.listen.ensures.0 ∙ ap (λ (x : TruePeak). x.memory) (trues_are k ok) in
-    let trues = c.listen.ensures.1 ∙ ap (λ (x : TruePeak). x.peaks) (trues_are k ok) in
-    let dest = c.weigh.ensures.1 ∙ dest_is k ok in
-    let z = sym (goes (leaves k) (process_rows k) ok) in
-    (ap said_by z, (λ i. standing k.filter (record { state = state i; peaks = peaks i; memory = memory i; true_peaks = trues i }) (dest i)) ∙ ap (kept_by (given k)) z)
+    let f = g.S.Sample.in_f64 in
+    let arrays : Arrays = record { state = a.state.now; peaks = a.peaks.now; memory = a.memory.now; true_peaks = a.true_peaks.now } in
+    let k = call_of a.channels a.rate a.switches (record { a = a.a.now; b = a.b.now }) arrays (g.S.Sample.lent a.samples.now) a.map.now a.dest.now a.start in
+    let ok = sym (c.in_ok-refused_process.ensures ∙ numbered k (length a.samples.now) (g.met.S.Sample.sizes a.samples.now)) in
+    let peaks : c.if-switches.peaks ≡ (measured_peaks k).values = elim c.if-switches.branch [
+      | then-switches w ↦ peaks_on k ok (samples_by f a.samples.now) (g.met.S.Sample.wide a.samples.now) w.if-switches.true c.if-switches.peaks (w.peaks-is ∙ w.raise.ensures)
+      | else-switches w ↦ peaks_off k w.if-switches.false c.if-switches.peaks w.peaks-is
+    ] in
+    let trues : (c.if-switches-2.memory ≡ (measured_true_peaks k).memory) × (c.if-switches-2.true_peaks ≡ (measured_true_peaks k).peaks) = elim c.if-switches-2.branch [
+      | then-switches-2 w ↦
+          trues_on k ok (samples_by g.S.Sample.in_f32 a.samples.now) (g.met.S.Sample.narrow a.samples.now) w.if-switches-2.true c.if-switches-2.memory c.if-switches-2.true_peaks
+          (w.memory-is ∙ w.listen.ensures.0, w.true_peaks-is ∙ w.listen.ensures.1)
+      | else-switches-2 w ↦ trues_off k w.if-switches-2.false c.if-switches-2.memory c.if-switches-2.true_peaks w.memory-is w.true_peaks-is
+    ] in
+    let w = weighing_on k ok (samples_by f a.samples.now) (g.met.S.Sample.wide a.samples.now) c.if-loudness.true c.process_lent.new.state c.process_lent.new.dest (c.process_lent.ensures.1, c.process_lent.ensures.2) in
+    moves k ok c.process_lent.new.state c.if-switches.peaks c.if-switches-2.memory c.if-switches-2.true_peaks c.process_lent.new.dest w.0 peaks trues.0 trues.1 w.1
+
+pub returns-else-loudness : goal.returns-else-loudness
+returns-else-loudness g c =
+    let a = c.args in
+    let f = g.S.Sample.in_f64 in
+    let arrays : Arrays = record { state = a.state.now; peaks = a.peaks.now; memory = a.memory.now; true_peaks = a.true_peaks.now } in
+    let k = call_of a.channels a.rate a.switches (record { a = a.a.now; b = a.b.now }) arrays (g.S.Sample.lent a.samples.now) a.map.now a.dest.now a.start in
+    let ok = sym (c.in_ok-refused_process.ensures ∙ numbered k (length a.samples.now) (g.met.S.Sample.sizes a.samples.now)) in
+    let peaks : c.if-switches.peaks ≡ (measured_peaks k).values = elim c.if-switches.branch [
+      | then-switches w ↦ peaks_on k ok (samples_by f a.samples.now) (g.met.S.Sample.wide a.samples.now) w.if-switches.true c.if-switches.peaks (w.peaks-is ∙ w.raise.ensures)
+      | else-switches w ↦ peaks_off k w.if-switches.false c.if-switches.peaks w.peaks-is
+    ] in
+    let trues : (c.if-switches-2.memory ≡ (measured_true_peaks k).memory) × (c.if-switches-2.true_peaks ≡ (measured_true_peaks k).peaks) = elim c.if-switches-2.branch [
+      | then-switches-2 w ↦
+          trues_on k ok (samples_by g.S.Sample.in_f32 a.samples.now) (g.met.S.Sample.narrow a.samples.now) w.if-switches-2.true c.if-switches-2.memory c.if-switches-2.true_peaks
+          (w.memory-is ∙ w.listen.ensures.0, w.true_peaks-is ∙ w.listen.ensures.1)
+      | else-switches-2 w ↦ trues_off k w.if-switches-2.false c.if-switches-2.memory c.if-switches-2.true_peaks w.memory-is w.true_peaks-is
+    ] in
+    let w = weighing_off k c.if-loudness.false in
+    moves k ok a.state.now c.if-switches.peaks c.if-switches-2.memory c.if-switches-2.true_peaks a.dest.now w.0 peaks trues.0 trues.1 w.1
