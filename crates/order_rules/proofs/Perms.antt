@@ -5,7 +5,10 @@ use mathlib.Core.List.{List, [], ◌∷◌, ◌++◌}
 use Prim.Native.Nat.{ℕ, zero, suc, ◌<◌, zero-le, suc-le-suc}
 use native.Mathlib.Nat.{not-suc-le-zero, le_of_suc-le-suc}
 use lib.ListN.{length, take, drop, set, take-append-drop}
-use lib.Ieee.{Float}
+use lib.Ieee.{Float, nan}
+use Rattle.std.specs.List.Sorted.{IsPermutation}
+use Rattle.std.proofs.lemmas.List.Edits.{swap_is}
+use Rattle.std.proofs.lemmas.List.Sorted.{IsPermutation-keeps}
 use Rattle.base_floats.specs.Entry.{at}
 use Rattle.order_rules.specs.Arrangement.{Reordered, unmoved, under, swap, after, All, exchanged}
 
@@ -47,6 +50,12 @@ exchange_perm (x ∷ l) (suc i) (suc j) h g = under x (exchange_perm l i j (le_o
 
 pub exchanged_perm : (l k : List Float) (i j : ℕ) → i < length l → j < length l → k ≡ exchanged l i j → Reordered l k
 exchanged_perm l k i j h g e = subst (Reordered l) (sym e) (exchange_perm l i j h g)
+
+-- what the library says of a list in another order
+pub reordered_from : (l k : List Float) → IsPermutation l k → Reordered l k
+reordered_from l k p =
+    IsPermutation-keeps l (Reordered l) (unmoved l)
+    (λ m i j a b q. after q (subst (Reordered m) (swap_is m i j nan a b) (exchange_perm m i j a b))) k p
 
 -- ---- what holds of every energy
 module _ (P : Float → Type 0) where

@@ -43,8 +43,8 @@ fn put_in_place(part: &[f64], places: &mut [f64]) -> bool
 {
     let mut fine = true;
     for (i, x) in part.iter().enumerate() {
-        places[place_of(part, i)] = *x;
         fine = fine & (0.0 < *x);
+        places[place_of(part, i)] = *x;
     }
     fine
 }

@@ -1,21 +1,20 @@
 -- A part is split around its first energy, the pivot: from place 1 up to `low` stand energies at most the pivot, from there up to i energies at least the pivot.
 -- Each turn exchanges the energies at i and `low`. At the end the pivot goes between the two. Assumes nothing.
 use mathlib.Core.Path.{◌≡◌, refl, sym, ap, ◌∙◌, subst}
-use mathlib.Core.Bool.{Bool, true, false, ◌&&◌, ◌||◌, true≢false}
+use mathlib.Core.Bool.{Bool, true, false}
 use mathlib.Core.Logic.{◌⊎◌, inl, inr}
 use mathlib.Core.List.{List}
 use Prim.Native.Nat.{ℕ, ◌+◌, ◌-◌, ◌≤◌, ◌<◌}
 use native.Mathlib.Omega.{arith}
 use lib.Dec.{T}
 use lib.ListN.{length}
-use lib.Ieee.{Float, le, lt}
-use Rattle.base_floats.proofs.Order.{float_le_trans, lt→le}
+use lib.Ieee.{Float, le}
+use Rattle.base_floats.proofs.Order.{float_le_trans}
 use lib.Ieee.Positive.{above}
 use Rattle.base_floats.specs.Entry.{at}
 use Rattle.order_rules.specs.Arrangement.{Reordered, unmoved, after, All, Above, exchanged}
-use Rattle.order_split.specs.Inner.{Lowest, Parting, Parted}
+use Rattle.order_split.specs.Inner.{Lowest, Splits, Parting, Parted}
 use Rattle.order_rules.proofs.Perms.{all_perm, all_at, all_of}
-use Rattle.order_rules.proofs.Energies.{not_below_lem}
 use Rattle.order_rules.proofs.Places.{le_by, same_or_other, Exchange, exchange_is}
 
 pub part_start : (l : List Float) → 0 < length l → Above l → Parting (at l 0) 1 1 l l
@@ -95,22 +94,12 @@ module _ {pivot : Float} {low i : ℕ} {old new : List Float} (s : Parting pivot
   pivot_above = subst (λ (x : Float). T (above x)) s.first (all_at (λ x. T (above x)) new s.above 0 (omega arith))
 
   -- by the test that the loop makes
-  module _ (equal : Bool) where
-    pub is_gathered : lt (at new i) pivot || (equal && le (at new i) pivot) ≡ true → Parting pivot (low + 1) (i + 1) old (exchanged new i low)
-    is_gathered e = go (lt (at new i) pivot) (le (at new i) pivot) equal refl refl e
-      where
-        go : (a b q : Bool) → lt (at new i) pivot ≡ a → le (at new i) pivot ≡ b → a || (q && b) ≡ true → Parting pivot (low + 1) (i + 1) old (exchanged new i low)
-        go true b q l m h = part_low (lt→le (at new i) pivot (subst T (sym l) tt))
-        go false true true l m h = part_low (subst T (sym m) tt)
-        go false false true l m h = absurd (true≢false (sym h))
-        go false b false l m h = absurd (true≢false (sym h))
+  module _ {says : Float → Float → Bool → Type 0} (splits : Splits says) where
+    pub is_gathered : says (at new i) pivot true → Parting pivot (low + 1) (i + 1) old (exchanged new i low)
+    is_gathered h = part_low (splits.passed (at new i) pivot x_above pivot_above h)
 
-    pub is_left : lt (at new i) pivot || (equal && le (at new i) pivot) ≡ false → Parting pivot low (i + 1) old (exchanged new i low)
-    is_left e = go (lt (at new i) pivot) refl e
-      where
-        go : (a : Bool) → lt (at new i) pivot ≡ a → a || (equal && le (at new i) pivot) ≡ false → Parting pivot low (i + 1) old (exchanged new i low)
-        go true l h = absurd (true≢false h)
-        go false l h = part_high (not_below_lem (at new i) pivot x_above pivot_above l)
+    pub is_left : says (at new i) pivot false → Parting pivot low (i + 1) old (exchanged new i low)
+    is_left h = part_high (splits.failed (at new i) pivot x_above pivot_above h)
 
 -- the pivot came to the front first
 pub parting_from : {pivot : Float} {low i : ℕ} {old mid new : List Float} → Reordered old mid → at mid 0 ≡ pivot

@@ -1,12 +1,18 @@
 -- What the steps of the splitting are stated by.
-use Rattle.std.specs.Prelude.{◌≡◌, List, ℕ, ◌≤◌, ◌<◌, T, length, Float}
+use Rattle.std.specs.Prelude.{◌≡◌, Bool, true, false, List, ℕ, ◌≤◌, ◌<◌, T, length, Float}
 use Rattle.std.specs.Float.Ieee.{le}
+use Rattle.std.specs.Float.Ieee.Positive.{above}
 use Rattle.base_floats.specs.Entry.{at}
 use Rattle.order_rules.specs.Arrangement.{Reordered, Above}
 
 -- no energy is below the first
 abbrev pub Lowest : List Float → Type 0
 Lowest l = (k : ℕ) → k < length l → T (le (at l 0) (at l k))
+
+-- a test of an energy and the pivot parts them: those that pass are at most the pivot, the others at least
+pub record Splits (says : Float → Float → Bool → Type 0) : Type 0 where
+  pub passed : (x pivot : Float) → T (above x) → T (above pivot) → says x pivot true → T (le x pivot)
+  pub failed : (x pivot : Float) → T (above x) → T (above pivot) → says x pivot false → T (le pivot x)
 
 -- the pivot stands first; after it, before the place `low`, stand energies at most it, and from there up to i energies at least it
 pub record Parting (pivot : Float) (low i : ℕ) (old new : List Float) : Type 0 where

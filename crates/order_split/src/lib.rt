@@ -2,22 +2,14 @@
 // Parts are split around a pivot; a part whose splits go deeper than twice the binary digits of the length is ordered by a heap instead.
 #![tactic(auto)]
 
-ghost use Rattle.std.specs.Prelude.{◌≡◌, ◌+◌, ◌*◌, ◌<◌, ◌^◌, length};
+ghost use Rattle.std.specs.Prelude.{◌≡◌, ◌+◌, ◌*◌, ◌<◌, length};
 ghost use Rattle.std.specs.Float.Ieee.{size};
 ghost use Rattle.order_rules.specs.Order.{all_above, ordered};
 ghost use Rattle.base_floats.specs.Entry.{at};
-ghost use Rattle.order_rules.specs.Arrangement.{Above, Ordered, exchanged};
-ghost use Rattle.order_split.specs.Inner.{Parting, Parted};
+ghost use Rattle.order_rules.specs.Arrangement.{Above, Ordered};
+ghost use Rattle.order_split.specs.Inner.{Splits, Parting, Parted};
 
-fn exchange(part: &mut [f64], i: usize, j: usize)
-    requires { (i < length part.old) × (j < length part.old) }
-    ensures { part.new ≡ exchanged part.old i j }
-{
-    let x = part[i];
-    let y = part[j];
-    part[i] = y;
-    part[j] = x;
-}
+use std::ops::Range;
 
 // The place, of three, whose energy lies between the other two.
 fn middle(part: &[f64], i: usize, j: usize, k: usize) -> usize
@@ -53,52 +45,43 @@ fn pivot_place(part: &[f64]) -> usize
     middle(part, low, mid, high)
 }
 
-// Brings the energy at a place to the front as the pivot, and those below it behind it; where `equal` holds, those that equal it too.
+// Brings the energy at a place to the front as the pivot, and behind it those that come first beside it, by a test of an energy and the pivot.
 // Answers the place after them.
-fn gather(part: &mut [f64], place: usize, equal: bool) -> usize
-    requires { (place < length part.old) × Above part.old }
+fn gather<F: Fn(f64, f64) -> bool>(part: &mut [f64], place: usize, comes_first: F) -> usize
+    requires inside { place < length part.old }
+    requires above { Above part.old }
+    requires callable { F.IsAlwaysCallable comes_first }
+    requires splits { Splits (F.post comes_first) }
     ensures { Parting (at part.old place) result (length part.new) part.old part.new }
 {
-    exchange(part, 0, place);
-    let n = part.len();
+    part.swap(0, place);
     let pivot = part[0];
     let mut low = 1;
-    let mut i = 1;
-    while i < n {
+    for i in 1..part.len() {
         let x = part[i];
-        let y = part[low];
-        part[i] = y;
+        // Not `swap`, which asks which place comes first: the loop took 1.6 times the time.
+        part[i] = part[low];
         part[low] = x;
-        i += 1;
-        if (x < pivot) | (equal & (x <= pivot)) {
+        if comes_first(x, pivot) {
             low += 1;
         }
     }
     low
 }
 
-// What a split settles: the places from `from` up to `to`.
-#[derive(Drop)]
-struct Settled {
-    from: usize,
-    to: usize,
-}
-
-fn split(part: &mut [f64]) -> Settled
+// Answers the places that the split settles.
+fn split(part: &mut [f64]) -> Range<usize>
     requires { (0 < length part.old) × Above part.old }
-    ensures { Parted result.from result.to part.old part.new }
+    ensures { Parted result.start result.end part.old part.new }
 {
     let pivot = pivot_place(part);
-    let place = gather(part, pivot, false) - 1;
-    exchange(part, 0, place);
+    let place = gather(part, pivot, |x, pivot| x < pivot) - 1;
+    part.swap(0, place);
     if place > 0 {
-        return Settled {
-            from: place,
-            to: place + 1,
-        };
+        return place..place + 1;
     }
-    let equal = gather(part, 0, true);
-    Settled { from: 0, to: equal }
+    let equal = gather(part, 0, |x, pivot| x <= pivot);
+    0..equal
 }
 
 fn split_sort(part: &mut [f64], budget: usize)
@@ -115,24 +98,18 @@ fn split_sort(part: &mut [f64], budget: usize)
         return;
     }
     let settled = split(part);
-    let from = settled.from;
-    let to = settled.to;
-    split_sort(&mut part[..from], budget - 1);
-    split_sort(&mut part[to..], budget - 1);
+    split_sort(&mut part[..settled.start], budget - 1);
+    split_sort(&mut part[settled.end..], budget - 1);
 }
 
 // Twice the binary digits of n: how deep splits may go before the heap takes over.
 fn depth_for(n: usize) -> usize
-    requires { n < 2 ^ 60 }
     ensures { result ≡ 2 * size n }
 {
-    let mut left = n;
-    let mut depth = 0;
-    while left > 0 {
-        left = left / 2;
-        depth += 2;
+    if n == 0 {
+        return 0;
     }
-    depth
+    2 * (n.ilog2() as usize + 1)
 }
 
 // Orders the energies in place, rising, where each is above zero; else it touches nothing and answers false.

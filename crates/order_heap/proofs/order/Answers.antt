@@ -2,20 +2,14 @@
 use mathlib.Core.Path.{sym, ◌∙◌}
 use borrow.Author.Rules.{rules}
 use Rattle.order_rules.proofs.AllAbove.{above_all}
-use Rattle.order_rules.proofs.Answers.{brought_in_order, left_alone}
+use Rattle.order_rules.proofs.Answers.{brought_in_order}
 use Rattle.order_heap.proofs.order.Goals as goal
 use Rattle.order_heap.proofs.order.Goals.{Then-all_above}
 
 pub heap_sort-requires : goal.heap_sort-requires
 heap_sort-requires c = above_all c.args.energies.now (sym c.all_above.ensures ∙ c.if-all_above.true)
 
-pub returns-then-all_above : goal.returns-then-all_above
-returns-then-all_above c =
+pub returns-then-all_above-clause-energies_after : goal.returns-then-all_above-clause-energies_after
+returns-then-all_above-clause-energies_after c =
     let l = c.args.energies.now in
-    let told = brought_in_order l (above_all l (sym c.all_above.ensures ∙ c.if-all_above.true)) (search rules) c.heap_sort.new.part c.heap_sort.ensures in
-    record { value = told.0; energies_after = told.1 }
-
-pub returns : goal.returns
-returns c =
-    let told = left_alone c.args.energies.now (sym c.all_above.ensures ∙ c.if-all_above.false) in
-    record { value = told.0; energies_after = told.1 }
+    brought_in_order l (above_all l (sym c.all_above.ensures ∙ c.if-all_above.true)) (search rules) _ c.heap_sort.ensures

@@ -22,20 +22,20 @@ returns-then-n-le-SHORT t c =
 pub returns-then-budget-eq0 : goal.returns-then-budget-eq0
 returns-then-budget-eq0 t c =
     let done = c.order-then-budget-eq0 in
-    ordered_by c.args.part.now done.new.energies c.requires done.ensures.energies_after
+    ordered_by c.args.part.now c.requires done.new.energies done.ensures.energies_after
 
 pub split_sort-requires : goal.split_sort-requires
 split_sort-requires t c =
     let done = c.split-settled in (
       omega (arith, c.decreases),
-      all_take (λ x. T (above x)) done.result.from done.new.part (all_perm (λ x. T (above x)) done.ensures.same c.requires),
+      all_take (λ x. T (above x)) done.result.start done.new.part (all_perm (λ x. T (above x)) done.ensures.same c.requires),
     )
 
 pub split_sort-requires-2 : goal.split_sort-requires-2
 split_sort-requires-2 t c =
     let cut = c.split-settled in
-    let now = c.split_sort.new.part ++ drop cut.result.from cut.new.part in
-    let to = cut.result.to in
+    let now = c.split_sort.new.part ++ drop cut.result.start cut.new.part in
+    let to = cut.result.end in
     let first = first_side cut.ensures c.split_sort.new.part c.split_sort.ensures in (
       omega (arith, c.decreases),
       all_take (λ x. T (above x)) (length now - to) (drop to now)

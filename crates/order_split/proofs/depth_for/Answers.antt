@@ -1,17 +1,12 @@
--- `order_split::depth_for` meets its contract. The invariant: what is counted and the digits that are left make up all digits. Assumes nothing.
-use mathlib.Core.Path.{◌≡◌, ap}
+-- `order_split::depth_for` meets its contract: a number that is not zero has one binary digit more than its logarithm says. Assumes nothing.
 use native.Mathlib.Omega.{arith}
+use mathlib.Core.Path.{ap}
 use lib.Ieee.{size}
-use Rattle.order_split.proofs.Depth.{half_digits, no_digits, few_digits}
+use Rattle.order_split.proofs.Depth.{digits, no_digits}
 use Rattle.order_split.proofs.depth_for.Goals as goal
 
-pub overflow_add-depth : goal.overflow_add-depth
-overflow_add-depth c = omega (arith, few_digits c.args.n c.requires)
-
-pub loop-left-preserved : goal.loop-left-preserved
-loop-left-preserved c = omega (arith, half_digits c.loop-left.left c.loop-left-test.true)
+pub returns-then-n-eq0 : goal.returns-then-n-eq0
+returns-then-n-eq0 c = omega (arith, ap size c.if-n-eq0.true, no_digits)
 
 pub returns : goal.returns
-returns c =
-    let none : c.loop-left.left ≡ 0 = omega arith in
-    omega (arith, ap size none, no_digits)
+returns c = omega (arith, digits c.args.n c.ilog2.result c.ilog2.ensures.power_le c.ilog2.ensures.next_power_gt)

@@ -2,47 +2,41 @@
 -- Assumes nothing.
 use Prim.Native.Nat.{ℕ, ◌+◌, ◌-◌}
 use native.Mathlib.Omega.{arith}
-use mathlib.Core.Path.{◌≡◌, refl, subst}
+use borrow.Author.Rules.{rules}
+use mathlib.Core.Path.{◌≡◌, refl, sym, subst}
+use mathlib.Core.Bool.{true, false}
 use lib.Dec.{T}
+use lib.Ieee.{nan, le, lt}
 use lib.Ieee.Positive.{above}
-use Rattle.order_rules.specs.Arrangement.{Above}
+use Rattle.base_floats.proofs.Order.{lt→le}
+use Rattle.order_rules.proofs.Energies.{not_below_lem, not_at_most}
 use Rattle.order_rules.proofs.Perms.{all_perm}
 use Rattle.order_split.specs.Inner.{Parted}
 use Rattle.order_split.proofs.Parting.{parted, parted_equal}
 use Rattle.order_split.proofs.Joining.{parted_from, lowest_of}
 use Rattle.order_split.proofs.split.Goals as goal
-use Rattle.order_split.proofs.split.Goals.{After-exchange, Else-place-gt0}
+
+pub gather-place-requires-clause-splits : goal.gather-place-requires-clause-splits
+gather-place-requires-clause-splits c = record {
+  passed = λ x p a b h. let e : lt x p ≡ true = search rules in lt→le x p (subst T (sym e) tt);
+  failed = λ x p a b h. let e : lt x p ≡ false = search rules in not_below_lem x p a b e;
+}
 
 -- the pivot goes to the front, and then to its own place
-apart : (c : After-exchange)
-    → Parted (c.gather-place.result - 1) (c.gather-place.result - 1 + 1)
-    c.args.part.now c.exchange.new.part
-apart c = parted c.gather-place.ensures (omega arith) c.exchange.new.part c.exchange.ensures
-
-all_above_lem : (c : After-exchange) → Above c.exchange.new.part
-all_above_lem c = all_perm (λ x. T (above x)) (apart c).same c.requires.1
-
-pub exchange-requires : goal.exchange-requires
-exchange-requires c =
-    let cut = c.gather-place.ensures in
-    (omega (arith, cut.some, cut.within), omega (arith, cut.some, cut.within))
-
 pub returns-then-place-gt0 : goal.returns-then-place-gt0
-returns-then-place-gt0 c = apart (goal.at.returns-then-place-gt0 c).After-exchange
+returns-then-place-gt0 c = parted c.gather-place.ensures (omega arith) c.swap.new.self (c.swap.ensures.by_index.3 nan)
+
+pub gather-equal-requires-clause-splits : goal.gather-equal-requires-clause-splits
+gather-equal-requires-clause-splits c = record {
+  passed = λ x p a b h. let e : le x p ≡ true = search rules in subst T (sym e) tt;
+  failed = λ x p a b h. let e : le x p ≡ false = search rules in not_at_most x p a b e;
+}
 
 -- where nothing went before the pivot it stands first
-first : (c : Else-place-gt0)
-    → Parted 0 1 c.args.part.now
-    c.exchange.new.part
-first c =
-    let low = c.gather-place.result in
-    let none : low - 1 ≡ 0 = omega (arith, c.if-place-gt0.false) in
-    subst (λ (r : ℕ). Parted r (r + 1) c.args.part.now c.exchange.new.part) none (apart c.before.before.before.before)
-
-pub gather-equal-requires : goal.gather-equal-requires
-gather-equal-requires c = (omega (arith, (first (goal.at.gather-equal-requires c).Else-place-gt0).inside), all_above_lem (goal.at.gather-equal-requires c).After-exchange)
-
 pub returns : goal.returns
 returns c =
-    let equal = c.gather-equal.ensures in
-    parted_from (first (goal.at.returns c).Else-place-gt0).same (parted_equal equal (omega arith) (lowest_of (all_above_lem (goal.at.returns c).After-exchange) (first (goal.at.returns c).Else-place-gt0)) refl)
+    let place = c.gather-place.result - 1 in
+    let none : place ≡ 0 = omega arith in
+    let apart = parted c.gather-place.ensures (omega arith) c.swap.new.self (c.swap.ensures.by_index.3 nan) in
+    let first = subst (λ (r : ℕ). Parted r (r + 1) c.args.part.now c.swap.new.self) none apart in
+    parted_from first.same (parted_equal c.gather-equal.ensures (omega arith) (lowest_of (all_perm (λ x. T (above x)) first.same c.requires.1) first) refl)
