@@ -3,13 +3,12 @@
 use mathlib.Core.Path.{◌≡◌, refl, sym, ap, ◌∙◌, subst}
 use mathlib.Core.Bool.{Bool, true, false, not, and-eq-true_iff}
 use mathlib.Core.List.{List, [], ◌∷◌, ◌++◌}
-use Prim.Native.Nat.{ℕ, zero, suc, ◌+◌, ◌-◌, ◌≤◌, ◌<◌}
-use native.Mathlib.Numerals.{add-one}
+use Prim.Native.Nat.{ℕ, zero, suc, ◌+◌, ◌-◌, ◌≤◌}
 use native.Mathlib.Omega.{arith}
 use borrow.Author.Tests.{not-true, le-ltb, ltb-false}
 use lib.Dec.{ltb}
-use lib.ListN.{length, get_or, take, drop, length-take, length-drop}
-use lib.Seq.{drop-cons, take-take, take_all, drop-drop, take-nil}
+use lib.ListN.{length, take, drop, length-take, length-drop}
+use lib.Seq.{take-take, take_all, drop-drop, take-nil}
 use lib.Ieee.{Float}
 use Rattle.history_queue.specs.declared.Queue.{Queue}
 use Rattle.history_queue.specs.declared.Parts.{Parts}
@@ -26,16 +25,6 @@ drop_take (suc i) (suc n) (x ∷ l) = drop_take i n l ∙ ap (λ (k : ℕ). take
 
 pub slice_length : {A : Type 0} (from until : ℕ) (l : List A) → until ≤ length l → length (slice from until l) ≡ until - from
 slice_length from until l h = simp (length-take, length-drop) (omega arith)
-
--- the first of a slice, and one with none
-pub slice_next : {A : Type 0} (l : List A) (i until : ℕ) (d : A) → i < until → until ≤ length l → slice i until l ≡ get_or l i d ∷ slice (i + 1) until l
-slice_next {A} l i until d h g =
-    ap (λ (n : ℕ). take n (drop i l)) {x = until - i} {y = suc (until - (i + 1))} (omega arith)
-    ∙ ap (take (suc (until - (i + 1)))) (drop-cons l i d (omega arith))
-    ∙ ap {B = List A} (λ (n : ℕ). get_or l i d ∷ take (until - (i + 1)) (drop n l)) (sym (add-one i))
-
-pub slice_end : {A : Type 0} (l : List A) (i until : ℕ) → until ≤ i → slice i until l ≡ []
-slice_end l i until h = ap (λ (n : ℕ). take n (drop i l)) {x = until - i} {y = 0} (omega arith)
 
 -- ---- whether a store stands
 module _ (queue : Queue) (start places : ℕ) where

@@ -8,7 +8,7 @@ ghost use Rattle.history_queue.specs.Adding.{enqueued};
 use crate::Queue;
 use base_refusals::{Answer, Refusal};
 
-// The answer of `add`, with the queue as it is afterwards.
+// The answer of `add`, with the queue as it is afterwards. Beside each other and no Result, since a refusal too hands the queue back, as it was given.
 #[derive(Clone, Copy)]
 pub struct Queued {
     pub answer: Answer,

@@ -18,6 +18,7 @@ pub struct Queue {
 }
 
 // Where the energies that a queue holds stand in a slice of energies: the older ones from a place up to another, and after them the newer ones.
+// Four numbers and no two ranges, since the definitions of specs/Queue.antt name them so; nowhere is an answer, with nothing in either part.
 #[derive(Clone, Copy)]
 pub struct Parts {
     pub from: usize,

@@ -1,9 +1,10 @@
--- The entries of a set, gone through in order: the first of what is left, whether any reaches outside, whether every store is sound, and what they show.
+-- The entries of a set, gone through in order: whether every store is sound, what each keeps of a set that is not refused, and what they show.
 -- Each is by recursion on the entries, so that a turn of a loop settles the first and leaves the rest. Assumes nothing.
-use Rattle.std.proofs.Common.{◌≡◌, ◌+◌, ◌≤◌, ◌<◌, ℕ, zero, suc, Bool, true, false, ◌&&◌, ◌||◌, List, [], ◌∷◌, ◌++◌, length, get_or, drop, ltb, Float, refl, sym, ap, ◌∙◌}
-use mathlib.Core.Bool.{true≢false, and_assoc}
+use Rattle.std.proofs.Common.{◌≡◌, ◌+◌, ◌≤◌, ◌<◌, ℕ, zero, suc, Bool, true, false, ◌&&◌, ◌||◌, List, [], ◌∷◌, ◌++◌, length, get_or, drop, ltb, Float, refl, sym, ap, ◌∙◌, arith}
+use mathlib.Core.Bool.{true≢false, and_assoc, or-false}
 use native.Mathlib.Nat.{le_of_suc-le-suc, not-suc-le-zero}
-use borrow.Author.Tests.{ltb-false}
+use borrow.Author.Tests.{le-ltb, ltb-false}
+use Rattle.bins.specs.Bin.{bins}
 use Rattle.std.proofs.lemmas.List.{drop_more}
 use Rattle.std.proofs.Math.Seq.{take-length}
 use Rattle.std.proofs.Math.ListN.{drop_of_length-le}
@@ -45,22 +46,12 @@ unfolding none_below
 none_below_append [] b = refl
 none_below_append (x ∷ a) b = rw (none_below_append a b, and_assoc)
 
--- ---- reaching outside, and sound stores: the first of the entries that are left, and none left
-module _ (counters energies : ℕ) where
-  pub any_found : (l : List Entry) (i : ℕ) → i < length l → is_outside counters energies (get_or l i past_the_last) ≡ true
-      → any_outside counters energies (drop i l) ≡ true
-  unfolding any_outside
-  any_found l i h e = rw (drop_more l i past_the_last h, e)
+-- ---- whether a histogram reaches outside
+pub histogram_outside : (counters energies : ℕ) (entry : Entry) (start : ℕ) → entry.shape ≡ Histogram start
+    → is_outside counters energies entry ≡ ltb counters (start + bins)
+histogram_outside counters energies entry start e = rw (e, le-ltb energies 0 (omega arith)) (or-false (ltb counters (start + bins)))
 
-  pub any_passed : (l : List Entry) (i : ℕ) → i < length l → is_outside counters energies (get_or l i past_the_last) ≡ false
-      → any_outside counters energies (drop i l) ≡ any_outside counters energies (drop (i + 1) l)
-  unfolding any_outside
-  any_passed l i h e = rw (drop_more l i past_the_last h, e)
-
-  pub any_end : (l : List Entry) (i : ℕ) → length l ≤ i → any_outside counters energies (drop i l) ≡ false
-  unfolding any_outside
-  any_end l i h = rw (drop_of_length-le l h)
-
+-- ---- sound stores: the first of the entries that are left, and none left
 module _ (energies : List Float) where
   pub all_found : (l : List Entry) (i : ℕ) → i < length l → is_sound energies (get_or l i past_the_last) ≡ false → all_sound energies (drop i l) ≡ false
   unfolding all_sound

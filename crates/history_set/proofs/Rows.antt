@@ -1,8 +1,8 @@
 -- What refuses a set of histories, by its tests, and what a set that no row refuses keeps: few entries, none outside, every store sound. Assumes nothing.
 use mathlib.Core.Path.{◌≡◌}
 use mathlib.Core.Bool.{true, false}
-use Prim.Native.Nat.{◌≤◌, ◌<◌}
-use borrow.Author.Tests.{lt-ltb, le-ltb, ltb-false, not-false}
+use Prim.Native.Nat.{◌≤◌}
+use borrow.Author.Tests.{le-ltb, ltb-false, not-false}
 use lib.Dec.{ltb}
 use lib.ListN.{length}
 use Rattle.base_refusals.specs.Refusal.{number}
@@ -16,9 +16,6 @@ use Rattle.history_set.specs.Set.{most_histories, Histories, chosen, any_outside
 
 module _ (h : Histories) where
   -- ---- SET
-  pub too_many : most_histories < h.count → outside_set h ≡ true
-  too_many l = rw (lt-ltb most_histories h.count l)
-
   pub not_too_many : h.count ≤ most_histories → outside_set h ≡ any_outside (length h.counters) (length h.energies) (chosen h)
   not_too_many l = rw (le-ltb most_histories h.count l)
 

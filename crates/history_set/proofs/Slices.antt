@@ -12,7 +12,7 @@ use Rattle.bins.specs.Energy.{dropped}
 use Rattle.history_queue.specs.declared.Queue.{Queue}
 pub use Rattle.history_queue.specs.Queue.{slice}
 use Rattle.history_queue.specs.Queue.{suits, held_of, parts_of, in_parts}
-pub use Rattle.history_queue.proofs.Standing.{slice_length, slice_next, slice_end}
+pub use Rattle.history_queue.proofs.Standing.{slice_length}
 use Rattle.history_queue.proofs.Standing.{inside, held_in_parts}
 use Rattle.std.proofs.lemmas.List.{drop_more}
 use Rattle.std.proofs.Math.ListN.{drop_of_length-le}
