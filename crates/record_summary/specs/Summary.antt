@@ -1,27 +1,29 @@
 -- The figures of a report (01, 'Report program'): "Prints lines `blocks` (total), `low` and `high` (bins), `range` (high - low, tenths); for Nothing, `blocks`
 -- and `range none`; else `refused` and the number."
-use Rattle.std.specs.Prelude.{ℕ, ◌-◌, List, [], replicate, Float}
+use Rattle.std.specs.Prelude.{ℕ, ◌-◌, List, [], ◌∷◌, Float, Result, Ok, Err}
+use Rattle.base_refusals.specs.declared.Refusal.{Refusal}
+use Rattle.base_refusals.specs.Refusal.{number}
 use Rattle.base_refusals.specs.Outcome.{Outcome, went, refused, Question, answers, NoValues, Said, says, refusal}
 use Rattle.bins.specs.Bin.{bin_of}
 use Rattle.history_set.specs.declared.set.Shape.TheVariants.{Histogram}
 use Rattle.history_histogram.specs.Histogram.{empty}
-use Rattle.history_set.specs.Set.{most_histories, Histories, histories}
+use Rattle.history_set.specs.Set.{Histories, histories}
 use Rattle.range.specs.Range.{Span, found, nothing, not_a_number, range_of}
 use Rattle.range_histograms.specs.Counted.{blocks_in}
 use Rattle.record_histogram.specs.Record.{read_histogram}
 use Rattle.record_summary.specs.declared.Summary.{Summary}
-use Rattle.record_summary.specs.declared.Summary.TheVariants.{Ranged, Rangeless, Refused}
+use Rattle.record_summary.specs.declared.Summary.TheVariants.{Ranged, Rangeless}
 
 -- the lines of a report: the total, the bins of the two energies and the range; or the total alone
 pub data Figures : Type 0 where
   ranged : ℕ → ℕ → ℕ → ℕ → Figures
   rangeless : ℕ → Figures
 
--- what each case of `Summary` says
-abbrev pub said : Summary → Said Figures
-said (Ranged blocks low high range) = says (ranged blocks low high range)
-said (Rangeless blocks) = says (rangeless blocks)
-said (Refused n) = refusal n
+-- what an answer says
+abbrev pub said : Result Summary Refusal → Said Figures
+said (Ok (Ranged blocks low high range)) = says (ranged blocks low high range)
+said (Ok (Rangeless blocks)) = says (rangeless blocks)
+said (Err r) = refusal (number r)
 
 -- the bins of the range's energies, and how far they are apart. No histogram answers not-a-number
 abbrev pub figures_by : ℕ → Outcome (List Float) Span → Question Figures
@@ -32,7 +34,7 @@ figures_by blocks (refused r) = refused r
 
 -- a histogram as a set of one
 unfoldable pub alone : List ℕ → Histories
-alone counters = histories (replicate most_histories (record { shape = Histogram 0 })) 1 counters []
+alone counters = histories (record { shape = Histogram 0 } ∷ []) 1 counters []
 
 -- the figures of a histogram, its range by the question over it alone
 unfoldable pub figures_of : List ℕ → Question Figures

@@ -1,15 +1,15 @@
 // The figures of a report on one histogram's record: how many blocks, the bins of the range's two energies, and the range in tenths.
 #![tactic(auto)]
 
-ghost use Rattle.std.specs.Prelude.{◌≡◌, ◌-◌, length};
+ghost use Rattle.std.specs.Prelude.{◌≡◌, length};
 ghost use Rattle.base_refusals.specs.Outcome.{said_by};
 ghost use Rattle.bins.specs.Bin.{bins};
 ghost use Rattle.range_histograms.specs.Counted.{blocks_in};
 ghost use Rattle.record_summary.specs.Summary.{said, figures_of, summary_of};
 
-use base_refusals::Answer;
+use base_refusals::Refusal;
 use bins::Count;
-use history_set::set::{Entry, Shape};
+use history_set::set::{Entry, Histories, Shape};
 use range_ranks::spans::Span;
 
 // What a report says.
@@ -22,7 +22,6 @@ pub enum Summary {
         range: usize,
     },
     Rangeless(u64),
-    Refused(u8),
 }
 
 fn blocks_in(counters: &[Count]) -> u64
@@ -30,55 +29,48 @@ fn blocks_in(counters: &[Count]) -> u64
     ensures { result ≡ blocks_in counters.now }
 {
     let mut blocks: u64 = 0;
-    let mut bin = 0;
-    while bin < counters.len() {
-        blocks = blocks + bins::wide(counters[bin]);
-        bin += 1;
+    for count in counters {
+        blocks += bins::wide(*count);
     }
     blocks
 }
 
-fn between(low: usize, high: usize) -> usize
-    ensures { result ≡ high - low }
-{
-    if low <= high { high - low } else { 0 }
-}
-
 // The figures of a histogram, by the range's own question over it alone.
-fn figures(counters: &[Count]) -> Summary
+fn figures(counters: &[Count]) -> Result<Summary, Refusal>
     requires { length counters.now ≡ bins }
     ensures { said result ≡ said_by (figures_of counters.now) }
 {
     let blocks = blocks_in(counters);
     let entries = [Entry {
         shape: Shape::Histogram(0),
-    }; 16];
-    let energies = [0.0f64; 0];
-    let mut work = [0.0f64; 0];
-    match range::loudness_range(entries, 1, counters, &energies, &mut work) {
+    }];
+    let set = Histories {
+        entries: &entries,
+        counters,
+        energies: &[],
+    };
+    match range::loudness_range(set, &mut []) {
         Span::Found(low, high) => {
             let low = bins::search::find_histogram_index(low);
             let high = bins::search::find_histogram_index(high);
-            Summary::Ranged {
+            Ok(Summary::Ranged {
                 blocks,
                 low,
                 high,
-                range: between(low, high),
-            }
+                range: high.saturating_sub(low),
+            })
         }
-        Span::Nothing => Summary::Rangeless(blocks),
-        Span::NotANumber => Summary::Rangeless(blocks),
-        Span::Refused(number) => Summary::Refused(number),
+        Span::Nothing => Ok(Summary::Rangeless(blocks)),
+        Span::NotANumber => Ok(Summary::Rangeless(blocks)),
+        Span::Refused(refusal) => Err(refusal),
     }
 }
 
 // The figures of the histogram in a record, or what refuses the record.
-pub fn of_record(bytes: &[u8]) -> Summary
+pub fn of_record(bytes: &[u8]) -> Result<Summary, Refusal>
     ensures { said result ≡ said_by (summary_of bytes.now) }
 {
     let mut counters: [Count; bins::BINS] = [0; bins::BINS];
-    match record_histogram::reader::read_histogram(bytes, &mut counters) {
-        Answer::Done => figures(&counters),
-        Answer::Refused(number) => Summary::Refused(number),
-    }
+    record_histogram::reader::read_histogram(bytes, &mut counters)?;
+    figures(&counters)
 }

@@ -1,6 +1,7 @@
 -- `record_summary::figures` meets its contract, by each answer of the range. Assumes nothing.
 use mathlib.Core.Path.{sym}
 use mathlib.Core.List.{[]}
+use Rattle.base_refusals.specs.Refusal.{number}
 use Rattle.range_histograms.specs.Counted.{blocks_in}
 use Rattle.range.specs.Range.{found, nothing, not_a_number, range_of}
 use Rattle.record_summary.specs.Summary.{alone, figures_of}
@@ -11,7 +12,7 @@ pub returns-in-Found : goal.returns-in-Found
 unfolding figures_of alone
 returns-in-Found c =
     let counters = c.args.counters.now in
-    rw (c.between.ensures, c.find_histogram_index-low.ensures, c.find_histogram_index-high.ensures, c.blocks_in-blocks.ensures)
+    rw (c.saturating_sub.ensures, c.find_histogram_index-low.ensures, c.find_histogram_index-high.ensures, c.blocks_in-blocks.ensures)
     (sym (span_figures (blocks_in counters) (range_of (alone counters) []) (found c.in-Found.low c.in-Found.high) c.in-Found.ensures.0))
 
 pub returns-in-Nothing : goal.returns-in-Nothing
@@ -30,4 +31,4 @@ pub returns-in-Refused : goal.returns-in-Refused
 unfolding figures_of alone
 returns-in-Refused c =
     let counters = c.args.counters.now in
-    sym (refused_figures (blocks_in counters) (range_of (alone counters) []) c.in-Refused.number c.in-Refused.ensures.0)
+    sym (refused_figures (blocks_in counters) (range_of (alone counters) []) (number c.in-Refused.refusal) c.in-Refused.ensures.0)
