@@ -4,7 +4,7 @@ use mathlib.Core.Path.{◌≡◌, refl, sym, ap, ◌∙◌}
 use mathlib.Core.Logic.{◌⊎◌, inl, inr}
 use mathlib.Core.List.{List, [], ◌∷◌}
 use Prim.Native.Nat.{ℕ, zero, suc, ◌+◌, ◌*◌, ◌-◌, ◌≤◌, ◌<◌}
-use native.Mathlib.Nat.{not-suc-le-zero, le_of_suc-le-suc, add-zero, eq-or-lt_of_le, mul-le-mul_right}
+use native.Mathlib.Nat.{not-suc-le-zero, add-zero, eq-or-lt_of_le, mul-le-mul_right}
 use native.Mathlib.Omega.{arith}
 use lib.ListN.{length, get_or, take, set}
 use lib.Seq.{sets, get_or-set_other, get_or-set_same}
@@ -15,6 +15,7 @@ use Rattle.true_peak_state.specs.Channel.{Channel, hear, heard, past}
 use Rattle.base_floats.specs.Largest.{greatest, largest}
 use Rattle.base_floats.proofs.Magnitude.{largest_append}
 use Rattle.true_peak_scan.specs.Line.{back, phases_over}
+use Rattle.true_peak_scan.proofs.Windows.{back_length, back_at}
 use Rattle.samples.specs.Frames.{silence, column}
 use Rattle.samples.proofs.Columns.{within}
 use Rattle.true_peak_state.specs.TruePeak.{history_at}
@@ -100,19 +101,6 @@ moved_end old l n k h m =
     back_same l old 0 n past (λ j g. (let e : 0 + j ≡ j = omega arith in ap (λ (p : ℕ). get_or l p nan) e ∙ m.done j (omega arith)))
 
 -- ---- a channel's history, newest first in the memory, and its line, oldest first
-back_length : (l : List Float) (at n : ℕ) → length (back l at n) ≡ n
-unfolding back
-back_length l at zero = refl
-back_length l at (suc n) = ap suc (back_length l at n)
-
-back_at : (l : List Float) (at n i : ℕ) → i < n → get_or (back l at n) i nan ≡ get_or l (at + (n - suc i)) nan
-unfolding back
-back_at l at zero i h = absurd (not-suc-le-zero h)
-back_at l at (suc n) zero h = let e : n ≡ suc n - 1 = omega arith in ap (λ (p : ℕ). get_or l (at + p) nan) e
-back_at l at (suc n) (suc i) h =
-    let e : n - suc i ≡ suc n - suc (suc i) = omega arith in
-    back_at l at n i (le_of_suc-le-suc h) ∙ ap (λ (p : ℕ). get_or l (at + p) nan) e
-
 pub record Recalled (memory l : List Float) (c k : ℕ) : Type 0 where
   pub recalled : (j : ℕ) → j < k → get_or l (22 - j) nan ≡ get_or memory (c * past + j) nan
 

@@ -1,5 +1,4 @@
-pub mod Signs
-pub mod Zeros
-pub mod Loud
-pub mod Pairs
-pub mod Quarters
+pub mod Changed
+pub mod Windows
+pub mod Tops
+pub mod Frames

@@ -1,23 +1,11 @@
 -- `true_peak_interp::phases` meets its contract: each phase stands at its place, and the phases look at all samples. Assumes nothing.
-use Rattle.std.proofs.Common.{◌≡◌, ◌≢◌, ℕ, zero, suc, ◌+◌, ◌<◌, List, [], ◌∷◌, length, get_or, take, refl, sym, ap, arith, ◌∙◌, below_more, get_or-set_other, get_or-set_same}
+use Rattle.std.proofs.Common.{◌≡◌, ◌≢◌, ◌+◌, ◌<◌, List, length, take, sym, ap, arith, ◌∙◌, below_more, get_or-set_other, get_or-set_same}
 use lib.ListN.{length-set}
-use Rattle.std.specs.Float.{Float, nan}
+use Rattle.std.specs.Float.{Float}
 use lib.Seq.{take_all}
 use Rattle.true_peak_interp.specs.Phase.{phase, phases_from, phases_by}
+use Rattle.true_peak_interp.proofs.Sums.{each_phase}
 use Rattle.true_peak_interp.proofs.phases.Goals as goal
-
--- n floats, each the phase of its place, counted from f on
-each_phase : (taps : List Float) (factor : ℕ) (samples all : List Float) (f n : ℕ) → length all ≡ n → ((k : ℕ) → k < n → get_or all k nan ≡ phase taps factor samples (f + k)) → all ≡ phases_from taps factor samples f n
-unfolding phases_from
-each_phase taps factor samples [] f zero size at = refl
-each_phase taps factor samples [] f (suc n) size at = absurd (omega arith)
-each_phase taps factor samples (x ∷ all) f zero size at = absurd (omega arith)
-each_phase taps factor samples (x ∷ all) f (suc n) size at =
-    let first : x ≡ phase taps factor samples f = at 0 (omega arith) ∙ (let z : f + 0 ≡ f = omega arith in ap (phase taps factor samples) z) in
-    let rest : all ≡ phases_from taps factor samples (suc f) n =
-    each_phase taps factor samples all (suc f) n (omega arith)
-    (λ k h. (let e : f + suc k ≡ suc f + k = omega arith in at (suc k) (omega arith) ∙ ap (phase taps factor samples) e)) in
-    cc
 
 pub loop-f-preserved : goal.loop-f-preserved
 loop-f-preserved g c = let lt : c.loop-f.f < length c.loop-f.p-items = omega arith in (
