@@ -1,51 +1,55 @@
--- `seed_lent` meets its contract: the number of the check is the refusal, and past it each part leaves what the definitions say. Assumes nothing.
-use Prim.Native.Nat.{ℕ}
-use mathlib.Core.Path.{◌≡◌, sym, ap, ◌∙◌}
-use Rattle.base_refusals.specs.Outcome.{Outcome, said_by, kept_by, went, NoValues, done}
+-- `seed_lent` meets its contract: the check's refusal is the call's, and past it each part leaves what the definitions say. Assumes nothing.
+use Rattle.std.proofs.Common.{◌≡◌, ℕ, List, sym, ap, ◌∙◌, length}
+use Rattle.std.proofs.lemmas.Result.{err_from_is_err_and}
 use Rattle.base_refusals.specs.Rows.{number_of}
-use Rattle.base_refusals.proofs.Rows.{stopped, goes}
 use Rattle.filter_checks.specs.Calls as calls
-use Rattle.samples.specs.Kinds.{size_of, lent}
-use Rattle.filter_recurrence.specs.declared.states.State.{State}
-use Rattle.true_peak_state.specs.declared.TruePeak.{TruePeak}
-use Rattle.filter.specs.Filter.{Arrays, resting, moved, with_arrays}
-use Rattle.filter.specs.Call.{Call, Kept, seed_of, given, weighed_state}
-use Rattle.filter.proofs.Lent.{lent_size}
-use Rattle.filter.specs.Seed.{remembered_true_peaks, seed_rows, seeded}
-use Rattle.filter_seed.proofs.Parts.{memory_is, state_is, same_peaks}
+use Rattle.samples.specs.Kinds.{Samples, size_of}
+use Rattle.samples.specs.Sample.{samples_by}
+use Rattle.filter_recurrence.specs.declared.Coefficients.{Coefficients}
+use Rattle.filter.specs.declared.Switches.{Switches}
+use Rattle.filter.specs.Filter.{Arrays, resting, with_arrays}
+use Rattle.filter.specs.Call.{Call, seed_of}
+use Rattle.filter.specs.Seed.{seed_rows, remembered_true_peaks}
+use Rattle.filter_seed.proofs.Parts.{stays, moves, memory_on, memory_off, state_on, state_off}
 use Rattle.filter_seed.proofs.seed_lent.Goals as goal
+use Rattle.filter_seed.proofs.seed_lent.Goals.{then-switches, else-switches}
 
-abbrev leaves : Call → Outcome Kept NoValues
-leaves k = went (record { filter = moved k.filter (weighed_state k) k.filter.peaks (remembered_true_peaks k); dest = k.dest }) done
+abbrev call_of : ℕ → ℕ → Switches → Coefficients → Arrays → Samples → List ℕ → Call
+call_of channels rate switches coefficients arrays samples map = seed_of (with_arrays (resting channels rate switches coefficients) arrays) samples map
 
-numbered : (k : Call) (samples number : ℕ) → samples ≡ size_of k.samples → number ≡ number_of (calls.seed_rows k.filter.channels samples k.map) → number ≡ number_of (seed_rows k)
-numbered k samples number size said = said ∙ ap (λ (n : ℕ). number_of (calls.seed_rows k.filter.channels n k.map)) size
+-- the check goes by how many samples there are
+numbered : (k : Call) (samples : ℕ) → size_of k.samples ≡ samples → number_of (calls.seed_rows k.filter.channels samples k.map) ≡ number_of (seed_rows k)
+numbered k samples size = ap (λ (n : ℕ). number_of (calls.seed_rows k.filter.channels n k.map)) (sym size)
 
-pub returns-then-number-ne0 : goal.returns-then-number-ne0
-unfolding seeded
-returns-then-number-ne0 c =
+pub returns-in_err-refused_seed : goal.returns-in_err-refused_seed
+returns-in_err-refused_seed g c =
     let a = c.args in
-    let n = c.size_of-samples in
-    let m = c.refused_seed-number in
     let arrays : Arrays = record { state = a.state.now; peaks = a.peaks.now; memory = a.memory.now; true_peaks = a.true_peaks.now } in
-    let k = seed_of (with_arrays (resting a.channels a.rate a.switches (record { a = a.a.now; b = a.b.now })) arrays) (lent a.ints.now a.floats.now) a.map.now in
-    let f = stopped (leaves k) (seed_rows k) (given k) m.result (numbered k n.result m.result (n.ensures ∙ lent_size a.ints.now a.floats.now) m.ensures) c.if-number-ne0.true in
-    (f.says, ap (λ (k : Kept). k.filter) f.keeps)
+    let k = call_of a.channels a.rate a.switches (record { a = a.a.now; b = a.b.now }) arrays (g.S.Sample.lent a.samples.now) a.map.now in
+    let p = err_from_is_err_and c.from_residual.result c.from_residual.ensures.1 in
+    rw (p.1, p.2) (stays k c.in_err-refused_seed.field-0.0 (c.in_err-refused_seed.ensures ∙ numbered k (length a.samples.now) (g.met.S.Sample.sizes a.samples.now)))
 
-pub returns : goal.returns
-unfolding seeded
-returns c =
+pub returns-then-switches-2 : goal.returns-then-switches-2
+returns-then-switches-2 g c =
     let a = c.args in
-    let n = c.size_of-samples in
-    let m = c.refused_seed-number in
     let arrays : Arrays = record { state = a.state.now; peaks = a.peaks.now; memory = a.memory.now; true_peaks = a.true_peaks.now } in
-    let k = seed_of (with_arrays (resting a.channels a.rate a.switches (record { a = a.a.now; b = a.b.now })) arrays) (lent a.ints.now a.floats.now) a.map.now in
-    let ok = sym (numbered k n.result m.result (n.ensures ∙ lent_size a.ints.now a.floats.now) m.ensures) ∙ c.if-number-ne0.false in
-    let state = c.advance.ensures ∙ ap (λ (x : State). x.values) (state_is k ok) in
-    let memory = c.remember.ensures ∙ ap (λ (x : TruePeak). x.memory) (memory_is k ok) in
-    let trues = same_peaks k.filter.switches.true_peak k.filter.true_peak _ in
-    let z = sym (goes (leaves k) (seed_rows k) ok) in (
-      ap said_by z,
-      (λ i. with_arrays k.filter (record { state = state i; peaks = arrays.peaks; memory = memory i; true_peaks = trues i }))
-          ∙ ap (λ (o : Outcome Kept NoValues). (kept_by (given k) o).filter) z,
-    )
+    let k = call_of a.channels a.rate a.switches (record { a = a.a.now; b = a.b.now }) arrays (g.S.Sample.lent a.samples.now) a.map.now in
+    let ok = sym (c.in_ok-refused_seed.ensures ∙ numbered k (length a.samples.now) (g.met.S.Sample.sizes a.samples.now)) in
+    let memory : c.if-switches.memory ≡ (remembered_true_peaks k).memory = elim c.if-switches.branch [
+      | then-switches w ↦ memory_on k ok (samples_by g.S.Sample.in_f32 a.samples.now) (g.met.S.Sample.narrow a.samples.now) w.if-switches.true c.if-switches.memory (w.memory-is ∙ w.remember.ensures)
+      | else-switches w ↦ memory_off k w.if-switches.false c.if-switches.memory w.memory-is
+    ] in
+    let state = state_on k ok (samples_by g.S.Sample.in_f64 a.samples.now) (g.met.S.Sample.wide a.samples.now) c.if-switches-2.true c.advance.new.state c.advance.ensures in
+    moves k ok c.advance.new.state c.if-switches.memory state memory
+
+pub returns-else-switches-2 : goal.returns-else-switches-2
+returns-else-switches-2 g c =
+    let a = c.args in
+    let arrays : Arrays = record { state = a.state.now; peaks = a.peaks.now; memory = a.memory.now; true_peaks = a.true_peaks.now } in
+    let k = call_of a.channels a.rate a.switches (record { a = a.a.now; b = a.b.now }) arrays (g.S.Sample.lent a.samples.now) a.map.now in
+    let ok = sym (c.in_ok-refused_seed.ensures ∙ numbered k (length a.samples.now) (g.met.S.Sample.sizes a.samples.now)) in
+    let memory : c.if-switches.memory ≡ (remembered_true_peaks k).memory = elim c.if-switches.branch [
+      | then-switches w ↦ memory_on k ok (samples_by g.S.Sample.in_f32 a.samples.now) (g.met.S.Sample.narrow a.samples.now) w.if-switches.true c.if-switches.memory (w.memory-is ∙ w.remember.ensures)
+      | else-switches w ↦ memory_off k w.if-switches.false c.if-switches.memory w.memory-is
+    ] in
+    moves k ok a.state.now c.if-switches.memory (state_off k c.if-switches-2.false) memory
