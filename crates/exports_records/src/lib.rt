@@ -3,51 +3,55 @@
 
 ghost use Rattle.std.specs.Prelude.{◌≡◌};
 ghost use Rattle.base_refusals.specs.Outcome.{kept_by};
+ghost use Rattle.base_refusals.specs.Answer.{said};
 ghost use Rattle.base_refusals.specs.Codes.{code, value_or};
 ghost use Rattle.record_histogram.specs.Record.{read_histogram, read_third_histogram};
 ghost use Rattle.record_histogram.specs.Writing.{write_histogram, write_third_histogram};
 ghost use Rattle.history_queue.specs.Queue.{over};
-ghost use Rattle.record_layout.specs.Written.{said as said_written};
-ghost use Rattle.record_queue_reader.specs.QueueRecord.{read_queue, read_third_queue, said as said_received};
+ghost use Rattle.record_queue_reader.specs.QueueRecord.{read_queue, read_third_queue};
 ghost use Rattle.record_queue_writer.specs.Writing.{write_queue, write_third_queue};
 ghost use Rattle.record_conversion.specs.Conversion.{converted_asked};
 ghost use Rattle.exports_records.specs.Inner.{code_said, value_said};
 
+use base_refusals::Refusal;
 use base_refusals::codes::number_of;
 use bins::Count;
 use history_queue::Queue;
-use record_layout::Written;
-use record_queue_reader::Received;
 
 // ---- how an answer is told
 // How many bytes were written goes behind the pointer.
-fn tell_written(answer: Written, written: &mut usize) -> u8
-    ensures { (result ≡ code_said (said_written answer)) × (written.new ≡ value_said written.old (said_written answer)) }
+fn tell_written(answer: Result<usize, Refusal>, written: &mut usize) -> u8
+    ensures { (result ≡ code_said (said answer)) × (written.new ≡ value_said written.old (said answer)) }
 {
     match answer {
-        Written::Bytes(n) => {
+        Ok(n) => {
             *written = n;
             0
         }
-        Written::Refused(number) => number,
+        Err(refusal) => u8::from(refusal),
     }
 }
 
 // The queue's numbers go behind theirs.
-fn tell_queue(answer: Received, maximum: &mut usize, head: &mut usize, held: &mut usize) -> u8
-    ensures { (result ≡ code_said (said_received answer))
-        × (maximum.new ≡ (value_said (record { maximum = maximum.old; head = head.old; held = held.old }) (said_received answer)).maximum)
-        × (head.new ≡ (value_said (record { maximum = maximum.old; head = head.old; held = held.old }) (said_received answer)).head)
-        × (held.new ≡ (value_said (record { maximum = maximum.old; head = head.old; held = held.old }) (said_received answer)).held) }
+fn tell_queue(
+    answer: Result<Queue, Refusal>,
+    maximum: &mut usize,
+    head: &mut usize,
+    held: &mut usize,
+) -> u8
+    ensures { (result ≡ code_said (said answer))
+        × (maximum.new ≡ (value_said (record { maximum = maximum.old; head = head.old; held = held.old }) (said answer)).maximum)
+        × (head.new ≡ (value_said (record { maximum = maximum.old; head = head.old; held = held.old }) (said answer)).head)
+        × (held.new ≡ (value_said (record { maximum = maximum.old; head = head.old; held = held.old }) (said answer)).held) }
 {
     match answer {
-        Received::Held(queue) => {
+        Ok(queue) => {
             *maximum = queue.maximum;
             *head = queue.head;
             *held = queue.held;
             0
         }
-        Received::Refused(number) => number,
+        Err(refusal) => u8::from(refusal),
     }
 }
 

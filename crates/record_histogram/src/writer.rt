@@ -2,6 +2,7 @@
 ghost use Rattle.std.specs.Prelude.{◌≡◌, ◌*◌, length};
 ghost use Rattle.base_refusals.specs.Outcome.{said_by, kept_by};
 ghost use Rattle.base_refusals.specs.Answer.{said};
+ghost use Rattle.base_fields.specs.Field.{low_bytes, bytes_of};
 ghost use Rattle.bins.specs.Bin.{bins};
 ghost use Rattle.record_layout.specs.Layout.{count_width, all_bytes};
 ghost use Rattle.record_histogram.specs.Writing.{write_counters, write_histogram, write_third_histogram};
@@ -15,6 +16,16 @@ use record_layout::{Kind, Model};
 // The bytes of a whole record.
 const RECORD: usize = record_layout::LENGTH_BYTES + record_layout::HISTOGRAM_LENGTH as usize;
 
+// The word whose bytes low byte first are this one's in an order. Bytes that are written low byte first are one store.
+fn low_first(order: Order, word: u32) -> u32
+    ensures { low_bytes count_width result ≡ bytes_of order count_width word }
+{
+    match order {
+        Order::LowFirst => word,
+        Order::HighFirst => base_fields::words::turned_word(word),
+    }
+}
+
 // Each word's number goes into its four bytes.
 fn write_words(order: Order, words: &[u32], fields: &mut [u8])
     requires { length fields.old ≡ count_width * length words.now }
@@ -22,7 +33,8 @@ fn write_words(order: Order, words: &[u32], fields: &mut [u8])
 {
     for (i, word) in words.iter().enumerate() {
         let at = COUNT * i;
-        base_fields::put_number(order, &mut fields[at..at + COUNT], u64::from(*word));
+        let number = u64::from(low_first(order, *word));
+        base_fields::put_number(Order::LowFirst, &mut fields[at..at + COUNT], number);
     }
 }
 

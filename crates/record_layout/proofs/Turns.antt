@@ -10,7 +10,8 @@ use borrow.Rule.Slice.PartMut.{put_mid}
 use lib.Seq.{sets, sets-eq, length-sets, drop-cons, drop-drop, take-suc-set, take_all}
 use lib.ListN.{drop_of_length-le}
 use Rattle.base_fields.specs.declared.Order.{Order}
-use Rattle.base_fields.specs.Field.{number_in, bytes_of}
+use Rattle.base_fields.specs.declared.Order.TheVariants.{LowFirst}
+use Rattle.base_fields.specs.Field.{low_bytes, number_in, bytes_of}
 use Rattle.base_fields.proofs.Orders.{bytes_length, number_within}
 use Rattle.record_layout.specs.Layout.{numbers_in, all_bytes}
 
@@ -81,6 +82,11 @@ field_put order out part at width n number w h e =
     let l : length (take n (drop at out)) ≡ width = simp (length-take, length-drop) (omega arith) in
     let p : part ≡ bytes_of order width number = e ∙ ap (λ (k : ℕ). bytes_of order k number) l in
     part_put out part at n (ap length p ∙ bytes_length order width number ∙ sym w) (omega arith) ∙ ap (sets out at) p
+
+-- the same of a number whose bytes low byte first are those of another in an order
+pub low_put : (order : Order) (out part : List ℕ) (at width n low number : ℕ) → n ≡ width → at + width ≤ length out
+    → part ≡ low_bytes (length (take n (drop at out))) low → low_bytes width low ≡ bytes_of order width number → put_mid at n out part ≡ sets out at (bytes_of order width number)
+low_put order out part at width n low number w h e same = field_put LowFirst out part at width n low w h e ∙ ap (sets out at) same
 
 -- all places are written
 pub sets_whole : {A : Type 0} (out all : List A) → length out ≡ length all → sets out 0 all ≡ all

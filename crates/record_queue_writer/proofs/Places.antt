@@ -1,22 +1,19 @@
 -- Where bytes go: the patterns of energies one after the other, and of two parts of a store. Assumes nothing.
 use mathlib.Core.Path.{◌≡◌, refl, sym, ap, ◌∙◌}
 use mathlib.Core.List.{List, [], ◌∷◌, ◌++◌, append-nil}
-use Prim.Native.Nat.{ℕ, zero, suc, ◌+◌, ◌-◌, ◌*◌, ◌≤◌, ◌<◌}
+use Prim.Native.Nat.{ℕ, zero, suc, ◌+◌, ◌-◌, ◌<◌}
 use native.Mathlib.Nat.{not-suc-le-zero, le_of_suc-le-suc}
 use native.Mathlib.Omega.{arith}
 use borrow.Rule.Slice.PartMut.{put_mid}
-use lib.ListN.{length, get_or, take, drop, length-drop, drop_of_length-le}
+use lib.ListN.{length, get_or, drop, length-drop, drop_of_length-le}
 use lib.Seq.{take_at}
 use lib.Ieee.{Float, nan, to_bits, binary64}
 use Rattle.history_queue.specs.declared.Queue.{Queue}
 use Rattle.history_queue.specs.Queue.{over, held_of}
 use Rattle.history_queue.proofs.Held.{held_count}
 use Rattle.base_fields.specs.declared.Order.{Order}
-use Rattle.base_fields.specs.Field.{bytes_of}
-use Rattle.base_fields.proofs.Orders.{bytes_length}
 use Rattle.record_layout.specs.Layout.{all_bytes}
-use Rattle.record_layout.proofs.Runs.{all_length, all_append}
-use Rattle.record_layout.proofs.Turns.{sets_append}
+use Rattle.record_layout.proofs.Runs.{all_append}
 use Rattle.record_queue_reader.specs.QueueRecord.{patterns_of}
 
 -- ---- patterns

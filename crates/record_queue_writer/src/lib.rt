@@ -4,6 +4,7 @@
 ghost use Rattle.std.specs.Prelude.{◌≡◌, true, ◌*◌, length};
 ghost use Rattle.base_refusals.specs.Outcome.{said_by, kept_by};
 ghost use Rattle.base_refusals.specs.Answer.{said};
+ghost use Rattle.base_fields.specs.Field.{low_bytes, bytes_of};
 ghost use Rattle.history_queue.specs.Queue.{over, suits, held_of};
 ghost use Rattle.record_layout.specs.Layout.{energy_width, all_bytes};
 ghost use Rattle.record_queue_reader.specs.QueueRecord.{patterns_of};
@@ -15,6 +16,16 @@ use history_queue::Queue;
 use record_layout::{Kind, Model};
 use record_queue_reader::{ENERGIES_AT, ENERGY, HELD_AT, MAXIMUM_AT};
 
+// The pattern whose bytes low byte first are this one's in an order. Bytes that are written low byte first are one store.
+fn low_first(order: Order, pattern: u64) -> u64
+    ensures { low_bytes energy_width result ≡ bytes_of order energy_width pattern }
+{
+    match order {
+        Order::LowFirst => pattern,
+        Order::HighFirst => base_fields::words::turned_double_word(pattern),
+    }
+}
+
 // Each energy's pattern goes into its eight bytes.
 fn write_energies(order: Order, energies: &[f64], fields: &mut [u8])
     requires { length fields.old ≡ energy_width * length energies.now }
@@ -22,11 +33,8 @@ fn write_energies(order: Order, energies: &[f64], fields: &mut [u8])
 {
     for (i, energy) in energies.iter().enumerate() {
         let at = ENERGY * i;
-        base_fields::put_number(
-            order,
-            &mut fields[at..at + ENERGY],
-            base_floats::pattern_of(*energy),
-        );
+        let number = low_first(order, base_floats::pattern_of(*energy));
+        base_fields::put_number(Order::LowFirst, &mut fields[at..at + ENERGY], number);
     }
 }
 

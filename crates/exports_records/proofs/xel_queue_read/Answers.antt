@@ -1,7 +1,8 @@
 -- `exports_records::xel_queue_read` meets its contract: the answer is told as the C interface tells it, the queue's numbers one by one. Assumes nothing.
 use mathlib.Core.Path.{ap, ◌∙◌}
 use Rattle.history_queue.specs.declared.Queue.{Queue}
-use Rattle.record_queue_reader.specs.QueueRecord.{read_queue, said}
+use Rattle.record_queue_reader.specs.QueueRecord.{read_queue}
+use Rattle.base_refusals.specs.Answer.{said}
 use Rattle.exports_records.proofs.Told.{code_told, value_told}
 use Rattle.exports_records.proofs.xel_queue_read.Goals as goal
 

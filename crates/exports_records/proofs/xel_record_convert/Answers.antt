@@ -1,7 +1,7 @@
 -- `exports_records::xel_record_convert` meets its contract: the answer is told as the C interface tells it. Assumes nothing.
 use mathlib.Core.Path.{◌∙◌}
 use Rattle.record_conversion.specs.Conversion.{converted_asked}
-use Rattle.record_layout.specs.Written.{said}
+use Rattle.base_refusals.specs.Answer.{said}
 use Rattle.exports_records.proofs.Told.{code_told, value_told}
 use Rattle.exports_records.proofs.xel_record_convert.Goals as goal
 

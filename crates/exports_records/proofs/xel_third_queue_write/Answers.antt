@@ -2,7 +2,7 @@
 use mathlib.Core.Path.{◌∙◌}
 use Rattle.history_queue.specs.Queue.{over}
 use Rattle.record_queue_writer.specs.Writing.{write_third_queue}
-use Rattle.record_layout.specs.Written.{said}
+use Rattle.base_refusals.specs.Answer.{said}
 use Rattle.exports_records.proofs.Told.{code_told, value_told}
 use Rattle.exports_records.proofs.xel_third_queue_write.Goals as goal
 

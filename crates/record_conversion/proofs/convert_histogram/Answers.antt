@@ -4,12 +4,12 @@ use mathlib.Core.List.{List, [], ◌∷◌}
 use Prim.Native.Nat.{ℕ, ◌-◌}
 use native.Mathlib.Omega.{arith}
 use lib.Seq.{sets}
-use Rattle.base_refusals.specs.Outcome.{says, done}
+use Rattle.base_refusals.specs.Outcome.{says}
 use Rattle.base_refusals.specs.Rows.{number_of}
 use Rattle.bins.specs.Bin.{bins}
 use Rattle.record_layout.specs.declared.Model.{Model}
 use Rattle.record_layout.specs.declared.Kind.TheVariants.{Histogram}
-use Rattle.record_layout.specs.Layout.{head_width, count_width, histogram_length, body_in, frame_rows, frame_of, with_head, room_row, written_to}
+use Rattle.record_layout.specs.Layout.{head_width, count_width, histogram_length, body_in, frame_rows, with_head, room_row, written_to}
 use Rattle.record_histogram.proofs.Cases.{framed_length}
 use Rattle.record_conversion.specs.Conversion.{converted_record, converted}
 use Rattle.record_conversion.specs.Inner.{each_turned}

@@ -4,12 +4,11 @@ use mathlib.Core.List.{List, ◌++◌}
 use Prim.Native.Nat.{ℕ, ◌+◌, ◌-◌, ◌*◌}
 use native.Mathlib.Omega.{arith}
 use lib.ListN.{length, drop, length-append, length-take, length-drop}
-use lib.Seq.{sets}
 use lib.Ieee.{Float}
 use Rattle.history_queue.specs.declared.Parts.{Parts}
 use Rattle.history_queue.specs.Queue.{over, held_of, slice, in_parts}
 use Rattle.history_queue.proofs.Standing.{slice_length, Within, parts_within, held_in_store}
-use Rattle.record_layout.specs.Layout.{energy_width, least_length, all_bytes}
+use Rattle.record_layout.specs.Layout.{all_bytes}
 use Rattle.record_layout.proofs.Runs.{all_length}
 use Rattle.record_layout.proofs.Turns.{rest_is}
 use Rattle.record_queue_reader.specs.QueueRecord.{patterns_of}

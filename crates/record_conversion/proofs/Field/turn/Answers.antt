@@ -1,10 +1,10 @@
 -- `Field::turn` meets its contract: a number read high byte first and written low byte first is its field turned round. The invariant: what is left to turn
 -- gives what all of it gives. Assumes nothing.
-use Rattle.std.proofs.Common.{◌≡◌, ◌∙◌, ◌+◌, ◌-◌, ◌*◌, ℕ, List, reverse, refl, sym, ap, length, take, drop, length-drop, arith}
+use Rattle.std.proofs.Common.{◌≡◌, ◌∙◌, ◌+◌, ◌-◌, ◌*◌, ℕ, List, reverse, sym, ap, take, drop, length-drop, arith}
 use Rattle.std.proofs.lemmas.List.Edits.{sets}
 use lib.Seq.{get_or-drop}
 use Rattle.base_fields.specs.declared.Order.TheVariants.{LowFirst, HighFirst}
-use Rattle.base_fields.specs.Field.{number_in, bytes_of}
+use Rattle.base_fields.specs.Field.{bytes_of}
 use Rattle.base_fields.proofs.Orders.{number_within, turned_field}
 use Rattle.record_layout.proofs.Turns.{field_put, sets_whole}
 use Rattle.record_conversion.specs.Inner.{width_of, each_turned}

@@ -1,5 +1,5 @@
 -- `reader::read_words` meets its contract. The invariant: the words read and those in the bytes that are left are all of them. Assumes nothing.
-use Rattle.std.proofs.Common.{◌≡◌, ◌+◌, ◌-◌, ◌*◌, ◌/◌, ◌∙◌, List, [], ℕ, sym, ap, length, get_or, take, drop, length-set, arith}
+use Rattle.std.proofs.Common.{◌+◌, ◌-◌, ◌*◌, ◌/◌, ◌∙◌, sym, length, drop, length-set, arith}
 use Rattle.record_layout.proofs.Turns.{all_left, read_turn, read_end, chunk_number}
 use Rattle.record_histogram.proofs.reader.read_words.Goals as goal
 

@@ -1,0 +1,8 @@
+-- `record_queue_writer::low_first` meets its contract: a turned number's bytes, low byte first, are the number's, high byte first. Assumes nothing.
+use Rattle.std.proofs.Common.{◌∙◌, ap}
+use Rattle.base_fields.specs.Field.{low_bytes}
+use Rattle.base_fields.proofs.Orders.{turned_low}
+use Rattle.record_queue_writer.proofs.low_first.Goals as goal
+
+pub returns-in-HighFirst : goal.returns-in-HighFirst
+returns-in-HighFirst c = rw c.in-HighFirst.is (ap (low_bytes 8) c.turned_double_word.ensures ∙ turned_low 8 c.args.pattern)
