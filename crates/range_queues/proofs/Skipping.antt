@@ -4,11 +4,15 @@ use mathlib.Core.Path.{◌≡◌, refl, sym, ap, ◌∙◌}
 use mathlib.Core.Bool.{Bool, true, false, not, ◌&&◌, cond, true≢false}
 use mathlib.Core.List.{List, [], ◌∷◌, ◌++◌}
 use Prim.Native.Nat.{ℕ, suc, ◌+◌, ◌-◌, ◌≤◌, ◌<◌}
-use native.Mathlib.Numerals.{add-one}
+use native.Mathlib.Numerals.{add-one, one-add}
 use native.Mathlib.Omega.{arith}
 use borrow.Author.Tests.{eq-eqb, ne_eqb}
 use lib.ListN.{length, get_or, take, drop, drop_of_length-le}
-use Rattle.std.proofs.Common.{take-append-drop}
+use Rattle.std.proofs.Common.{take-append-drop, Option, MatchOption, HoldsAt}
+use Rattle.std.specs.Option.{unwrap_or}
+use Rattle.std.specs.List.{prefix_len, AllWithin}
+use Rattle.std.proofs.lemmas.Iterator.{index_from_first}
+use Rattle.std.proofs.lemmas.List.Sums.{prefix_len-le-length}
 use borrow.Rule.Slice.PartMut.{Post-is}
 use lib.Seq.{drop-cons, get_or-drop}
 use lib.Ieee.{Float, nan, lt}
@@ -18,25 +22,29 @@ use Rattle.range_ranks.specs.Ranks.{low_rank, high_rank}
 use Rattle.range_ranks.specs.Span.{found, nothing, gate_energy}
 use Rattle.range_queues.specs.Rising.{from_gate, at_ranks}
 
-module _ (gate : Float) (rising : List Float) (i : ℕ) where
-  next : (d : Float) (below : Bool) → i < length rising → lt (get_or rising i d) gate ≡ below
-      → from_gate gate (drop i rising) ≡ cond (not below) (drop i rising) (from_gate gate (drop (i + 1) rising))
-  unfolding from_gate
-  next d below h e =
-      ap (from_gate gate) (drop-cons rising i d h)
-      ∙ ap (λ (b : Bool). cond (not b) (get_or rising i d ∷ drop (suc i) rising) (from_gate gate (drop (suc i) rising))) e
-      ∙ ap (λ (l : List Float). cond (not below) l (from_gate gate (drop (suc i) rising))) (sym (drop-cons rising i d h))
-      ∙ ap (λ (n : ℕ). cond (not below) (drop i rising) (from_gate gate (drop n rising))) (sym (add-one i))
+-- ---- the leading energies that pass the test are those that are skipped
+module _ (gate : Float) where
+  pub below : List Float → ℕ
+  below l = prefix_len (λ x. lt x gate) l
 
-  pub skip_on : (d : Float) → i < length rising → lt (get_or rising i d) gate ≡ true → from_gate gate (drop (i + 1) rising) ≡ from_gate gate (drop i rising)
-  skip_on d h e = sym (next d true h e)
+  pub first_left : (l : List Float) (r : Option ℕ)
+      → MatchOption r (AllWithin (λ x. lt x gate ≡ true) l 0 (length l)) (λ i. (i < length l) × HoldsAt (λ x. lt x gate ≡ false) l i × AllWithin (λ x. lt x gate ≡ true) l 0 i)
+      → below l ≡ unwrap_or r (length l)
+  unfolding below
+  first_left = index_from_first below (λ x. lt x gate ≡ false) (λ x. lt x gate ≡ true) refl (λ x l e. rw e) (λ x l e. rw e (omega arith))
 
-  pub skip_here : (d : Float) → i < length rising → lt (get_or rising i d) gate ≡ false → drop i rising ≡ from_gate gate (drop i rising)
-  skip_here d h e = sym (next d false h e)
+  pub below_within : (l : List Float) → below l ≤ length l
+  unfolding below
+  below_within l = prefix_len-le-length (λ x. lt x gate) l
 
-  pub skip_end : length rising ≤ i → drop i rising ≡ from_gate gate (drop i rising)
-  unfolding from_gate
-  skip_end h = drop_of_length-le rising h ∙ sym (ap (from_gate gate) (drop_of_length-le rising h))
+  pub below_skipped : (l : List Float) → drop (below l) l ≡ from_gate gate l
+  unfolding below from_gate
+  below_skipped [] = refl
+  below_skipped (x ∷ l) = go (lt x gate) (below_skipped l)
+    where
+      go : (b : Bool) → drop (below l) l ≡ from_gate gate l → drop (cond b (1 + below l) 0) (x ∷ l) ≡ cond (not b) (x ∷ l) (from_gate gate l)
+      go true e = rw one-add e
+      go false e = refl
 
 -- ---- a part whose energies are all below the gate, before the rest
 both_true : (a b : Bool) → a && b ≡ true → (a ≡ true) × (b ≡ true)

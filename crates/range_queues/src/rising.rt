@@ -33,7 +33,15 @@ fn all_below(part: &[f64], gate: f64) -> bool
     fine
 }
 
-// How many leading energies are below the gate: whole stretches first, then one by one. Both loops stop inside the list, so they go by a place.
+// How many leading energies are below the gate.
+fn leading(energies: &[f64], gate: f64) -> usize
+    ensures { (result ≤ length energies.now) × (drop result energies.now ≡ from_gate gate energies.now) }
+{
+    let first = energies.iter().position(|energy| !(*energy < gate));
+    first.unwrap_or(energies.len())
+}
+
+// The same of energies in rising order: whole stretches first, then one by one. The stretches stop inside the list, so they go by a place.
 fn skipped(rising: &[f64], gate: f64) -> usize
     ensures { (result ≤ length rising.now) × (drop result rising.now ≡ from_gate gate rising.now) }
 {
@@ -41,14 +49,7 @@ fn skipped(rising: &[f64], gate: f64) -> usize
     while rising.len() - i > STRETCH && all_below(&rising[i..i + STRETCH], gate) {
         i += STRETCH;
     }
-    while i < rising.len() {
-        if rising[i] < gate {
-            i += 1;
-        } else {
-            return i;
-        }
-    }
-    i
+    i + leading(&rising[i..], gate)
 }
 
 // The range of energies in rising order.

@@ -1,6 +1,6 @@
 -- `range_queues::copy_all` meets its contract. The invariant: what the entries from here on hold, stored from `at` on, gives what all of it gives.
 -- Assumes nothing.
-use Rattle.std.proofs.Common.{length, get_or, refl, sym, ap, ◌∙◌, arith}
+use Rattle.std.proofs.Common.{length, get_or, sym, ap, ◌∙◌, arith}
 use lib.Seq.{sets, length-sets}
 use Rattle.history_set.proofs.Entries.{past_the_last, sound_at}
 use Rattle.range_queues.specs.Inner.{held_at}

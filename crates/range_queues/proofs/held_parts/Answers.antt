@@ -1,9 +1,8 @@
 -- `range_queues::held_parts` meets its contract: the parts of a queue are within the energies. Assumes nothing.
-use Rattle.std.proofs.Common.{◌≡◌, length, sym, ap, ◌∙◌, arith}
+use Rattle.std.proofs.Common.{length, ap, arith}
 use Rattle.history_queue.specs.declared.Parts.{Parts}
 use Rattle.history_queue.specs.Queue.{in_parts}
 use Rattle.history_queue.proofs.Standing.{Within, parts_within, slice_length}
-use Rattle.range_queues.specs.Inner.{parts_at}
 use Rattle.range_queues.proofs.held_parts.Goals as goal
 use Rattle.range_queues.proofs.held_parts.Goals.{After-parts-parts}
 

@@ -1,6 +1,6 @@
 -- `range_queues::look_at` meets its contract. The invariant: what was seen so far, and then of the energies from here on, is what is seen of all.
 -- Assumes nothing.
-use Rattle.std.proofs.Common.{◌+◌, not, ◌&&◌, get_or, drop, length, Float, sym, ap, refl, ◌∙◌, arith}
+use Rattle.std.proofs.Common.{◌+◌, not, ◌&&◌, get_or, drop, Float, sym, ap, refl, ◌∙◌, arith}
 use lib.Ieee.{nan, lt}
 use Rattle.history_set.specs.Set.{none_below}
 use Rattle.history_set.proofs.Slices.{fine_turn, fine_end}
