@@ -1,7 +1,7 @@
 -- 0 is the number of no refusal, so an operation may answer it for none. Assumes nothing.
 use mathlib.Core.Path.{◌≡◌}
 use native.Mathlib.Omega.{arith}
-use Rattle.base_refusals.specs.Refusal.{Refusal, number, }
+use Rattle.base_refusals.specs.Refusal.{Refusal, number}
 use Rattle.base_refusals.specs.declared.Refusal.TheVariants.{CHANNELS, SAMPLES, MAP, DEST, STORE, FULL, SET, MODE, NONE, NAN, SCALE, LENGTH, KIND, CONTENT, ROOM}
 
 pub no_number : (r : Refusal) → number r ≡ 0 → ⊥

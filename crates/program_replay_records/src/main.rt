@@ -44,7 +44,12 @@ fn count_at(case: &[u8], at: usize) -> usize {
 }
 
 // Whether a writer answered the refusal and the number of bytes that stand at two places of the case.
-fn written_same(case: &[u8], refusal_at: usize, bytes_at: usize, written: Result<usize, Refusal>) -> bool {
+fn written_same(
+    case: &[u8],
+    refusal_at: usize,
+    bytes_at: usize,
+    written: Result<usize, Refusal>,
+) -> bool {
     let refusal = base_fields::number_at(case, refusal_at, 2);
     match written {
         Ok(bytes) => refusal == 0 && bytes == count_at(case, bytes_at),

@@ -33,4 +33,3 @@ fn report_one(rt: &impl Print, list: &mut impl Read) -> io::Result<bool> {
     println!(rt; "{report}")?;
     Ok(true)
 }
-

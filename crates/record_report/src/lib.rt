@@ -20,12 +20,14 @@ impl fmt::Display for Report {
 
     fn fmt<W: fmt::Write>(&self, f: &mut fmt::Formatter<W>) -> fmt::Result {
         match self.summary {
-            Ok(Summary::Ranged {
-                blocks,
-                low,
-                high,
-                range,
-            }) => writeln!(f, "blocks {blocks}\nlow {low}\nhigh {high}\nrange {range}"),
+            Ok(
+                Summary::Ranged {
+                    blocks,
+                    low,
+                    high,
+                    range,
+                },
+            ) => writeln!(f, "blocks {blocks}\nlow {low}\nhigh {high}\nrange {range}"),
             Ok(Summary::Rangeless(blocks)) => writeln!(f, "blocks {blocks}\nrange none"),
             Err(refusal) => writeln!(f, "refused {}", refusal as u8),
         }

@@ -21,6 +21,6 @@ each_phase taps factor samples (x ∷ all) f (suc n) size at =
     let z : f + 0 ≡ f = omega arith in
     let first : x ≡ phase taps factor samples f = at 0 (omega arith) ∙ ap (phase taps factor samples) z in
     let rest : all ≡ phases_from taps factor samples (suc f) n =
-        each_phase taps factor samples all (suc f) n (omega arith)
-        (λ k h. let e : f + suc k ≡ suc f + k = omega arith in at (suc k) (omega arith) ∙ ap (phase taps factor samples) e) in
+    each_phase taps factor samples all (suc f) n (omega arith)
+    (λ k h. let e : f + suc k ≡ suc f + k = omega arith in at (suc k) (omega arith) ∙ ap (phase taps factor samples) e) in
     cc
