@@ -1,39 +1,46 @@
--- The state of a call that goes run by run: the frames before a run, and then the run's own, are all of them. Assumes nothing.
-use Prim.Native.Nat.{ℕ, ◌+◌, ◌/◌, ◌≤◌, ◌<◌}
-use native.Mathlib.Omega.{arith}
-use mathlib.Core.Path.{◌≡◌, refl, ap, sym, ◌∙◌}
-use mathlib.Core.List.{List}
-use lib.ListN.{length}
+-- The state of a call that goes run by run: the frames of a run, and then those that follow, are all of them. Assumes nothing.
+use Rattle.std.proofs.Common.{◌≡◌, ℕ, ◌*◌, ◌/◌, ◌≤◌, ◌<◌, List, ◌++◌, length, sym, ap, ◌∙◌, arith}
+use native.Mathlib.Nat.{mul-div_cancel}
 use lib.Ieee.{Float}
 use Rattle.samples.specs.Frames.{column, channel_of, most_channels}
-use Rattle.samples.proofs.Cutting.{Next, joined, frames_are}
+use Rattle.samples.proofs.Cutting.{frames_are}
+use Rattle.samples.proofs.Parts.{cut_column}
 use Rattle.filter_recurrence.specs.Recurrence.{after, flushed}
 use Rattle.filter_recurrence.proofs.Moving.{after_append, none_after}
+use Rattle.filter_recurrence.specs.declared.Memory.{Memory}
 use Rattle.filter_recurrence.specs.Channels.{Weighing, state_places, memory_of, with_memory, over_used, state_after}
 use Rattle.filter_recurrence.proofs.Each.{each_same, each_none}
 use Rattle.filter_recurrence.proofs.Memories.{with_own, over_twice}
 
--- ---- the runs
+-- channel k's memory after its samples in a list of whole frames
+abbrev pub hears : List Float → ℕ → List Float → ℕ → Memory → Memory
+hears a channels samples k m = after a m (column samples k channels (length samples / channels))
 
--- no frames
-pub run_none : (a samples : List Float) (channels : ℕ) (map : List ℕ) (v : List Float) → over_used (λ k m. after a m (column samples k channels 0)) map 0 v ≡ v
-run_none a samples channels map v =
-    each_none (λ k u. with_memory u k (after a (memory_of u k) (column samples k channels 0)))
-    (λ k u. ap (with_memory u k) (none_after a (memory_of u k) samples k channels 0 refl) ∙ with_own u k) map 0 v
+-- ---- every used channel, run by run
 
--- a run more
-pub run_more : (a src stretch : List Float) (channels done count : ℕ) → Next src stretch channels done count → (map : List ℕ) (v : List Float) → length map ≡ channels → channels ≤ most_channels → length v ≡ state_places
-    → over_used (λ k m. after a m (column stretch k channels count)) map 0 (over_used (λ k m. after a m (column src k channels done)) map 0 v)
-    ≡ over_used (λ k m. after a m (column src k channels (done + count))) map 0 v
-run_more a src stretch channels done count next map v mapped few l =
-    over_twice (λ k m. after a m (column src k channels done)) (λ k m. after a m (column stretch k channels count)) map v (omega arith) l
+-- no whole frame is left
+pub run_none : (a samples : List Float) (channels : ℕ) (map : List ℕ) (v : List Float) → length samples / channels ≡ 0 → over_used (hears a channels samples) map 0 v ≡ v
+run_none a samples channels map v e =
+    each_none (λ k u. with_memory u k (hears a channels samples k (memory_of u k)))
+    (λ k u. ap (with_memory u k) (none_after a (memory_of u k) samples k channels (length samples / channels) e) ∙ with_own u k) map 0 v
+
+-- a run, and the frames that follow it
+pub run_more : (a run rest : List Float) (channels n : ℕ) → length run ≡ n * channels → (map : List ℕ) (v : List Float) → length map ≡ channels → channels ≤ most_channels → length v ≡ state_places
+    → over_used (hears a channels rest) map 0 (over_used (hears a channels run) map 0 v) ≡ over_used (hears a channels (run ++ rest)) map 0 v
+run_more a run rest channels n e map v mapped few l =
+    over_twice (hears a channels run) (hears a channels rest) map v (omega arith) l
     ∙ each_same
-    (λ k u. with_memory u k (after a (after a (memory_of u k) (column src k channels done)) (column stretch k channels count)))
-    (λ k u. with_memory u k (after a (memory_of u k) (column src k channels (done + count)))) map 0 v
-    (λ k u _ h.
-    ap (with_memory u k)
-    (sym (after_append a (memory_of u k) (column src k channels done) (column stretch k channels count))
-    ∙ ap (after a (memory_of u k)) (joined src stretch channels done count next k (omega arith))))
+    (λ k u. with_memory u k (hears a channels rest k (hears a channels run k (memory_of u k))))
+    (λ k u. with_memory u k (hears a channels (run ++ rest) k (memory_of u k))) map 0 v
+    (λ k u _ h. ap (with_memory u k) (joined k (memory_of u k) (omega arith)))
+  where
+    joined : (k : ℕ) (m : Memory) → k < channels → hears a channels rest k (hears a channels run k m) ≡ hears a channels (run ++ rest) k m
+    joined k m h =
+        let last = column rest k channels (length rest / channels) in
+        let count : length run / channels ≡ n = ap (λ (x : ℕ). x / channels) e ∙ mul-div_cancel n (omega arith) in
+        ap (λ (c : ℕ). after a (after a m (column run k channels c)) last) count
+        ∙ sym (after_append a m (column run k channels n) last)
+        ∙ ap (after a m) (cut_column run rest channels n e k h)
 
 -- ---- the call, at the number of frames that the code counts
 

@@ -30,8 +30,7 @@ fn seed_lent<S: Sample>(
         (said result ≡ said_by (moved call)) × (state.new ≡ (kept_by call.state (moved call)).values) }
 {
     filter_checks::refused_seed(channels, samples.len(), map)?;
-    let frames = samples.len() / channels;
-    crate::seeding_channels::advance_all(c.a, state, channels, frames, samples, map);
+    crate::seeding_channels::advance_all(c.a, state, samples, map);
     Ok(())
 }
 

@@ -7,3 +7,4 @@ pub mod Stores
 pub mod Chosen
 pub mod Reaching
 pub mod Cutting
+pub mod Parts

@@ -1,5 +1,5 @@
 -- `seeding::seed_lent` meets its contract: the check's refusal is the call's, and past it the state is what the definitions say. Assumes nothing.
-use Rattle.std.proofs.Common.{◌≡◌, ℕ, List, length, sym, ap, ◌∙◌}
+use Rattle.std.proofs.Common.{◌≡◌, ℕ, ◌/◌, List, length, refl, sym, ap, subst, ◌∙◌}
 use Rattle.std.proofs.lemmas.Result.{err_from_is_err_and}
 use lib.ListN.{length-map}
 use Rattle.base_refusals.specs.Refusal.{number}
@@ -10,9 +10,11 @@ use Rattle.base_refusals.proofs.Rows.{stopped, goes}
 use Rattle.filter_checks.specs.Calls.{seed_rows}
 use Rattle.filter_checks.proofs.Checking.{Seeds, seeds}
 use Rattle.samples.specs.Sample.{samples_by}
-use Rattle.samples.proofs.Cutting.{whole_frames}
+use Rattle.samples.specs.Frames.{column}
+use Rattle.samples.proofs.Cutting.{Framed}
 use Rattle.filter_recurrence.specs.declared.states.State.{State}
-use Rattle.filter_recurrence.specs.Channels.{Weighing, weighing_of, state_after}
+use Rattle.filter_recurrence.specs.Channels.{Weighing, weighing_of, over_used, state_after}
+use Rattle.filter_recurrence.specs.Recurrence.{after, flushed}
 use Rattle.filter_recurrence.proofs.Runs.{state_is}
 use Rattle.filter_weighting.specs.Seeding.{moved}
 use Rattle.filter_weighting.proofs.seeding.seed_lent.Given.{Over}
@@ -48,13 +50,10 @@ returns-in_err-refused_seed g c =
     let f = stopped (leaves call) (rows call) call.state (number r) (c.in_err-refused_seed.ensures ∙ same_rows g s) (no_number r) in
     rw (p.1, p.2) (f.says, ap (λ (k : State). k.values) f.keeps)
 
-pub nonzero_div-frames : goal.nonzero_div-frames
-nonzero_div-frames g c = (ok g (goal.at.nonzero_div-frames g c).In_ok-refused_seed).frames.some
-
 pub advance_all-requires : goal.advance_all-requires
 advance_all-requires g c =
     let p = ok g (goal.at.advance_all-requires g c).In_ok-refused_seed in
-    record { whole = whole_frames c.args.channels (length c.args.samples.now) p.frames; channels_value = p.bytes }
+    subst (λ (channels : ℕ). Framed channels (length c.args.samples.now)) p.bytes p.frames
 
 pub returns : goal.returns
 unfolding moved
@@ -62,10 +61,12 @@ returns g c =
     let a = c.args in
     let s = (goal.at.returns g c).Start in
     let call = the_call g s in
-    let some = (ok g (goal.at.returns g c).In_ok-refused_seed).frames.some in
+    let p = ok g (goal.at.returns g c).In_ok-refused_seed in
+    let src = call.samples in
     let z = goes (leaves call) (rows call) (sym (c.in_ok-refused_seed.ensures ∙ same_rows g s)) in (
       ap said_by (sym z),
       c.advance_all.ensures
-          ∙ state_is call (length a.samples.now) some (sym (length-map a.samples.now g.S.Sample.in_f64))
+          ∙ ap (λ (channels : ℕ). over_used (λ k m. flushed (after a.c.a m (column src k channels (length src / channels)))) a.map.now 0 a.state.now) (sym p.bytes)
+          ∙ state_is call (length src) p.frames.some refl
           ∙ sym (ap (λ (o : Outcome State NoValues). (kept_by call.state o).values) z),
     )

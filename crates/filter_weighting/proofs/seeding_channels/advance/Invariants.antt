@@ -6,6 +6,6 @@ use Rattle.filter_weighting.proofs.seeding_channels.advance.Given as goal
 
 abbrev pub invariant-loop-frame : goal.invariant-loop-frame
 invariant-loop-frame l =
-    let i = l.first + l.frame * l.step in
-    let left = l.count - l.frame in
-    Reach i l.step left (length l.samples) × (after l.a l.w (column l.samples i l.step left) ≡ after l.a l.initial.w (column l.samples l.first l.step l.count))
+    let i = l.k + l.frame * l.channels in
+    let left = l.frames - l.frame in
+    Reach i l.channels left (length l.run) × (after l.a l.w (column l.run i l.channels left) ≡ after l.a l.initial.w (column l.run l.k l.channels l.frames))

@@ -1,80 +1,77 @@
--- `seeding_channels::advance_all` meets its contract: the state is that after the frames done, and the flush comes last. Assumes nothing.
-use Rattle.std.proofs.Common.{◌≡◌, ℕ, ◌*◌, map, length, refl, sym, ap, ◌∙◌, arith, rules}
+-- `seeding_channels::advance_all` meets its contract: the frames left, from the state as it is, give what all of them give, and the flush comes last. Assumes nothing.
+use Rattle.std.proofs.Common.{◌≡◌, ℕ, ◌+◌, ◌*◌, ◌/◌, min, List, ◌++◌, map, length, take, refl, sym, ap, ◌∙◌, arith, length-append, div-add-mod', rules}
+use native.Mathlib.Nat.{zero-div}
+use lib.Seq.{sets}
 use lib.ListN.{length-map}
-use Rattle.samples.specs.Frames.{column}
+use lib.Ieee.{Float}
+use Rattle.std.proofs.lemmas.List.{map-append}
+use Rattle.std.specs.Slice.Iter.{chunks_rest}
 use Rattle.samples.specs.Stretches.{run_places}
-use Rattle.samples.proofs.Chosen.{rest_from}
-use Rattle.samples.proofs.Cutting.{Next, Step, step, filled}
-use Rattle.filter_recurrence.specs.Recurrence.{after, flushed}
-use Rattle.filter_recurrence.specs.Channels.{over_used}
+use Rattle.samples.proofs.Cutting.{Framed}
+use Rattle.samples.proofs.Parts.{whole_front, whole_back, filled_part}
+use Rattle.filter_recurrence.specs.Recurrence.{flushed}
+use Rattle.filter_recurrence.specs.Channels.{state_places, over_used}
 use Rattle.filter_recurrence.proofs.Memories.{over_twice}
-use Rattle.filter_recurrence.proofs.Runs.{run_none, run_more}
-use Rattle.filter_weighting.proofs.seeding_channels.advance_all.Given.{Over}
+use Rattle.filter_recurrence.proofs.Runs.{hears, run_none, run_more}
 use Rattle.filter_weighting.proofs.seeding_channels.advance_all.Goals as goal
-use Rattle.filter_weighting.proofs.seeding_channels.advance_all.Goals.{After-fill, After-shorter-count}
 
-pub nonzero_div-most : goal.nonzero_div-most
-nonzero_div-most g c = c.requires.whole.some
+-- a part of whole frames, filled into the run, and what follows it
+module _ {A : Type 0} (f : A → Float) (rest part after : List A) (channels : ℕ) (old run : List Float) (w : Framed channels (length rest))
+    (cut : rest ≡ part ++ after) (size : length part ≡ min (run_places / channels * channels) (length rest)) (filled : run ≡ sets old 0 (map f part)) (places : length old ≡ run_places) where
+  both : length rest ≡ length part + length after
+  both = ap length cut ∙ length-append part after
 
-pub loop-done-init : goal.loop-done-init
-loop-done-init g c =
-    let a = c.args in
-    (omega arith, (refl, sym (run_none a.a (map g.S.Sample.in_f64 a.samples.now) a.channels a.bytes.now a.state.now)))
+  front : length part / channels * channels ≡ length part
+  front = whole_front (run_places / channels) channels (length rest) (length part) w.some w.whole size
 
--- the frames of the run
-sizes : (g : Over) (c : After-shorter-count g) → Step run_places c.args.channels c.args.frames (length c.args.samples.now) c.loop-done.done c.shorter-count.result
-sizes g c = step (omega arith) c.requires.whole c.loop-done-test.true c.shorter-count.ensures
+  left : Framed channels (length after)
+  left = record { some = w.some; few = w.few; whole = whole_back (run_places / channels) channels (length rest) (length part) w.some w.whole size (length after) both }
 
-pub overflow_mul-done : goal.overflow_mul-done
-overflow_mul-done g c = let h = (sizes g (goal.at.overflow_mul-done g c).After-shorter-count).samples_end in search rules
+  shown : take (length part) run ≡ map f part
+  shown =
+      ap (λ (n : ℕ). take n run) (sym (length-map part f))
+      ∙ filled_part old run (map f part) filled (omega (arith, length-map part f, size, places, div-add-mod' run_places channels))
 
-size : (g : Over) (c : After-fill g) → length c.fill.new.stretch ≡ run_places
-size g c = c.fill.auto.stretch ∙ c.loop-done.invariant.1.0
-
-next : (g : Over) (c : After-fill g) → Step run_places c.args.channels c.args.frames (length c.args.samples.now) c.loop-done.done c.shorter-count.result
-    → Next (map g.S.Sample.in_f64 c.args.samples.now) c.fill.new.stretch c.args.channels c.loop-done.done c.shorter-count.result
-next g c n =
-    let f = g.S.Sample.in_f64 in
-    let xs = c.args.samples.now in
-    record { agrees = filled _ c.loop-done.run _ _ _ (c.fill.ensures ∙ rest_from f xs refl c.loop-done.run (c.loop-done.done * c.args.channels)) (omega (arith, n.samples_end, length-map xs f)) (omega (arith, n.stretch_fits, c.loop-done.invariant.1.0)) }
+  -- the state after it
+  gives : (a : List Float) (bytes : List ℕ) (state state' : List Float) → state' ≡ over_used (hears a channels (take (length part) run)) bytes 0 state → length bytes ≡ channels → length state ≡ state_places
+      → over_used (hears a channels (map f after)) bytes 0 state' ≡ over_used (hears a channels (map f rest)) bytes 0 state
+  gives a bytes state state' e mapped l =
+      ap (over_used (hears a channels (map f after)) bytes 0) (e ∙ ap (λ (s : List Float). over_used (hears a channels s) bytes 0 state) shown)
+      ∙ run_more a (map f part) (map f after) channels (length part / channels) (length-map part f ∙ sym front) bytes state mapped w.few l
+      ∙ ap (λ (s : List Float). over_used (hears a channels s) bytes 0 state) (sym (map-append f part after) ∙ ap (map f) (sym cut))
 
 pub advance_run-requires : goal.advance_run-requires
-advance_run-requires g c =
-    let p = c.requires in
-    record {
-      channels_le_most_channels = (p.whole.few, p.channels_value);
-      channels_in_bounds = omega (arith, size g (goal.at.advance_run-requires g c).After-fill, (sizes g (goal.at.advance_run-requires g c).After-shorter-count).stretch_fits);
-    }
+advance_run-requires g c = record { some = c.requires.some; few = c.requires.few }
 
-pub overflow_add-done : goal.overflow_add-done
-overflow_add-done g c = omega (arith, (sizes g (goal.at.overflow_add-done g c).After-shorter-count).stretch_ends)
-
-pub loop-done-smaller : goal.loop-done-smaller
-loop-done-smaller g c = omega (arith, (sizes g (goal.at.loop-done-smaller g c).After-shorter-count).forward)
-
-pub loop-done-preserved : goal.loop-done-preserved
-loop-done-preserved g c =
+pub loop-part-preserved : goal.loop-part-preserved
+loop-part-preserved g c =
+    let f = g.S.Sample.in_f64 in
     let a = c.args in
-    let l = c.loop-done in
-    let src = map g.S.Sample.in_f64 a.samples.now in
+    let channels = length a.bytes.now in
+    let l = c.loop-part in
+    let i = l.invariant in
+    let steps = c.in-Some.ensures.steps in
+    let rest = chunks_rest l.part-iterator in
+    let part = c.in-Some.part.now in
+    let after = chunks_rest c.next.new.self in
     let run = c.fill.new.stretch in
-    let count = c.shorter-count.result in
-    let s = sizes g (goal.at.loop-done-preserved g c).After-shorter-count in (
-      s.stretch_ends,
-      (
-        size g (goal.at.loop-done-preserved g c).After-fill,
-        c.advance_run.ensures
-            ∙ ap (over_used (λ k m. after a.a m (column run k a.channels count)) a.bytes.now 0) l.invariant.1.1
-            ∙ run_more a.a src run a.channels l.done count (next g (goal.at.loop-done-preserved g c).After-fill s) a.bytes.now a.state.now (sym c.requires.channels_value) c.requires.whole.few (search rules),
-      ),
-    )
+    let size = steps.1.1 ∙ ap (λ (n : ℕ). min n (length rest)) i.size in
+    record {
+      size = steps.0 ∙ i.size;
+      places = c.fill.auto.stretch ∙ i.places;
+      state = search rules;
+      whole = left f rest part after channels l.run run i.whole steps.1.0 size c.fill.ensures i.places;
+      gives = gives f rest part after channels l.run run i.whole steps.1.0 size c.fill.ensures i.places a.a a.bytes.now l.state c.advance_run.new.state c.advance_run.ensures refl i.state ∙ i.gives;
+    }
 
 pub returns : goal.returns
 returns g c =
     let a = c.args in
-    let l = c.loop-done in
+    let l = c.loop-part in
+    let channels = length a.bytes.now in
     let src = map g.S.Sample.in_f64 a.samples.now in
-    let all : l.done ≡ a.frames = omega (arith, c.loop-done-test.false, l.invariant.0) in
+    let rest = map g.S.Sample.in_f64 (chunks_rest l.part-iterator) in
+    let none : length rest / channels ≡ 0 = ap (λ (n : ℕ). n / channels) (length-map (chunks_rest l.part-iterator) g.S.Sample.in_f64 ∙ c.in-None.ensures.steps.1.0) ∙ zero-div channels in
     c.flush_used.ensures
-    ∙ ap (over_used (λ _ m. flushed m) a.bytes.now 0) (l.invariant.1.1 ∙ ap (λ (n : ℕ). over_used (λ k m. after a.a m (column src k a.channels n)) a.bytes.now 0 a.state.now) all)
-    ∙ over_twice (λ k m. after a.a m (column src k a.channels a.frames)) (λ _ m. flushed m) a.bytes.now a.state.now (omega (arith, c.requires.channels_value, c.requires.whole.few)) (search rules)
+    ∙ ap (over_used (λ _ m. flushed m) a.bytes.now 0) (sym (run_none a.a rest channels a.bytes.now l.state none) ∙ l.invariant.gives)
+    ∙ over_twice (hears a.a channels src) (λ _ m. flushed m) a.bytes.now a.state.now c.requires.few (search rules)

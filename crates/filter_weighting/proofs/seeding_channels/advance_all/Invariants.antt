@@ -1,15 +1,19 @@
-use Rattle.std.proofs.Common.{◌≡◌, ◌-◌, ◌≤◌, map, length}
-use Rattle.samples.specs.Frames.{column}
+use Rattle.std.proofs.Common.{◌≡◌, ◌*◌, ◌/◌, map, length}
+use Rattle.std.specs.Slice.Iter.{chunks_rest, chunks_size}
 use Rattle.samples.specs.Stretches.{run_places}
-use Rattle.filter_recurrence.specs.Recurrence.{after}
-use Rattle.filter_recurrence.specs.Channels.{over_used}
+use Rattle.samples.proofs.Cutting.{Framed}
+use Rattle.filter_recurrence.specs.Channels.{state_places, over_used}
+use Rattle.filter_recurrence.proofs.Runs.{hears}
 use Rattle.filter_weighting.proofs.seeding_channels.advance_all.Given as goal
 
-abbrev pub invariant-loop-done : goal.invariant-loop-done
-invariant-loop-done g l =
-    (l.done ≤ l.frames)
-    × ((length l.run ≡ run_places)
-    × (l.state ≡ over_used (λ k m. after l.a m (column (map g.S.Sample.in_f64 l.samples) k l.channels l.done)) l.bytes 0 l.initial.state))
-
-abbrev pub decreases-loop-done : goal.decreases-loop-done
-decreases-loop-done g l = l.frames - l.done
+abbrev pub invariant-loop-part : goal.invariant-loop-part
+invariant-loop-part g l =
+    let channels = length l.bytes in
+    let rest = chunks_rest l.part-iterator in
+    let f = g.S.Sample.in_f64 in record {
+      size : chunks_size l.part-iterator ≡ run_places / channels * channels;
+      places : length l.run ≡ run_places;
+      state : length l.state ≡ state_places;
+      whole : Framed channels (length rest);
+      gives : over_used (hears l.a channels (map f rest)) l.bytes 0 l.state ≡ over_used (hears l.a channels (map f l.fn.samples)) l.bytes 0 l.initial.state;
+    }

@@ -12,4 +12,4 @@ returns c =
     rw (ne_eqb a.byte 0 (λ e. omega arith))
     (c.store.ensures
     ∙ ap (with_memory a.state.now a.k)
-    (c.advance.ensures ∙ ap (λ (m : Memory). after a.a m (column a.samples.now a.k a.channels a.count)) c.load-m.ensures))
+    (c.advance.ensures ∙ ap (λ (m : Memory). after a.a m (column a.run.now a.k a.channels a.frames)) c.load-m.ensures))
