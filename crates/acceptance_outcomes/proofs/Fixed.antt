@@ -33,13 +33,13 @@ fixes Kept said back there given call answer other kept otherwise m n =
 
 -- ---- the ways back
 -- a refusal by its number
-refusal_of : ℕ → Refusal
+pub refusal_of : ℕ → Refusal
 refusal_of n =
     cond (eqb n 1) CHANNELS (cond (eqb n 2) SAMPLES (cond (eqb n 3) MAP (cond (eqb n 4) DEST (cond (eqb n 5) STORE
     (cond (eqb n 6) FULL (cond (eqb n 7) SET (cond (eqb n 8) MODE (cond (eqb n 9) NONE (cond (eqb n 10) NAN
     (cond (eqb n 11) SCALE (cond (eqb n 12) LENGTH (cond (eqb n 13) KIND (cond (eqb n 14) CONTENT ROOM)))))))))))))
 
-refusal_there : (r : Refusal) → refusal_of (number r) ≡ r
+pub refusal_there : (r : Refusal) → refusal_of (number r) ≡ r
 unfolding refusal_of
 refusal_there CHANNELS = refl
 refusal_there SAMPLES = refl

@@ -1,6 +1,9 @@
 -- Demand 1 for the calls over samples, proved: each definition goes down its rows, so it is refused exactly when 01 says. Assumes nothing.
 use Prim.Native.Nat.{ℕ}
-use mathlib.Core.Path.{◌≡◌, refl, sym, subst}
+use mathlib.Core.Path.{◌≡◌, refl, sym, ap, subst}
+use Rattle.std.specs.Prelude.{Result, Ok, Err, Option, Some, None}
+use lib.Ieee.{Float}
+use Rattle.base_refusals.specs.declared.Refusal.{Refusal}
 use mathlib.Core.Bool.{Bool, true, false, cond}
 use mathlib.Core.List.{List, [], ◌∷◌}
 use lib.Dec.{eqb}
@@ -16,16 +19,12 @@ use Rattle.true_peak_state.specs.declared.TruePeak.{TruePeak}
 use Rattle.true_peak.specs.TruePeak.{peak_rows, processed as peak_processed, seeded as peak_seeded}
 use Rattle.filter_checks.specs.Calls.{frame_rows}
 use Rattle.interleaved_slices.specs.Shown.{Place, at, past_the_end, frames_in, sample_in}
-use Rattle.interleaved_slices.specs.Said.{frames_said, sample_said}
-use Rattle.interleaved_slices.specs.declared.Frames.{Frames}
-use Rattle.interleaved_slices.specs.declared.Frames.TheVariants.{Whole, Refused as Refused-frames}
-use Rattle.interleaved_slices.specs.declared.Sample.{Sample}
-use Rattle.interleaved_slices.specs.declared.Sample.TheVariants.{At, PastTheEnd, Refused as Refused-sample}
+use Rattle.interleaved_slices.specs.Said.{sample_said}
 use Rattle.interleaved_filter.specs.Over.{Taken, taken, other_channels, whole, over}
 use Rattle.interleaved_filter.specs.Said.{said_of}
 use Rattle.interleaved_filter.specs.declared.Took.{Took}
-use Rattle.interleaved_filter.specs.declared.Took.TheVariants.{Done, OtherChannels, Refused}
-use Rattle.acceptance_outcomes.proofs.Fixed.{fixes, answer_back, answer_there}
+use Rattle.interleaved_filter.specs.declared.Took.TheVariants.{Done, OtherChannels}
+use Rattle.acceptance_outcomes.proofs.Fixed.{refusal_of, refusal_there, fixes, answer_back, answer_there}
 use Rattle.acceptance_signals.specs.Signals.{rows_over, SignalCalls}
 
 seeds : (call : Call) → RefusedBy (seed_rows call) (seeded call)
@@ -63,36 +62,27 @@ module _ (channels : ℕ) (call : Call) where
   processes_over = over_rows (eqb channels call.filter.channels) (process_rows call) (given call) _
 
 -- ---- the ways back from what an `Interleaved` answers
-frames_back : Said ℕ → Frames
-frames_back (says n) = Whole n
-frames_back (refusal n) = Refused-frames n
+sample_back : Said Place → Result (Option Float) Refusal
+sample_back (says (at x)) = Ok (Some x)
+sample_back (says past_the_end) = Ok None
+sample_back (refusal n) = Err (refusal_of n)
 
-frames_there : (a : Frames) → frames_back (frames_said a) ≡ a
-unfolding frames_back
-frames_there (Whole n) = refl
-frames_there (Refused-frames n) = refl
-
-sample_back : Said Place → Sample
-sample_back (says (at x)) = At x
-sample_back (says past_the_end) = PastTheEnd
-sample_back (refusal n) = Refused-sample n
-
-sample_there : (a : Sample) → sample_back (sample_said a) ≡ a
+sample_there : (a : Result (Option Float) Refusal) → sample_back (sample_said a) ≡ a
 unfolding sample_back
-sample_there (At x) = refl
-sample_there PastTheEnd = refl
-sample_there (Refused-sample n) = refl
+sample_there (Ok (Some x)) = refl
+sample_there (Ok None) = refl
+sample_there (Err r) = ap Err (refusal_there r)
 
-took_back : Said Taken → Took
-took_back (says taken) = Done
-took_back (says other_channels) = OtherChannels
-took_back (refusal n) = Refused n
+took_back : Said Taken → Result Took Refusal
+took_back (says taken) = Ok Done
+took_back (says other_channels) = Ok OtherChannels
+took_back (refusal n) = Err (refusal_of n)
 
-took_there : (a : Took) → took_back (said_of a) ≡ a
+took_there : (a : Result Took Refusal) → took_back (said_of a) ≡ a
 unfolding took_back
-took_there Done = refl
-took_there OtherChannels = refl
-took_there (Refused n) = refl
+took_there (Ok Done) = refl
+took_there (Ok OtherChannels) = refl
+took_there (Err r) = ap Err (refusal_there r)
 
 pub signal_calls : SignalCalls
 signal_calls = record {
@@ -108,7 +98,7 @@ signal_calls = record {
   sample = λ channels samples channel frame. refused_by (frame_rows channels (length samples)) tt _;
   process_over = processes_over;
   seed_over = seeds_over;
-  fixed_frames = λ channels samples. fixes Unit frames_said frames_back frames_there tt (frames_in channels samples);
+  fixed_frames = λ channels samples. fixes Unit said answer_back answer_there tt (frames_in channels samples);
   fixed_sample = λ channels samples channel frame. fixes Unit sample_said sample_back sample_there tt (sample_in channels samples channel frame);
   fixed_process_over = λ channels call. fixes Kept said_of took_back took_there (given call) (over processed channels call);
   fixed_seed_over = λ channels call. fixes Kept said_of took_back took_there (given call) (over seeded channels call);

@@ -12,7 +12,7 @@ use Rattle.true_peak_state.specs.declared.TruePeak.{TruePeak}
 use Rattle.true_peak_state.specs.TruePeak.{Heard}
 use Rattle.true_peak.specs.TruePeak.{peak_rows, processed as peak_processed, seeded as peak_seeded}
 use Rattle.interleaved_slices.specs.Shown.{frames_in, sample_in}
-use Rattle.interleaved_slices.specs.Said.{frames_said, sample_said}
+use Rattle.interleaved_slices.specs.Said.{sample_said}
 use Rattle.interleaved_filter.specs.Over.{over}
 use Rattle.interleaved_filter.specs.Said.{said_of}
 use Rattle.acceptance_outcomes.specs.Fixed.{Fixed}
@@ -37,7 +37,7 @@ pub record SignalCalls : Type 0 where
   pub sample : (channels : ℕ) (samples : List Float) (channel frame : ℕ) → RefusedBy (frame_rows channels (length samples)) (sample_in channels samples channel frame)
   pub process_over : (channels : ℕ) (call : Call) → RefusedBy (rows_over process_rows channels call) (over processed channels call)
   pub seed_over : (channels : ℕ) (call : Call) → RefusedBy (rows_over seed_rows channels call) (over seeded channels call)
-  pub fixed_frames : (channels samples : ℕ) → Fixed frames_said tt (frames_in channels samples)
+  pub fixed_frames : (channels samples : ℕ) → Fixed said tt (frames_in channels samples)
   pub fixed_sample : (channels : ℕ) (samples : List Float) (channel frame : ℕ) → Fixed sample_said tt (sample_in channels samples channel frame)
   pub fixed_process_over : (channels : ℕ) (call : Call) → Fixed said_of (given call) (over processed channels call)
   pub fixed_seed_over : (channels : ℕ) (call : Call) → Fixed said_of (given call) (over seeded channels call)
