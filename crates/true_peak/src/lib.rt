@@ -10,9 +10,9 @@ ghost use Rattle.true_peak_interp.specs.Phase.{coefficients, phases};
 ghost use Rattle.base_floats.specs.Largest.{largest};
 ghost use Rattle.true_peak_scan.specs.Line.{back, stretch, phases_over};
 ghost use Rattle.true_peak_state.specs.Channel.{channel, heard, past};
-ghost use Rattle.true_peak.specs.Inner.{room};
 ghost use Rattle.samples.specs.Frames.{column, most_channels};
 ghost use Rattle.true_peak_state.specs.TruePeak.{history_at, channel_of, with_channel, measured};
+ghost use Rattle.true_peak.specs.Inner.{OneOfTwo};
 ghost use Rattle.true_peak.specs.TruePeak.{processed};
 
 use base_refusals::Answer;
@@ -29,32 +29,32 @@ pub struct Measured {
     pub state: TruePeak,
 }
 
-// By the interpolator that the rate has.
-fn scan(
+// An interpolator with its coefficients, which a call takes once.
+#[derive(Clone, Copy)]
+struct Kernel {
     i: Interp,
-    taps: &[f32; Interp::COEFFICIENTS],
-    line: &[f32; true_peak_scan::LINE],
-    n: usize,
-    peak: f32,
-) -> f32
-    requires known { Known i }
-    requires taps_value { taps.now ≡ coefficients i.factor }
-    requires n_le_stretch { n ≤ stretch }
-    ensures { result ≡ largest peak (phases_over (phases i) line.now 0 n) }
-{
-    if i.factor == Interp::FOURFOLD {
-        return true_peak_scan::scan_fourfold(taps, line, n, peak);
+    taps: [f32; Interp::COEFFICIENTS],
+    ghost known: { OneOfTwo i },
+    ghost own: { taps ≡ coefficients i.factor },
+}
+
+impl Kernel {
+    // The peak after n frames of a line, the first window beginning at its first place.
+    fn scan(&self, line: &[f32; true_peak_scan::LINE], n: usize, peak: f32) -> f32
+        requires { n ≤ stretch }
+        ensures { result ≡ largest peak (phases_over (phases self.now.i) line.now 0 n) }
+    {
+        if self.i.factor == Interp::FOURFOLD {
+            return true_peak_scan::scan_fourfold(&self.taps, line, n, peak);
+        }
+        true_peak_scan::scan_twofold(&self.taps, line, n, peak)
     }
-    true_peak_scan::scan_twofold(taps, line, n, peak)
 }
 
 // A channel's history, newest first in the memory, to the line's first places, oldest first.
 fn recall(memory: &[f32; 184], c: usize, line: &mut [f32; true_peak_scan::LINE])
-    requires c_lt_most_channels { c < most_channels }
-    requires memory_len { length memory.now ≡ most_channels * past }
-    requires line_len { length line.old ≡ room }
-    ensures past_after { back line.new 0 past ≡ history_at memory.now c }
-    ensures line_len_after { length line.new ≡ room }
+    requires { c < most_channels }
+    ensures { back line.new 0 past ≡ history_at memory.now c }
 {
     for k in 0..TruePeak::PAST {
         line[TruePeak::PAST - 1 - k] = memory[c * TruePeak::PAST + k];
@@ -80,10 +80,8 @@ fn gather<S: Sample>(
 
 // The last 23 samples of a line with n new ones become its first.
 fn carry(line: &mut [f32; true_peak_scan::LINE], n: usize)
-    requires n_le_stretch { n ≤ stretch }
-    requires line_len { length line.old ≡ room }
-    ensures past_after { back line.new 0 past ≡ back line.old n past }
-    ensures line_len_after { length line.new ≡ room }
+    requires { n ≤ stretch }
+    ensures { back line.new 0 past ≡ back line.old n past }
 {
     for k in 0..TruePeak::PAST {
         line[k] = line[n + k];
@@ -102,8 +100,7 @@ fn keep(line: &[f32; true_peak_scan::LINE], c: usize, memory: &mut [f32; 184])
 
 // A channel hears n samples from place first on, its history in the line's first places. Answers its peak.
 fn hear_stretch<S: Sample>(
-    i: Interp,
-    taps: &[f32; Interp::COEFFICIENTS],
+    kernel: &Kernel,
     samples: &[S],
     first: usize,
     channels: usize,
@@ -111,24 +108,19 @@ fn hear_stretch<S: Sample>(
     line: &mut [f32; true_peak_scan::LINE],
     peak: f32,
 ) -> f32
-    requires known { Known i }
-    requires taps_value { taps.now ≡ coefficients i.factor }
     requires n_le_stretch { n ≤ stretch }
     requires channels_in_bounds { first + n * channels < length samples.now + channels }
-    requires line_len { length line.old ≡ room }
-    ensures result_after { channel (back line.new 0 past) result ≡ heard i (channel (back line.old 0 past) peak) (column (map S.in_f32 samples.now) first channels n) }
-    ensures line_len_after { length line.new ≡ room }
+    ensures { channel (back line.new 0 past) result ≡ heard kernel.now.i (channel (back line.old 0 past) peak) (column (map S.in_f32 samples.now) first channels n) }
 {
     gather(samples, first, channels, n, line);
-    let loud = scan(i, taps, line, n, peak);
+    let loud = kernel.scan(line, n, peak);
     carry(line, n);
     loud
 }
 
 // One channel hears its samples, stretch by stretch. Answers its peak.
 fn one_channel<S: Sample>(
-    i: Interp,
-    taps: &[f32; Interp::COEFFICIENTS],
+    kernel: &Kernel,
     samples: &[S],
     channels: usize,
     frames: usize,
@@ -136,12 +128,9 @@ fn one_channel<S: Sample>(
     memory: &mut [f32; 184],
     peak: f32,
 ) -> f32
-    requires known { Known i }
-    requires taps_value { taps.now ≡ coefficients i.factor }
     requires c_lt_channels { (c < channels) × (channels ≤ most_channels) }
     requires channels_in_bounds { frames * channels ≤ length samples.now }
-    requires memory_len { length memory.old ≡ most_channels * past }
-    ensures { let after = heard i (channel (history_at memory.old c) peak) (column (map S.in_f32 samples.now) c channels frames) in
+    ensures { let after = heard kernel.now.i (channel (history_at memory.old c) peak) (column (map S.in_f32 samples.now) c channels frames) in
         (result ≡ after.peak) × (memory.new ≡ sets memory.old (c * past) after.history) }
 {
     let mut line = [0.0; true_peak_scan::LINE];
@@ -149,10 +138,10 @@ fn one_channel<S: Sample>(
     let mut loud = peak;
     let mut first = c;
     let mut left = frames;
+    // Stays a while loop: it moves by a stretch, and what it leaves, the last stretch, is not empty unless the call is.
     while true_peak_scan::STRETCH < left {
         loud = hear_stretch(
-            i,
-            taps,
+            kernel,
             samples,
             first,
             channels,
@@ -163,30 +152,27 @@ fn one_channel<S: Sample>(
         first += true_peak_scan::STRETCH * channels;
         left -= true_peak_scan::STRETCH;
     }
-    loud = hear_stretch(i, taps, samples, first, channels, left, &mut line, loud);
+    loud = hear_stretch(kernel, samples, first, channels, left, &mut line, loud);
     keep(&line, c, memory);
     loud
 }
 
 // Channel c hears its samples.
 fn listen<S: Sample>(
-    i: Interp,
-    taps: &[f32; Interp::COEFFICIENTS],
+    kernel: &Kernel,
     t: TruePeak,
     samples: &[S],
     channels: usize,
     frames: usize,
     c: usize,
 ) -> TruePeak
-    requires known { Known i }
-    requires taps_value { taps.now ≡ coefficients i.factor }
     requires c_lt_channels { (c < channels) × (channels ≤ most_channels) }
     requires channels_in_bounds { frames * channels ≤ length samples.now }
-    ensures { result ≡ with_channel t c (heard i (channel_of t c) (column (map S.in_f32 samples.now) c channels frames)) }
+    ensures { result ≡ with_channel t c (heard kernel.now.i (channel_of t c) (column (map S.in_f32 samples.now) c channels frames)) }
 {
     let mut w = t;
     let peak = w.peaks[c];
-    let loud = one_channel(i, taps, samples, channels, frames, c, &mut w.memory, peak);
+    let loud = one_channel(kernel, samples, channels, frames, c, &mut w.memory, peak);
     w.peaks[c] = loud;
     w
 }
@@ -198,10 +184,13 @@ fn all_channels<S: Sample>(i: Interp, t: TruePeak, channels: usize, samples: &[S
     ensures { result ≡ measured (upsampled i) (record { channels = channels; samples = map S.in_f32 samples.now }) t }
 {
     let frames = samples.len() / channels;
-    let taps = i.coefficients();
+    let kernel = Kernel {
+        i: i,
+        taps: i.coefficients(),
+    };
     let mut w = t;
     for c in 0..channels {
-        w = listen(i, &taps, w, samples, channels, frames, c);
+        w = listen(&kernel, w, samples, channels, frames, c);
     }
     w
 }

@@ -11,9 +11,6 @@ use Rattle.true_peak.proofs.all_channels.Goals as goal
 pub loop-c-init : goal.loop-c-init
 loop-c-init g c = let a = c.args in channels_start a.i (record { channels = a.channels; samples = map g.S.Sample.in_f32 a.samples.now }) a.channels a.t
 
-pub listen-w-requires-clause-taps_value : goal.listen-w-requires-clause-taps_value
-listen-w-requires-clause-taps_value g c = c.coefficients-taps.ensures
-
 pub listen-w-requires-clause-channels_in_bounds : goal.listen-w-requires-clause-channels_in_bounds
 listen-w-requires-clause-channels_in_bounds g c = div-mul-le_self (length c.args.samples.now) c.args.channels
 

@@ -4,16 +4,14 @@ use Rattle.true_peak.proofs.Lines.{recalled_start, recalled_turn, recalled_end}
 use Rattle.true_peak.proofs.recall.Goals as goal
 
 pub loop-k-init : goal.loop-k-init
-loop-k-init c = (c.requires.line_len, recalled_start c.args.memory.now c.args.line.now c.args.c)
+loop-k-init c = (c.told-line, recalled_start c.args.memory.now c.args.line.now c.args.c)
 
 pub loop-k-preserved : goal.loop-k-preserved
 loop-k-preserved c =
     let l = c.loop-k in
-    let a = c.args in
-    (search rules, recalled_turn a.memory.now l.line a.c l.k c.loop-k-test.true (omega arith) l.invariant.1)
+    (search rules, recalled_turn c.args.memory.now l.line c.args.c l.k c.loop-k-test.true (omega arith) l.invariant.1)
 
 pub returns : goal.returns
 returns c =
     let l = c.loop-k in
-    let a = c.args in
-    record { past_after = recalled_end a.memory.now l.line a.c l.k c.loop-k-test.false (omega arith) l.invariant.1; line_len_after = l.invariant.0 }
+    recalled_end c.args.memory.now l.line c.args.c l.k c.loop-k-test.false (omega arith) l.invariant.1

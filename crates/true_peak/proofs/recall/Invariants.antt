@@ -1,5 +1,4 @@
-use mathlib.Core.Path.{◌≡◌}
-use lib.ListN.{length}
+use Rattle.std.proofs.Common.{◌≡◌, length}
 use Rattle.true_peak.specs.Inner.{room}
 use Rattle.true_peak.proofs.Lines.{Recalled}
 use Rattle.true_peak.proofs.recall.Given as goal
