@@ -15,7 +15,7 @@ pub struct Queued {
     pub queue: Queue,
 }
 
-// The place on the ring of a store, from one that is no more than a turn too far. A choice of two numbers, which is quicker than a remainder.
+// The place on the ring of a store, from one that is no more than a turn too far: a choice of two numbers, which is quicker than a remainder.
 fn on_ring(place: usize, maximum: usize) -> usize
     requires { place < maximum + maximum }
     ensures { result ≡ place % maximum }
@@ -25,6 +25,16 @@ fn on_ring(place: usize, maximum: usize) -> usize
     } else {
         place - maximum
     }
+}
+
+// The place after the head, on the ring: after the last place comes the first. It is `on_ring` of the next place, and stays by itself for time: each add to a full
+// queue waits for the head of the one before, and a choice of 0 is there sooner than a number that is still to be taken away.
+fn after(head: usize, maximum: usize) -> usize
+    requires { head < maximum }
+    ensures { result ≡ (head + 1) % maximum }
+{
+    let next = head + 1;
+    if next < maximum { next } else { 0 }
 }
 
 // The energy is the newest in the queue, and takes the place of a full queue's oldest. Below boundary 0 the energy is dropped.
@@ -55,7 +65,7 @@ pub fn add(queue: Queue, store: &mut [f64], energy: f64) -> Queued
     } else {
         store[queue.head] = energy;
         Queue {
-            head: on_ring(queue.head + 1, maximum),
+            head: after(queue.head, maximum),
             ..queue
         }
     };
