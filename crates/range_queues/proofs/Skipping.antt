@@ -1,80 +1,59 @@
 -- The leading energies below a gate, skipped one after the other, the energies at the two ranks among those left, and the totals over energies.
 -- Assumes nothing.
-use mathlib.Core.Path.{◌≡◌, refl, sym, ap, ◌∙◌}
-use mathlib.Core.Bool.{Bool, true, false, not, ◌&&◌, cond, true≢false}
-use mathlib.Core.List.{List, [], ◌∷◌, ◌++◌}
-use Prim.Native.Nat.{ℕ, suc, ◌+◌, ◌-◌, ◌≤◌, ◌<◌}
-use native.Mathlib.Numerals.{add-one, one-add}
+use mathlib.Core.Path.{◌≡◌, refl, sym, ap, ◌∙◌, subst}
+use mathlib.Core.Bool.{true, false}
+use mathlib.Core.List.{List, [], ◌∷◌}
+use Prim.Native.Nat.{ℕ, zero, suc, ◌+◌, ◌-◌}
 use native.Mathlib.Omega.{arith}
 use borrow.Author.Tests.{eq-eqb, ne_eqb}
-use lib.ListN.{length, get_or, take, drop, drop_of_length-le}
-use Rattle.std.proofs.Common.{take-append-drop, Option, MatchOption, HoldsAt}
-use Rattle.std.specs.Option.{unwrap_or}
-use Rattle.std.specs.List.{prefix_len, AllWithin}
-use Rattle.std.proofs.lemmas.Iterator.{index_from_first}
-use Rattle.std.proofs.lemmas.List.Sums.{prefix_len-le-length}
-use borrow.Rule.Slice.PartMut.{Post-is}
-use lib.Seq.{drop-cons, get_or-drop}
-use lib.Ieee.{Float, nan, lt}
+use lib.ListN.{length, get_or, drop}
+use Rattle.std.specs.List.Sorted.{IsPartitionPoint, IsPartitionedBy}
+use Rattle.std.proofs.lemmas.List.{get_or_default}
+use mathlib.Core.Logic.{◌⊎◌, inl, inr}
+use lib.Dec.{T}
+use Rattle.base_floats.specs.Entry.{at}
+use Rattle.base_floats.proofs.Order.{is_true, le_lt}
+use Rattle.order_rules.specs.Arrangement.{Rising}
+use Rattle.order_rules.proofs.Places.{same_or_other, rising_at}
+use lib.Seq.{get_or-drop}
+use lib.Ieee.{Float, nan, inf, fin, is_nan, le, lt}
 use Rattle.gate.specs.declared.blocks.Totals.{Totals}
 use Rattle.gate.specs.Totals.{with_blocks, none, energies_from}
 use Rattle.range_ranks.specs.Ranks.{low_rank, high_rank}
 use Rattle.range_ranks.specs.Span.{found, nothing, gate_energy}
 use Rattle.range_queues.specs.Rising.{from_gate, at_ranks}
 
--- ---- the leading energies that pass the test are those that are skipped
-module _ (gate : Float) where
-  pub below : List Float → ℕ
-  below l = prefix_len (λ x. lt x gate) l
+-- ---- in a list that rises the energies below the gate stand first
+le_number : (x y : Float) → T (le x y) → is_nan x ≡ false
+unfolding le is_nan
+le_number nan y h = absurd h
+le_number (inf s) y h = refl
+le_number (fin s m e) y h = refl
 
-  pub first_left : (l : List Float) (r : Option ℕ)
-      → MatchOption r (AllWithin (λ x. lt x gate ≡ true) l 0 (length l)) (λ i. (i < length l) × HoldsAt (λ x. lt x gate ≡ false) l i × AllWithin (λ x. lt x gate ≡ true) l 0 i)
-      → below l ≡ unwrap_or r (length l)
-  unfolding below
-  first_left = index_from_first below (λ x. lt x gate ≡ false) (λ x. lt x gate ≡ true) refl (λ x l e. rw e) (λ x l e. rw e (omega arith))
+pub below_first : (gate : Float) (l : List Float) → Rising l → IsPartitionedBy (λ x. lt x gate) l
+below_first gate l r i j d h g e = go (same_or_other i j)
+  where
+    at_i : get_or l i d ≡ at l i
+    at_i = get_or_default l i d nan (omega arith)
 
-  pub below_within : (l : List Float) → below l ≤ length l
-  unfolding below
-  below_within l = prefix_len-le-length (λ x. lt x gate) l
+    at_j : get_or l j d ≡ at l j
+    at_j = get_or_default l j d nan g
 
-  pub below_skipped : (l : List Float) → drop (below l) l ≡ from_gate gate l
-  unfolding below from_gate
-  below_skipped [] = refl
-  below_skipped (x ∷ l) = go (lt x gate) (below_skipped l)
-    where
-      go : (b : Bool) → drop (below l) l ≡ from_gate gate l → drop (cond b (1 + below l) 0) (x ∷ l) ≡ cond (not b) (x ∷ l) (from_gate gate l)
-      go true e = rw one-add e
-      go false e = refl
+    under : T (le (at l i) (at l j)) → lt (at l i) gate ≡ true
+    under k = is_true (lt (at l i) gate) (le_lt (at l i) (at l j) gate (le_number (at l i) (at l j) k) k (subst T (sym (subst (λ (x : Float). lt x gate ≡ true) at_j e)) tt))
 
--- ---- a part whose energies are all below the gate, before the rest
-both_true : (a b : Bool) → a && b ≡ true → (a ≡ true) × (b ≡ true)
-both_true true b e = (refl, e)
-both_true false b e = absurd (true≢false (sym e))
+    go : (i ≡ j) ⊎ (i ≡ j → ⊥) → lt (get_or l i d) gate ≡ true
+    go (inl q) = rw q e
+    go (inr n) = rw at_i (under (rising_at l r i j (omega arith) g))
 
-below_first : (gate x : Float) (l : List Float) → lt x gate ≡ true → from_gate gate (x ∷ l) ≡ from_gate gate l
+pub left_from : (gate : Float) (l : List Float) (i : ℕ) → IsPartitionPoint (λ x. lt x gate ≡ true) (λ x. lt x gate ≡ false) l i → drop i l ≡ from_gate gate l
 unfolding from_gate
-below_first gate x l e = rw e
-
-module _ (gate : Float) (part rest : List Float) (i : ℕ) where
-  pub below_turn : (fine : Bool) (d : Float) → i < length part → (fine ≡ true → from_gate gate (part ++ rest) ≡ from_gate gate (drop i part ++ rest))
-      → fine && lt (get_or part i d) gate ≡ true → from_gate gate (part ++ rest) ≡ from_gate gate (drop (i + 1) part ++ rest)
-  below_turn fine d h s e =
-      let p = both_true fine (lt (get_or part i d) gate) e in
-      s p.0
-      ∙ ap (λ (l : List Float). from_gate gate (l ++ rest)) (drop-cons part i d h)
-      ∙ below_first gate (get_or part i d) (drop (suc i) part ++ rest) p.1
-      ∙ ap (λ (n : ℕ). from_gate gate (drop n part ++ rest)) (sym (add-one i))
-
-  pub below_end : length part ≤ i → from_gate gate (part ++ rest) ≡ from_gate gate (drop i part ++ rest) → from_gate gate (part ++ rest) ≡ from_gate gate rest
-  below_end h e = e ∙ ap (λ (l : List Float). from_gate gate (l ++ rest)) (drop_of_length-le part h)
-
--- a stretch that lies all below the gate is passed by
-pub skip_stretch : (gate : Float) (rising : List Float) (i end : ℕ) → i ≤ end
-    → ((rest : List Float) → from_gate gate (take (end - i) (drop i rising) ++ rest) ≡ from_gate gate rest) → from_gate gate (drop end rising) ≡ from_gate gate (drop i rising)
-skip_stretch gate rising i end h below =
-    sym (below (drop end rising))
-    ∙ ap (λ (l : List Float). from_gate gate (take (end - i) (drop i rising) ++ l)) (sym (Post-is i end rising h))
-    ∙ ap (from_gate gate) (take-append-drop (end - i) (drop i rising))
+left_from gate [] zero p = refl
+left_from gate [] (suc i) p = refl
+left_from gate (x ∷ l) zero p = rw (p.1 0 nan (omega arith) (omega arith))
+left_from gate (x ∷ l) (suc i) p =
+    rw (p.0 0 nan (omega arith) (omega arith))
+    (left_from gate l i ((λ k d h g. p.0 (suc k) d (omega arith) (omega arith)), (λ k d h g. p.1 (suc k) d (omega arith) (omega arith))))
 
 -- ---- the energies at the two ranks among those left
 pub ranks_none : (left : List Float) → length left ≡ 0 → at_ranks left ≡ nothing
