@@ -15,7 +15,7 @@ use Rattle.base_refusals.proofs.Rows.{not_held, number_parts}
 use Rattle.filter_checks.specs.declared.Sizes.{Sizes}
 use Rattle.filter_checks.specs.Calls.{admits, all_admitted, wrong_channels, wrong_samples, wrong_map, wrong_dest, frame_rows, map_rows, dest_rows, seed_rows, process_rows}
 use Rattle.samples.specs.Frames.{most_channels}
-use Rattle.samples.proofs.Cutting.{Framed}
+use Rattle.samples.specs.Stretches.{Framed}
 
 -- ---- map bytes
 

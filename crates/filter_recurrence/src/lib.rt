@@ -45,7 +45,7 @@ impl Memory {
         ensures { result ≡ shift self s0 }
     {
         Memory {
-            s0: s0,
+            s0,
             s1: s0,
             s2: self.s1,
             s3: self.s2,

@@ -6,7 +6,7 @@ ghost use Rattle.std.specs.Float.{nan};
 ghost use Rattle.base_refusals.specs.Answer.{said};
 ghost use Rattle.base_refusals.specs.Outcome.{said_by, kept_by};
 ghost use Rattle.samples.specs.Frames.{column, most_channels};
-ghost use Rattle.samples.proofs.Cutting.{Framed};
+ghost use Rattle.samples.specs.Stretches.{Framed};
 ghost use Rattle.base_floats.specs.Entry.{plus_zero};
 ghost use Rattle.base_floats.specs.Largest.{greater, largest};
 ghost use Rattle.filter_sample_peak.specs.Peak.{over_channels, raised};

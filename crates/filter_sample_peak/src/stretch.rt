@@ -3,7 +3,7 @@ ghost use Rattle.std.specs.Prelude.{◌≡◌, false, ℕ, ◌/◌, ◌<◌, ◌
 ghost use Rattle.std.specs.Float.{nan};
 ghost use Rattle.std.specs.Float.Ieee.{lt};
 ghost use Rattle.samples.specs.Frames.{column};
-ghost use Rattle.samples.proofs.Cutting.{Framed};
+ghost use Rattle.samples.specs.Stretches.{Framed};
 ghost use Rattle.samples.specs.Stretches.{Reach};
 ghost use Rattle.base_floats.specs.Entry.{plus_zero};
 ghost use Rattle.base_floats.specs.Largest.{magnitude, greater, largest};

@@ -211,6 +211,7 @@ impl Work {
         ensures dest_after { let src = map S.in_f64 samples.now in let given = given_in self src state.old in
             dest.new ≡ over_parts given self.part self.place bytes.now 0 dest.old }
     {
+        // Stays a while loop: a step takes one channel or two. It stands at two places, so that the compiler keeps it a function of its own.
         let mut k = 0;
         while k < self.channels {
             k = self.weigh_next(state, samples, bytes, dest, k);

@@ -35,15 +35,15 @@ pub fn process_lent<S: Sample>(
         × (dest.new ≡ (kept call dest.old start).dest) }
 {
     let sizes = Sizes {
-        channels: channels,
+        channels,
         samples: samples.len(),
         room: dest.len(),
-        start: start,
+        start,
     };
     filter_checks::refused_process(true, sizes, map)?;
     let work = Work {
-        c: c,
-        channels: channels,
+        c,
+        channels,
         frames: samples.len() / channels,
         part: dest.len() / channels,
         place: start,

@@ -47,8 +47,5 @@ pub fn seed<S: Sample>(
 {
     let mut state = s;
     let answer = seed_lent(c, &mut state.values, channels, samples, map);
-    Seeded {
-        answer: answer,
-        state: state,
-    }
+    Seeded { answer, state }
 }

@@ -2,14 +2,14 @@
 ghost use Rattle.std.specs.Prelude.{◌≡◌, cond, ◌/◌, ◌<◌, ◌≤◌, map, length};
 ghost use Rattle.samples.specs.Frames.{column, most_channels};
 ghost use Rattle.samples.specs.Stretches.{Reach};
-ghost use Rattle.samples.proofs.Cutting.{Framed};
+ghost use Rattle.samples.specs.Stretches.{Framed};
 ghost use Rattle.filter_checks.specs.Calls.{used};
 ghost use Rattle.filter_recurrence.specs.Recurrence.{after, flushed};
 ghost use Rattle.filter_recurrence.specs.Channels.{memory_of, with_memory, over_used};
 
 use filter_recurrence::Memory;
 use samples::Sample;
-use samples::sources::RUN;
+use samples::fills::RUN;
 
 // Channel k's frames of a run: its memory after them.
 // By the frames' numbers and not `chunks_exact`: there the compiler does not know how many turns it has, and takes one frame a turn (up to a tenth of the time).

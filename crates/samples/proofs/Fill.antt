@@ -37,5 +37,5 @@ pub starts : {A : Type 0} (f : A → Float) (from : List A) (stretch : List Floa
 starts f from stretch = record { same = refl; rest = refl }
 
 -- the loop stops at the shorter of the two lengths
-pub at_shorter : (a b i n : ℕ) → n ≡ min a b → n ≤ i → a ≤ i ⊎ b ≤ i
-at_shorter a b i n e h = ⊎_elim (λ (z : a - i ≡ 0). inl (omega arith)) (λ (p : 0 < a - i). inr (omega arith)) (eq-zero-or-pos (a - i))
+pub at_shorter : (a b i : ℕ) → min a b ≤ i → a ≤ i ⊎ b ≤ i
+at_shorter a b i h = ⊎_elim (λ (z : a - i ≡ 0). inl (omega arith)) (λ (p : 0 < a - i). inr (omega arith)) (eq-zero-or-pos (a - i))

@@ -4,7 +4,6 @@ pub mod Columns
 pub mod Stored
 pub mod Fill
 pub mod Stores
-pub mod Chosen
 pub mod Reaching
 pub mod Cutting
 pub mod Parts

@@ -18,8 +18,5 @@ module _ (i step left size : ℕ) (some : 0 < left) (now : Reach i step left siz
   pub reach_here : i < size
   reach_here = omega (arith, times_less, now.within)
 
-  pub reach_next : i + step ≤ size + most_channels
-  reach_next = omega (arith, times_less, now.within, now.few)
-
   pub reach_rest : Reach (i + step) step (left - 1) size
   reach_rest = record { few = now.few; within = omega (arith, times_less, now.within) }

@@ -2,5 +2,4 @@ pub mod Sample
 pub mod Kinds
 pub mod Laws
 pub mod Frames
-pub mod Source
 pub mod Stretches

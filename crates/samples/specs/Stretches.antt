@@ -1,5 +1,5 @@
 -- A call's samples in stretches: what the inner functions rely on once nothing is refused.
-use Rattle.std.specs.Prelude.{◌≡◌, ℕ, ◌+◌, ◌*◌, ◌<◌, ◌≤◌}
+use Rattle.std.specs.Prelude.{◌≡◌, ℕ, ◌+◌, ◌*◌, ◌/◌, ◌<◌, ◌≤◌}
 use Rattle.samples.specs.Frames.{most_channels}
 
 -- the places of a stretch
@@ -15,8 +15,8 @@ pub record Reach (first step count size : ℕ) : Type 0 where
   pub few : step ≤ most_channels
   pub within : first + count * step < size + step
 
--- so many frames of so many channels are all samples
-pub record Whole (channels frames samples : ℕ) : Type 0 where
+-- so many samples are whole frames of few channels
+pub record Framed (channels samples : ℕ) : Type 0 where
   pub some : 0 < channels
   pub few : channels ≤ most_channels
-  pub whole : frames * channels ≡ samples
+  pub whole : samples / channels * channels ≡ samples

@@ -7,7 +7,6 @@ ghost use Rattle.samples.specs.Kinds.{Samples, i16s, f32s, size_of, as_f64, as_f
 ghost use Rattle.samples.specs.Laws.{i16_size, i16_f64, i16_f32, f32_size, f32_f64, f32_f32};
 
 pub mod fills;
-pub mod sources;
 
 // A kind of samples: the floats that a sample becomes, for peaks and weighting and for the interpolator.
 pub trait Sample: Copy {

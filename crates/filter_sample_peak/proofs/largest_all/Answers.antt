@@ -7,12 +7,13 @@ use lib.Ieee.{Float, nan}
 use Rattle.std.proofs.lemmas.List.{map-append}
 use Rattle.std.specs.Slice.Iter.{chunks_rest}
 use Rattle.samples.specs.Frames.{column}
-use Rattle.samples.proofs.Cutting.{Framed}
+use Rattle.samples.specs.Stretches.{Framed}
 use Rattle.samples.specs.Stretches.{stretch_places}
 use Rattle.base_floats.specs.Largest.{largest}
 use Rattle.base_floats.proofs.Magnitude.{High, largest_high}
 use Rattle.filter_sample_peak.specs.Peak.{over_channels}
-use Rattle.filter_sample_peak.proofs.Cutting.{largest_cut, whole_front, whole_back, filled_part}
+use Rattle.filter_sample_peak.proofs.Cutting.{largest_cut}
+use Rattle.samples.proofs.Parts.{whole_front, whole_back, filled_part}
 use Rattle.filter_sample_peak.proofs.Loudest.{peaks, channels_length, channels_first, none_largest}
 use Rattle.filter_sample_peak.proofs.largest_all.Goals as goal
 

@@ -2,7 +2,7 @@ use Rattle.std.proofs.Common.{◌≡◌, ℕ, ◌*◌, ◌/◌, ◌<◌, map, le
 use lib.Ieee.{nan}
 use Rattle.std.specs.Slice.Iter.{chunks_rest, chunks_size}
 use Rattle.samples.specs.Frames.{column}
-use Rattle.samples.proofs.Cutting.{Framed}
+use Rattle.samples.specs.Stretches.{Framed}
 use Rattle.samples.specs.Stretches.{stretch_places}
 use Rattle.base_floats.specs.Entry.{plus_zero}
 use Rattle.base_floats.specs.Largest.{largest}

@@ -11,7 +11,7 @@ use Rattle.filter_checks.specs.Calls.{seed_rows}
 use Rattle.filter_checks.proofs.Checking.{Seeds, seeds}
 use Rattle.samples.specs.Sample.{samples_by}
 use Rattle.samples.specs.Frames.{column}
-use Rattle.samples.proofs.Cutting.{Framed}
+use Rattle.samples.specs.Stretches.{Framed}
 use Rattle.filter_recurrence.specs.declared.states.State.{State}
 use Rattle.filter_recurrence.specs.Channels.{Weighing, weighing_of, over_used, state_after}
 use Rattle.filter_recurrence.specs.Recurrence.{after, flushed}

@@ -7,7 +7,7 @@ use lib.Ieee.{Float}
 use Rattle.std.proofs.lemmas.List.{map-append}
 use Rattle.std.specs.Slice.Iter.{chunks_rest}
 use Rattle.samples.specs.Stretches.{run_places}
-use Rattle.samples.proofs.Cutting.{Framed}
+use Rattle.samples.specs.Stretches.{Framed}
 use Rattle.samples.proofs.Parts.{whole_front, whole_back, filled_part}
 use Rattle.filter_recurrence.specs.Recurrence.{flushed}
 use Rattle.filter_recurrence.specs.Channels.{state_places, over_used}

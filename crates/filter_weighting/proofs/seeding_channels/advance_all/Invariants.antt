@@ -1,7 +1,7 @@
 use Rattle.std.proofs.Common.{◌≡◌, ◌*◌, ◌/◌, map, length}
 use Rattle.std.specs.Slice.Iter.{chunks_rest, chunks_size}
 use Rattle.samples.specs.Stretches.{run_places}
-use Rattle.samples.proofs.Cutting.{Framed}
+use Rattle.samples.specs.Stretches.{Framed}
 use Rattle.filter_recurrence.specs.Channels.{state_places, over_used}
 use Rattle.filter_recurrence.proofs.Runs.{hears}
 use Rattle.filter_weighting.proofs.seeding_channels.advance_all.Given as goal

@@ -8,7 +8,7 @@ use borrow.Author.Tests.{eqb-true, eqb-false}
 use lib.ListN.{length-map}
 use lib.Ieee.{Float}
 use Rattle.samples.specs.Frames.{most_channels}
-use Rattle.samples.proofs.Cutting.{Framed}
+use Rattle.samples.specs.Stretches.{Framed}
 use Rattle.filter_checks.proofs.Checking.{frames_fine}
 use Rattle.true_peak_interp.specs.Interp.{kind_of}
 use Rattle.true_peak_state.specs.Channel.{past}
