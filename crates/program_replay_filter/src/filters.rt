@@ -1,154 +1,175 @@
 // The cases of the filter: the interpolator's phases, single calls, and impulses.
+ghost use Rattle.std.specs.Prelude.{ℕ, ◌≤◌};
+ghost use Rattle.std.proofs.Common.{rules};
+
 use filter::{Filter, Filtered, Switches};
 use filter_recurrence::Coefficients;
 use filter_recurrence::states::State;
 use filter_sample_peak::Peaks;
+use samples::Sample;
 use true_peak_interp::Interp;
 use true_peak_state::TruePeak;
+
+// The numbers by which a case tells a call's operation, its kind of samples and its switches, and the factor of its phases.
+const PROCESS: usize = 0;
+
+const I16: usize = 0;
+
+const LOUDNESS: u64 = 1;
+
+const PEAK: u64 = 2;
+
+const TRUE_PEAK: u64 = 4;
+
+const FOURFOLD: u64 = 4;
 
 // ---- what a case has at a place
 fn count_at(case: &[u8], at: usize) -> usize {
     base_fields::number_at(case, at, 2) as usize
 }
 
-// Place `place` of a list of floats: of the first `count` places the case has the patterns from `from` on, each other place holds 0.5.
-fn wide_pattern(case: &[u8], from: usize, count: usize, place: usize) -> u64 {
-    if count <= place {
-        return 0x3FE0_0000_0000_0000;
-    }
-    if 4096 < from {
-        return 0;
-    }
-    if 4096 < place {
-        return 0;
-    }
-    base_fields::number_at(case, from + 8 * place, 8)
+// A value that stands in a case by its pattern.
+trait Value: Copy {
+    ghost WIDTH: { ℕ };
+
+    // The bytes of its field.
+    const WIDTH: usize;
+
+    // The pattern of 0.5, and of no more than its low bytes.
+    const HALF: u64;
+
+    fn of(pattern: u64) -> Self;
+
+    // Whether it is what the pattern stands for.
+    fn is(self, pattern: u64) -> bool;
+
+    ghost few: { WIDTH ≤ 8 };
 }
 
-// The same of patterns of 32 bits.
-fn narrow_pattern(case: &[u8], from: usize, count: usize, place: usize) -> u32 {
-    if count <= place {
-        return 0x3F00_0000;
+impl Value for f64 {
+    ghost WIDTH = { 8 };
+
+    const WIDTH: usize = 8;
+
+    const HALF: u64 = 0x3FE0_0000_0000_0000;
+
+    ghost few = { Prim.search rules };
+
+    fn of(pattern: u64) -> f64 {
+        base_floats::float_of(pattern)
     }
-    if 4096 < from {
-        return 0;
+
+    fn is(self, pattern: u64) -> bool {
+        base_floats::pattern_of(self) == pattern
     }
-    if 4096 < place {
-        return 0;
+}
+
+// A pattern of 32 bits. No two floats have the same widened pattern, but for NaN.
+impl Value for f32 {
+    ghost WIDTH = { 4 };
+
+    const WIDTH: usize = 4;
+
+    const HALF: u64 = 0x3F00_0000;
+
+    ghost few = { Prim.search rules };
+
+    fn of(pattern: u64) -> f32 {
+        float_of((pattern % 4294967296) as u32)
     }
-    (base_fields::number_at(case, from + 4 * place, 4) % 4294967296) as u32
+
+    fn is(self, pattern: u64) -> bool {
+        base_floats::pattern_of(samples::f32_to_f64(self))
+            == base_floats::pattern_of(samples::f32_to_f64(f32::of(pattern)))
+    }
+}
+
+// An i16 stands in the low bytes of a field of 4 bytes.
+impl Value for i16 {
+    ghost WIDTH = { 4 };
+
+    const WIDTH: usize = 4;
+
+    const HALF: u64 = 0x3F00_0000;
+
+    ghost few = { Prim.search rules };
+
+    fn of(pattern: u64) -> i16 {
+        ((pattern % 65536) as u16).cast_signed()
+    }
+
+    fn is(self, pattern: u64) -> bool {
+        self == i16::of(pattern)
+    }
 }
 
 // The float that a pattern of 32 bits stands for. Every NaN pattern stands for NaN.
 fn float_of(pattern: u32) -> f32 {
     let field = pattern % 0x8000_0000 / 0x0080_0000;
-    if field != 255 {
-        return f32::from_bits(pattern);
-    }
     let digits = pattern % 0x0080_0000;
-    if digits == 0 {
+    if field != 255 || digits == 0 {
         return f32::from_bits(pattern);
     }
-    0.0 / 0.0
+    f32::NAN
 }
 
-// The i16 in two bytes.
-fn short_of(number: u32) -> i16 {
-    if number < 32768 {
-        return number as i16;
+// Place `place` of a list: of the first `count` places the case has the patterns from `from` on, each other place holds 0.5.
+fn pattern_at<V: Value>(case: &[u8], from: usize, count: usize, place: usize) -> u64 {
+    if count <= place {
+        return V::HALF;
     }
-    if number < 65536 {
-        return -32768 + (number - 32768) as i16;
+    if 4096 < from || 4096 < place {
+        return 0;
     }
-    0
+    base_fields::number_at(case, from + V::WIDTH * place, V::WIDTH)
+}
+
+// ---- lists of values: taken from a case, and whether they are a case's
+fn fill<V: Value>(case: &[u8], from: usize, count: usize, values: &mut [V]) {
+    for (place, value) in values.iter_mut().enumerate() {
+        *value = V::of(pattern_at::<V>(case, from, count, place));
+    }
+}
+
+fn all_same<V: Value>(case: &[u8], from: usize, count: usize, values: &[V]) -> bool {
+    values.iter().enumerate().all(|(place, value)| value.is(pattern_at::<V>(
+        case, from, count, place,
+    )))
 }
 
 fn coefficients_of(case: &[u8]) -> Coefficients {
     let mut a: [f64; 5] = [0.0; 5];
     let mut b: [f64; 5] = [0.0; 5];
-    fill_wide(case, 72, 5, &mut a);
-    fill_wide(case, 112, 5, &mut b);
-    Coefficients { a: a, b: b }
-}
-
-// ---- lists of values: taken from a case, and whether they are a case's
-fn fill_wide(case: &[u8], from: usize, count: usize, values: &mut [f64]) {
-    let mut place = 0;
-    while place < values.len() {
-        values[place] = base_floats::float_of(wide_pattern(case, from, count, place));
-        place += 1;
-    }
-}
-
-fn fill_narrow(case: &[u8], from: usize, count: usize, values: &mut [f32]) {
-    let mut place = 0;
-    while place < values.len() {
-        values[place] = float_of(narrow_pattern(case, from, count, place));
-        place += 1;
-    }
-}
-
-// An i16 stands in the low bytes of a field of 4 bytes. The case has the first 12, the others are 0.
-fn fill_short(case: &[u8], from: usize, values: &mut [i16]) {
-    let mut place = 0;
-    while place < values.len() {
-        values[place] = short_of(narrow_pattern(case, from, 12, place) % 65536);
-        place += 1;
-    }
-}
-
-fn wide_same(case: &[u8], from: usize, count: usize, values: &[f64]) -> bool {
-    let mut place = 0;
-    while place < values.len() {
-        if base_floats::pattern_of(values[place]) != wide_pattern(case, from, count, place) {
-            return false;
-        }
-        place += 1;
-    }
-    true
-}
-
-// No two floats of 32 bits have the same widened pattern, but for NaN.
-fn same(x: f32, y: f32) -> bool {
-    base_floats::pattern_of(samples::f32_to_f64(x))
-        == base_floats::pattern_of(samples::f32_to_f64(y))
-}
-
-fn narrow_same(case: &[u8], from: usize, count: usize, values: &[f32]) -> bool {
-    let mut place = 0;
-    while place < values.len() {
-        if !same(
-            values[place],
-            float_of(narrow_pattern(case, from, count, place)),
-        ) {
-            return false;
-        }
-        place += 1;
-    }
-    true
+    fill(case, 72, 5, &mut a);
+    fill(case, 112, 5, &mut b);
+    Coefficients { a, b }
 }
 
 // ---- phases
 // u16 factor; u32 patterns of 24 samples, newest first; u32 patterns of 4 phases. Factor 4 looks at 12 samples, factor 2 has 2 phases: the others are 0.
 pub(crate) fn phases_same(case: &[u8]) -> bool {
-    if base_fields::number_at(case, 0, 2) == 4 {
-        return fourfold_same(case);
+    match base_fields::number_at(case, 0, 2) {
+        FOURFOLD => fourfold_same(case),
+        _ => twofold_same(case),
     }
-    twofold_same(case)
 }
 
+// A function for each factor: the check does not cover a bound `Fn` over arrays whose lengths are parameters.
 fn fourfold_same(case: &[u8]) -> bool {
-    let mut samples: [f32; Interp::FOURFOLD_TAPS] = [0.0; Interp::FOURFOLD_TAPS];
-    fill_narrow(case, 2, Interp::FOURFOLD_TAPS, &mut samples);
-    let phases = Interp::fourfold_phases(&samples);
-    narrow_same(case, 98, Interp::FOURFOLD, &phases)
+    let mut samples = [0.0; Interp::FOURFOLD_TAPS];
+    fill(case, 2, Interp::FOURFOLD_TAPS, &mut samples);
+    all_same(
+        case,
+        98,
+        Interp::FOURFOLD,
+        &Interp::fourfold_phases(&samples),
+    )
 }
 
 fn twofold_same(case: &[u8]) -> bool {
-    let mut samples: [f32; Interp::TWOFOLD_TAPS] = [0.0; Interp::TWOFOLD_TAPS];
-    fill_narrow(case, 2, Interp::TWOFOLD_TAPS, &mut samples);
-    let phases = Interp::twofold_phases(&samples);
-    narrow_same(case, 98, Interp::TWOFOLD, &phases)
+    let mut samples = [0.0; Interp::TWOFOLD_TAPS];
+    fill(case, 2, Interp::TWOFOLD_TAPS, &mut samples);
+    all_same(case, 98, Interp::TWOFOLD, &Interp::twofold_phases(&samples))
 }
 
 // ---- calls
@@ -158,7 +179,7 @@ fn twofold_same(case: &[u8]) -> bool {
 // 15 states and 3 sample peaks, u32 patterns of 69 remembered samples and 3 true peaks. All other places hold 0.5, before and afterwards.
 pub(crate) fn call_same(case: &[u8]) -> bool {
     let mut dest = [0.5; 16];
-    call_into(case, &mut dest) && wide_same(case, 1018, count_at(case, 16), &dest)
+    call_into(case, &mut dest) && all_same(case, 1018, count_at(case, 16), &dest)
 }
 
 // The places that the case has.
@@ -180,65 +201,44 @@ fn call_mapped(case: &[u8], dest: &mut [f64]) -> bool {
         return false;
     }
     let map = &case[68..68 + bytes];
-    if count_at(case, 2) == 0 {
-        return call_i16(case, map, dest);
+    match count_at(case, 2) {
+        I16 => call_of(case, &mut [0i16; 1024], map, dest),
+        _ => call_of(case, &mut [0.0f32; 12], map, dest),
     }
-    call_f32(case, map, dest)
 }
 
-fn call_i16(case: &[u8], map: &[u8], dest: &mut [f64]) -> bool {
+// A call of at most as many samples as there is data for. The case has the first 12, the others are 0.
+fn call_of<S: Sample + Value>(case: &[u8], data: &mut [S], map: &[u8], dest: &mut [f64]) -> bool {
     let samples = count_at(case, 12);
-    if 1024 < samples {
+    if data.len() < samples {
         return false;
     }
-    let mut data = [0i16; 1024];
-    fill_short(case, 20, &mut data);
-    heard_i16(case, &data[..samples], map, dest)
+    fill(case, 20, 12, data);
+    heard(case, &data[..samples], map, dest)
 }
 
-fn heard_i16(case: &[u8], data: &[i16], map: &[u8], dest: &mut [f64]) -> bool {
+fn heard<S: Sample>(case: &[u8], data: &[S], map: &[u8], dest: &mut [f64]) -> bool {
     let given = filter_of(case);
-    if count_at(case, 0) == 0 {
-        let filtered = filter_process::process_i16(given, data, map, dest, count_at(case, 18));
-        return filtered_same(case, filtered);
-    }
-    let filtered = filter_seed::seed_i16(given, data, map);
-    filtered_same(case, filtered)
-}
-
-fn call_f32(case: &[u8], map: &[u8], dest: &mut [f64]) -> bool {
-    let samples = count_at(case, 12);
-    if 12 < samples {
-        return false;
-    }
-    let mut data: [f32; 12] = [0.0; 12];
-    fill_narrow(case, 20, 12, &mut data);
-    heard_f32(case, &data[..samples], map, dest)
-}
-
-fn heard_f32(case: &[u8], data: &[f32], map: &[u8], dest: &mut [f64]) -> bool {
-    let given = filter_of(case);
-    if count_at(case, 0) == 0 {
-        let filtered = filter_process::process_f32(given, data, map, dest, count_at(case, 18));
-        return filtered_same(case, filtered);
-    }
-    let filtered = filter_seed::seed_f32(given, data, map);
+    let filtered = match count_at(case, 0) {
+        PROCESS => filter_process::process(given, data, map, dest, count_at(case, 18)),
+        _ => filter_seed::seed(given, data, map),
+    };
     filtered_same(case, filtered)
 }
 
 fn filter_of(case: &[u8]) -> Filter {
     let mut state: [f64; 40] = [0.0; 40];
     let mut peaks: [f64; 8] = [0.0; 8];
-    fill_wide(case, 152, 15, &mut state);
-    fill_wide(case, 272, 3, &mut peaks);
+    fill(case, 152, 15, &mut state);
+    fill(case, 272, 3, &mut peaks);
     let on = base_fields::number_at(case, 6, 2);
     Filter {
         channels: count_at(case, 4),
         rate: (base_fields::number_at(case, 8, 4) % 4294967296) as u32,
         switches: Switches {
-            loudness: on % 2 == 1,
-            peak: on / 2 % 2 == 1,
-            true_peak: on / 4 % 2 == 1,
+            loudness: on & LOUDNESS != 0,
+            peak: on & PEAK != 0,
+            true_peak: on & TRUE_PEAK != 0,
         },
         coefficients: coefficients_of(case),
         state: State { values: state },
@@ -250,25 +250,19 @@ fn filter_of(case: &[u8]) -> Filter {
 fn true_peak_of(case: &[u8]) -> TruePeak {
     let mut memory: [f32; 184] = [0.0; 184];
     let mut peaks: [f32; 8] = [0.0; 8];
-    fill_narrow(case, 296, 69, &mut memory);
-    fill_narrow(case, 572, 3, &mut peaks);
-    TruePeak {
-        memory: memory,
-        peaks: peaks,
-    }
+    fill(case, 296, 69, &mut memory);
+    fill(case, 572, 3, &mut peaks);
+    TruePeak { memory, peaks }
 }
 
 fn filtered_same(case: &[u8], filtered: Filtered) -> bool {
-    let answer = filtered.answer;
-    let state = filtered.filter.state.values;
-    let peaks = filtered.filter.peaks.values;
-    let memory = filtered.filter.true_peak.memory;
-    let true_peaks = filtered.filter.true_peak.peaks;
-    base_refusals::codes::number_of(answer) as u64 == base_fields::number_at(case, 584, 2)
-        && wide_same(case, 586, 15, &state)
-        && wide_same(case, 706, 3, &peaks)
-        && narrow_same(case, 730, 69, &memory)
-        && narrow_same(case, 1006, 3, &true_peaks)
+    let filter = filtered.filter;
+    u64::from(base_refusals::codes::number_of(filtered.answer))
+        == base_fields::number_at(case, 584, 2)
+        && all_same(case, 586, 15, &filter.state.values)
+        && all_same(case, 706, 3, &filter.peaks.values)
+        && all_same(case, 730, 69, &filter.true_peak.memory)
+        && all_same(case, 1006, 3, &filter.true_peak.peaks)
 }
 
 // ---- impulses

@@ -6,6 +6,7 @@ use lib.Dec.{T, eqb}
 use lib.Ieee.{nan_bits, binary32}
 use borrow.Author.Tests.{ne_eqb, eq-eqb}
 use Rattle.program_replay_filter.proofs.filters.float_of.Goals as goal
+use Rattle.program_replay_filter.proofs.filters.float_of.Goals.{then-field-ne255-via-then-field-ne255, then-field-ne255-via-else-field-ne255+then-digits-eq0}
 
 abbrev field : ℕ → ℕ
 field pattern = pattern % 0x8000_0000 / 0x0080_0000
@@ -26,7 +27,7 @@ unfolding nan_bits
 no_digits pattern h = rw (eq-eqb (digits pattern) 0 h) (and_false (eqb (field pattern) 255))
 
 pub float_from_bits-result : goal.float_from_bits-result
-float_from_bits-result c = other_field c.args.pattern c.if-field-ne255.true
-
-pub float_from_bits-result-then-digits-eq0 : goal.float_from_bits-result-then-digits-eq0
-float_from_bits-result-then-digits-eq0 c = no_digits c.args.pattern c.if-digits-eq0.true
+float_from_bits-result c = elim c.then-field-ne255.branch [
+  | then-field-ne255-via-then-field-ne255 w ↦ other_field c.args.pattern w.if-field-ne255.true
+  | then-field-ne255-via-else-field-ne255+then-digits-eq0 w ↦ no_digits c.args.pattern w.if-digits-eq0.true
+]
