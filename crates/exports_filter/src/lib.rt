@@ -44,7 +44,6 @@ pub fn xel_process_i16(
         let call : Call = record { filter = filter; samples = i16s «data».now; map = map.now; dest = dest.old; start = start } in
         (result ≡ code (processed call)) × (left ≡ kept processed call)) }
 {
-    let none: [f32; 0] = [];
     let answer = filter_process::process_lent(
         channels,
         rate,
@@ -56,7 +55,6 @@ pub fn xel_process_i16(
         memory,
         true_peaks,
         data,
-        &none,
         map,
         dest,
         start,
@@ -85,7 +83,6 @@ pub fn xel_process_f32(
         let call : Call = record { filter = filter; samples = f32s «data».now; map = map.now; dest = dest.old; start = start } in
         (result ≡ code (processed call)) × (left ≡ kept processed call)) }
 {
-    let none: [i16; 0] = [];
     let answer = filter_process::process_lent(
         channels,
         rate,
@@ -96,7 +93,6 @@ pub fn xel_process_f32(
         peaks,
         memory,
         true_peaks,
-        &none,
         data,
         map,
         dest,
@@ -124,7 +120,6 @@ pub fn xel_seed_i16(
 {
     let no_peaks: [f64; 8] = [0.0; 8];
     let no_true_peaks: [f32; 8] = [0.0; 8];
-    let none: [f32; 0] = [];
     let answer = filter_seed::seed_lent(
         channels,
         rate,
@@ -136,7 +131,6 @@ pub fn xel_seed_i16(
         memory,
         &no_true_peaks,
         data,
-        &none,
         map,
     );
     number_of(answer)
@@ -160,7 +154,6 @@ pub fn xel_seed_f32(
 {
     let no_peaks: [f64; 8] = [0.0; 8];
     let no_true_peaks: [f32; 8] = [0.0; 8];
-    let none: [i16; 0] = [];
     let answer = filter_seed::seed_lent(
         channels,
         rate,
@@ -171,7 +164,6 @@ pub fn xel_seed_f32(
         &no_peaks,
         memory,
         &no_true_peaks,
-        &none,
         data,
         map,
     );

@@ -5,18 +5,14 @@ use Rattle.filter.specs.Filter.{no_peaks, resting, with_arrays}
 use Rattle.filter.specs.Call.{seed_of, Kept}
 use Rattle.filter.specs.Seed.{seeded}
 use Rattle.exports_filter.specs.Switches.{switches_of}
-use Rattle.exports_filter.proofs.Told.{none_seeded, ints_told}
+use Rattle.exports_filter.proofs.Told.{told}
 use Rattle.exports_filter.proofs.xel_seed_i16.Goals as goal
 
 pub returns : goal.returns
 unfolding of_bits
 returns c =
-    let called = c in
-    let on = called in
-    let a = on.args in
+    let a = c.args in
     let filter =
     with_arrays (resting a.channels a.rate (switches_of a.on) (record { a = a.a.now; b = a.a.now }))
     (record { state = a.state.now; peaks = no_peaks; memory = a.memory.now; true_peaks = no_peaks }) in
-    let call = seed_of filter (i16s a.«data».now) a.map.now in
-    ints_told seeded (λ (k : Kept). k.filter) called.seed_lent-answer.result c.number_of.ensures call (none_seeded call) a.«data».now
-    (rw on.switches_of.ensures at called.seed_lent-answer.ensures)
+    told seeded (λ (k : Kept). k.filter) c.seed_lent-answer.result c.number_of.ensures (seed_of filter (i16s a.«data».now) a.map.now) (rw c.switches_of.ensures at c.seed_lent-answer.ensures)
