@@ -6,6 +6,8 @@ ghost use Rattle.order_rules.specs.Order.{all_above, ordered};
 ghost use Rattle.order_rules.specs.Arrangement.{Above, Ordered};
 ghost use Rattle.order_heap.specs.Inner.{Larger, HeapFrom, Heaped};
 
+// That all energies are above zero is said of each lent part: a struct around it would be made anew for every part that is lent on, and show it at every store.
+
 // The child of `parent` that no other child is above.
 fn larger_child(heap: &[f64], parent: usize) -> usize
     requires { (2 * parent + 1 < length heap.now) × Above heap.now }

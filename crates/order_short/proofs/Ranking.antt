@@ -11,7 +11,7 @@ use native.Mathlib.Decide.{dec_lt}
 use native.Mathlib.Omega.{arith}
 use lib.Dec.{T}
 use lib.ListN.{length, take, drop, set, take-append-drop, length-drop}
-use lib.Seq.{take-suc, drop-cons, ext_get_or, get_or-set_same, get_or-set_other, get_or-take, length-take-le, take-length, drop-length}
+use lib.Seq.{take-suc, drop-cons, ext_get_or, get_or-set_same, get_or-set_other, length-take-le, take-length, drop-length}
 use lib.Ieee.{Float, nan, le, lt}
 use lib.Ieee.Positive.{above}
 use Rattle.base_floats.proofs.Order.{is_true, is_false, float_le_trans, lt→le, lt_not_le}
@@ -237,7 +237,7 @@ module _ (l : List Float) (a : All Energy l) where
 abbrev pub Placed : ℕ → List Float → List Float → Type 0
 Placed i l places = (k : ℕ) → k < i → at places (place_of l k) ≡ at (in_order l) (place_of l k)
 
-module _ (l : List Float) (a : All Energy l) (i : ℕ) (places : List Float) (long : length l ≤ length places) (p : Placed i l places) where
+module _ (l : List Float) (a : All Energy l) (i : ℕ) (places : List Float) (long : length places ≡ length l) (p : Placed i l places) where
   pub placed_on : i < length l → Placed (i + 1) l (set places (place_of l i) (at l i))
   placed_on h k g = go (same_or_other k i) (same_or_other (place_of l k) (place_of l i))
     where
@@ -253,10 +253,9 @@ module _ (l : List Float) (a : All Energy l) (i : ℕ) (places : List Float) (lo
       go (inl e) (inr n) = absurd (n (ap (place_of l) e))
       go (inr m) (inr n) = get_or-set_other places (place_of l i) (place_of l k) (at l i) nan n ∙ p k (omega arith)
 
-  pub all_placed : length l ≤ i → take (length l) places ≡ in_order l
+  pub all_placed : length l ≤ i → places ≡ in_order l
   all_placed whole =
-      ext_get_or nan (take (length l) places) (in_order l) (length-take-le (length l) places long ∙ perm_length (in_order_perm l))
+      ext_get_or nan places (in_order l) (long ∙ perm_length (in_order_perm l))
       (λ r g.
-      let r_in : r < length l = omega (arith, length-take-le (length l) places long) in
-      let it = holder l a r r_in in
-      get_or-take (length l) places r nan r_in ∙ ap (at places) (sym it.is) ∙ p it.place (omega (arith, it.inside)) ∙ ap (at (in_order l)) it.is)
+      let it = holder l a r (omega arith) in
+      ap (at places) (sym it.is) ∙ p it.place (omega (arith, it.inside)) ∙ ap (at (in_order l)) it.is)

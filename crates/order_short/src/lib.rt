@@ -1,7 +1,7 @@
 // Up to 24 energies in rising order, in place, by counting out each one's place. No branch hangs on what the energies are.
 #![tactic(auto)]
 
-ghost use Rattle.std.specs.Prelude.{Bool, Float, ◌≡◌, true, ◌<◌, ◌≤◌, length, take};
+ghost use Rattle.std.specs.Prelude.{Bool, Float, ◌≡◌, true, ◌<◌, ◌≤◌, length};
 ghost use Rattle.order_rules.specs.Order.{in_order, all_above};
 ghost use Rattle.order_short.specs.Short.{short_above, short_ordered};
 ghost use Rattle.order_short.specs.Inner.{count, place_of};
@@ -37,9 +37,9 @@ fn place_of(part: &[f64], i: usize) -> usize
 
 // Answers whether all are above zero. Only then do the places hold their order.
 fn put_in_place(part: &[f64], places: &mut [f64]) -> bool
-    requires { length part.now ≤ length places.old }
+    requires { length places.old ≡ length part.now }
     ensures value { result ≡ all_above part.now }
-    ensures places_after { all_above part.now ≡ true → take (length part.now) places.new ≡ in_order part.now }
+    ensures places_after { all_above part.now ≡ true → places.new ≡ in_order part.now }
 {
     let mut fine = true;
     for (i, x) in part.iter().enumerate() {
@@ -57,10 +57,10 @@ pub fn order(energies: &mut [f64]) -> bool
     if energies.len() > SHORT {
         return false;
     }
-    let mut places = [0.0f64; SHORT];
-    if put_in_place(energies, &mut places) {
-        let n = energies.len();
-        energies.copy_from_slice(&places[..n]);
+    let mut all_places = [0.0f64; SHORT];
+    let places = &mut all_places[..energies.len()];
+    if put_in_place(energies, places) {
+        energies.copy_from_slice(places);
         return true;
     }
     false
