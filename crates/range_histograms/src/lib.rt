@@ -40,15 +40,6 @@ fn add_history(added: &mut [u64; bins::BINS], entry: Entry, counters: &[Count])
     }
 }
 
-fn add_histories(added: &mut [u64; bins::BINS], entries: &[Entry], counters: &[Count])
-    requires { (length entries.now ≤ most_histories) × (counters_inside (length counters.now) entries.now) × AtMost 0 added.old }
-    ensures { (added.new ≡ added_to added.old (all_show counters.now [] entries.now)) × AtMost most_in_bin added.new }
-{
-    for entry in entries {
-        add_history(added, *entry, counters);
-    }
-}
-
 // The blocks of a bin as a float, by way of a signed number.
 fn float(blocks: u64) -> f64
     requires { blocks ≤ most_in_bin }
@@ -94,6 +85,18 @@ fn alone(entry: Entry, counters: &[Count]) -> Span
     }
 }
 
+// The range of several, their counters added up. A function of its own: the room for the sums is cleared where it begins, which one history does not need.
+fn together(entries: &[Entry], counters: &[Count]) -> Span
+    requires { (length entries.now ≤ most_histories) × counters_inside (length counters.now) entries.now }
+    ensures { said result ≡ says (counted_span (added_to empty (all_show counters.now [] entries.now))) }
+{
+    let mut added = [0; bins::BINS];
+    for entry in entries {
+        add_history(&mut added, *entry, counters);
+    }
+    span_of(&Bins { counters: &added })
+}
+
 // The range over the histograms of a set. Its queues play no part.
 pub fn of_histograms(set: Histories<'_>) -> Span
     ensures { said result ≡ said_by (histogram_range (lent set.entry)) }
@@ -104,7 +107,5 @@ pub fn of_histograms(set: Histories<'_>) -> Span
     if let [entry] = set.entries {
         return alone(*entry, set.counters);
     }
-    let mut added = [0; bins::BINS];
-    add_histories(&mut added, set.entries, set.counters);
-    span_of(&Bins { counters: &added })
+    together(set.entries, set.counters)
 }

@@ -1,6 +1,6 @@
 -- `range_histograms::of_histograms` meets its contract: the set's refusals first, then counters that start from 0 and have every histogram added.
 -- Assumes nothing.
-use Rattle.std.proofs.Common.{ℕ, ◌≤◌, List, [], length, get_or, sym, ap, ◌∙◌, arith}
+use Rattle.std.proofs.Common.{ℕ, ◌≤◌, List, length, get_or, sym, ap, ◌∙◌, arith}
 use Rattle.base_refusals.specs.Outcome.{says, said_by}
 use Rattle.base_refusals.specs.Refusal.{number}
 use Rattle.base_refusals.proofs.Numbers.{no_number}
@@ -11,7 +11,7 @@ use Rattle.history_set.specs.Set.{all_show, counters_end}
 use Rattle.history_set.proofs.Entries.{past_the_last, every_at, all_chosen, all_counters_inside}
 use Rattle.history_set.proofs.Rows.{kept_lent}
 use Rattle.range_histograms.specs.Counted.{added_to, counted_span}
-use Rattle.range_histograms.proofs.Adding.{empty_is, zeros_most, added_any}
+use Rattle.range_histograms.proofs.Adding.{added_any}
 use Rattle.range_histograms.proofs.Single.{one_entry, one_added}
 use Rattle.range_histograms.proofs.Answers.{histogram_refused, histogram_asked}
 use Rattle.range_histograms.proofs.of_histograms.Goals as goal
@@ -35,20 +35,17 @@ returns-in-len1 c =
     ∙ ap (λ (l : List Entry). added_to empty (all_show set.counters.now set.energies.now l)) (one_entry set.entries.now (omega arith) ∙ sym (all_chosen set)))
     ∙ sym (ap said_by (histogram_asked (lent set) (sym c.in_default.ensures)))
 
-pub add_histories-requires : goal.add_histories-requires
-add_histories-requires c =
+pub together-requires : goal.together-requires
+together-requires c =
     let set = c.args.set in
-    let kept = kept_lent set (sym (c.in_default.ensures)) in
-    (kept.few, all_counters_inside (length set.counters.now) (length set.energies.now) set.entries.now kept.inside, zeros_most)
+    let kept = kept_lent set (sym c.in_default.ensures) in
+    (kept.few, all_counters_inside (length set.counters.now) (length set.energies.now) set.entries.now kept.inside)
 
 pub returns : goal.returns
 returns c =
     let set = c.args.set in
-    let e = sym (c.in_default.ensures) in
-    c.span_of.ensures
+    c.together.ensures
     ∙ ap (λ (l : List ℕ). says (counted_span l))
-    (c.add_histories.ensures.0
-    ∙ ap (λ (l : List ℕ). added_to l (all_show set.counters.now [] set.entries.now)) empty_is
-    ∙ added_any set.counters.now set.energies.now set.entries.now empty
+    (added_any set.counters.now set.energies.now set.entries.now empty
     ∙ ap (λ (l : List Entry). added_to empty (all_show set.counters.now set.energies.now l)) (sym (all_chosen set)))
-    ∙ sym (ap said_by (histogram_asked (lent set) e))
+    ∙ sym (ap said_by (histogram_asked (lent set) (sym c.in_default.ensures)))

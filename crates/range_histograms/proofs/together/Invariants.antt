@@ -1,11 +1,11 @@
 use Rattle.std.proofs.Common.{◌≡◌, ◌*◌, [], drop}
-use Rattle.history_histogram.specs.Histogram.{largest_count}
+use Rattle.history_histogram.specs.Histogram.{largest_count, empty}
 use Rattle.history_set.specs.Set.{all_show}
 use Rattle.range_histograms.specs.Counted.{AtMost, added_to}
-use Rattle.range_histograms.proofs.add_histories.Given as goal
+use Rattle.range_histograms.proofs.together.Given as goal
 
 abbrev pub invariant-loop-entry : goal.invariant-loop-entry
 invariant-loop-entry l = record {
   few : AtMost (l.entry-index * largest_count) l.added;
-  same : added_to l.added (all_show l.counters [] (drop l.entry-index l.entries)) ≡ added_to l.initial.added (all_show l.counters [] l.entries);
+  same : added_to l.added (all_show l.counters [] (drop l.entry-index l.entries)) ≡ added_to empty (all_show l.counters [] l.entries);
 }
