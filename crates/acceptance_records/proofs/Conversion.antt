@@ -24,7 +24,6 @@ use Rattle.record_layout.specs.declared.Model.{Model}
 use Rattle.record_layout.specs.declared.Model.TheVariants.{Ours, Third}
 use Rattle.record_layout.specs.declared.Kind.{Kind}
 use Rattle.record_layout.specs.declared.Kind.TheVariants.{Histogram, Queue}
-use Rattle.record_layout.specs.declared.Known.TheVariants.{Of}
 use Rattle.record_layout.specs.Layout.{head_width, kinds, kind_number, known_among, known_of, kind_in, room_row, written_to}
 use Rattle.record_layout.proofs.Frames.{framed}
 use Rattle.record_histogram.specs.Writing.{counters_record, write_counters_rows, write_counters}
@@ -136,26 +135,26 @@ conversion_keeps = record {
 }
 
 -- ---- a kind and its number
-known_by : (kind : Kind) → known_of (kind_number kind) ≡ Of kind
+known_by : (kind : Kind) → known_of (kind_number kind) ≡ Some kind
 known_by (Histogram Ours) = refl
 known_by (Histogram Third) = refl
 known_by (Queue Ours) = refl
 known_by (Queue Third) = refl
 
 -- a kind that is found in a list is found by its number
-found : (asked : ℕ) (kind : Kind) (list : List Kind) → known_among asked list ≡ Of kind → asked ≡ kind_number kind
+found : (asked : ℕ) (kind : Kind) (list : List Kind) → known_among asked list ≡ Some kind → asked ≡ kind_number kind
 found asked kind [] e = let z : ◌≡◌ {A = ℕ} 0 1 = cc in absurd (omega arith)
 found asked kind (first ∷ rest) e = go (eqb asked (kind_number first)) refl e (found asked kind rest)
   where
-    go : (b : Bool) → eqb asked (kind_number first) ≡ b → cond b (Of first) (known_among asked rest) ≡ Of kind
-        → (known_among asked rest ≡ Of kind → asked ≡ kind_number kind) → asked ≡ kind_number kind
+    go : (b : Bool) → eqb asked (kind_number first) ≡ b → cond b (Some first) (known_among asked rest) ≡ Some kind
+        → (known_among asked rest ≡ Some kind → asked ≡ kind_number kind) → asked ≡ kind_number kind
     go true h k later = let same : first ≡ kind = cc in eqb-true asked (kind_number first) h ∙ ap kind_number same
     go false h k later = later k
 
 -- kinds of one number are one kind
 one_kind : (kind asked : Kind) → kind_number kind ≡ kind_number asked → asked ≡ kind
 one_kind kind asked e =
-    let both : Of kind ≡ Of asked = sym (known_by kind) ∙ ap known_of e ∙ known_by asked in
+    let both : Some kind ≡ Some asked = sym (known_by kind) ∙ ap known_of e ∙ known_by asked in
     cc
 
 pub four_kinds : FourKinds

@@ -1,6 +1,6 @@
 -- The conversion (02, CR 3): "a conversion each way that keeps every count and energy"; and "KIND now knows four". `after` and `n` are what an operation leaves in its
 -- output and the number of bytes that it answers: the first n of `after` are the record. proofs/Conversion.antt proves `ConversionKeeps` and `FourKinds`.
-use Rattle.std.specs.Prelude.{ℕ, ◌^◌, ◌<◌, ◌≤◌, ◌≡◌, List, [], ◌∷◌, ◌++◌, T, length, get_or, take, drop, Float}
+use Rattle.std.specs.Prelude.{ℕ, Some, ◌^◌, ◌<◌, ◌≤◌, ◌≡◌, List, [], ◌∷◌, ◌++◌, T, length, get_or, take, drop, Float}
 use Rattle.std.specs.Float.{binary64}
 use Rattle.std.specs.Float.Ieee.{fits}
 use Rattle.base_refusals.specs.Refusal.{number}
@@ -11,7 +11,6 @@ use Rattle.history_queue.specs.Queue.{Stored, held_of}
 use Rattle.record_layout.specs.declared.Model.{Model}
 use Rattle.record_layout.specs.declared.Kind.{Kind}
 use Rattle.record_layout.specs.declared.Kind.TheVariants.{Histogram, Queue}
-use Rattle.record_layout.specs.declared.Known.TheVariants.{Of}
 use Rattle.record_layout.specs.Layout.{kind_number, known_of, frame_rows}
 use Rattle.record_histogram.specs.Record.{read_counters}
 use Rattle.record_histogram.specs.Writing.{write_counters}
@@ -47,7 +46,7 @@ pub record ConversionKeeps : Type 0 where
 
 pub record FourKinds : Type 0 where
   -- a kind is known by its number, and no other number is that of a kind
-  pub known : (kind : Kind) → known_of (kind_number kind) ≡ Of kind
-  pub no_other : (asked : ℕ) (kind : Kind) → known_of asked ≡ Of kind → asked ≡ kind_number kind
+  pub known : (kind : Kind) → known_of (kind_number kind) ≡ Some kind
+  pub no_other : (asked : ℕ) (kind : Kind) → known_of asked ≡ Some kind → asked ≡ kind_number kind
   -- a record of one kind, asked for as one of another, is refused as KIND
   pub apart : (kind asked : Kind) (bytes : List ℕ) → number_of (frame_rows kind bytes) ≡ 0 → (asked ≡ kind → ⊥) → number_of (frame_rows asked bytes) ≡ number KIND

@@ -1,12 +1,9 @@
 // The cases of kinds 1 and 257: records read into counters, and counters written.
 // A histogram or a record is told by what is not 0 in it: 16 times u16 bin and u32 count, or 64 times u16 place and u8 byte.
-use crate::count_at;
-use base_refusals::Answer;
+use crate::{after, count_at};
+use base_refusals::{Answer, Refusal};
 use bins::Count;
-use record_layout::Written;
-
-// The third model's kind.
-const THIRD: usize = 257;
+use record_layout::{Kind, Model};
 
 // What stands in every counter and in every byte of an output before a call.
 const COUNTER: Count = 0xA5A5_A5A5;
@@ -14,40 +11,49 @@ const COUNTER: Count = 0xA5A5_A5A5;
 const BYTE: u8 = 0x5A;
 
 // ---- what a case tells
-fn put_counter(counters: &mut [Count], bin: usize, count: u64) {
-    if bin < counters.len() {
-        counters[bin] = (count % 4294967296) as Count;
-    }
-}
-
 fn fill_counters(case: &[u8], from: usize, counters: &mut [Count]) {
-    if 4096 < from {
-        return;
-    }
-    let mut at = 0;
-    while at < 96 {
-        let count = base_fields::number_at(case, from + at + 2, 4);
-        put_counter(counters, count_at(case, from + at), count);
-        at += 6;
-    }
-}
-
-fn put_byte(bytes: &mut [u8], place: usize, byte: u64) {
-    if place < bytes.len() {
-        bytes[place] = (byte % 256) as u8;
+    for told in after(case, from).chunks(6).take(16) {
+        let count = Count::try_from(base_fields::number_at(told, 2, 4)).unwrap_or(0);
+        if let Some(counter) = counters.get_mut(count_at(told, 0)) {
+            *counter = count;
+        }
     }
 }
 
 pub(crate) fn fill_bytes(case: &[u8], from: usize, bytes: &mut [u8]) {
-    if 4096 < from {
-        return;
+    for told in after(case, from).chunks(3).take(64) {
+        let byte = told.get(2).copied().unwrap_or(0);
+        if let Some(place) = bytes.get_mut(count_at(told, 0)) {
+            *place = byte;
+        }
     }
-    let mut at = 0;
-    while at < 192 {
-        let byte = base_fields::number_at(case, from + at + 2, 1);
-        put_byte(bytes, count_at(case, from + at), byte);
-        at += 3;
+}
+
+// Whether the first places are as told, 0 where nothing is told of one, and those past what was written as they were before.
+pub(crate) fn as_told<T: Copy + PartialEq>(
+    now: &[T],
+    written: usize,
+    told: &[T],
+    zero: T,
+    before: T,
+) -> bool {
+    for (place, value) in now.iter().enumerate() {
+        let expected = if place < written {
+            told.get(place).copied().unwrap_or(zero)
+        } else {
+            before
+        };
+        if *value != expected {
+            return false;
+        }
     }
+    true
+}
+
+// Whether the kind asked for is the third model's.
+fn third(case: &[u8]) -> bool {
+    record_layout::kind_of(base_fields::number_at(case, 0, 2))
+        == Some(Kind::Histogram(Model::Third))
 }
 
 // ---- reads
@@ -61,56 +67,34 @@ pub(crate) fn read_same(case: &[u8]) -> bool {
 
 // The bytes and counters that the case has.
 fn read_part(case: &[u8], bytes: &[u8], counters: &mut [Count]) -> bool {
-    let length = count_at(case, 2);
-    let places = count_at(case, 4);
-    if bytes.len() < length {
+    let Some(bytes) = bytes.get(..count_at(case, 2)) else {
         return false;
+    };
+    match counters.get_mut(..count_at(case, 4)) {
+        Some(part) => {
+            crate::answer_same(case, 6, read_kind(case, bytes, part)) && counters_same(case, part)
+        }
+        None => false,
     }
-    if counters.len() < places {
-        return false;
-    }
-    counters_read(case, &bytes[..length], &mut counters[..places])
 }
 
-fn counters_read(case: &[u8], bytes: &[u8], counters: &mut [Count]) -> bool {
-    let answer = read_kind(count_at(case, 0), bytes, counters);
-    base_refusals::codes::number_of(answer) as u64 == base_fields::number_at(case, 6, 2)
-        && counters_same(case, counters)
-}
-
-fn read_kind(kind: usize, bytes: &[u8], counters: &mut [Count]) -> Answer {
-    if kind == THIRD {
+fn read_kind(case: &[u8], bytes: &[u8], counters: &mut [Count]) -> Answer {
+    if third(case) {
         return record_histogram::reader::read_third_histogram(bytes, counters);
     }
     record_histogram::reader::read_histogram(bytes, counters)
 }
 
-fn counters_same(case: &[u8], counters: &[Count]) -> bool {
-    let mut told: [Count; 1000] = [0; 1000];
-    fill_counters(case, 200, &mut told);
-    all_counted(count_at(case, 6), &told, counters)
-}
-
 // A refusal leaves every counter as it was.
-fn counter_after(refusal: usize, told: &[Count], bin: usize) -> Count {
-    if 0 < refusal {
-        return COUNTER;
-    }
-    if bin < told.len() {
-        return told[bin];
-    }
-    0
-}
-
-fn all_counted(refusal: usize, told: &[Count], counters: &[Count]) -> bool {
-    let mut bin = 0;
-    while bin < counters.len() {
-        if counters[bin] != counter_after(refusal, told, bin) {
-            return false;
-        }
-        bin += 1;
-    }
-    true
+fn counters_same(case: &[u8], counters: &[Count]) -> bool {
+    let mut told: [Count; bins::BINS] = [0; bins::BINS];
+    fill_counters(case, 200, &mut told);
+    let read = if count_at(case, 6) == 0 {
+        counters.len()
+    } else {
+        0
+    };
+    as_told(counters, read, &told, 0, COUNTER)
 }
 
 // ---- writes
@@ -124,54 +108,25 @@ pub(crate) fn write_same(case: &[u8]) -> bool {
 
 // The counters and places that the case has.
 fn write_part(case: &[u8], counters: &[Count], out: &mut [u8]) -> bool {
-    let room = count_at(case, 2);
-    let places = count_at(case, 4);
-    if counters.len() < places {
+    let Some(counters) = counters.get(..count_at(case, 4)) else {
         return false;
+    };
+    match out.get_mut(..count_at(case, 2)) {
+        Some(part) => crate::written_same(case, 6, 8, write_kind(case, counters, part)),
+        None => false,
     }
-    if out.len() < room {
-        return false;
-    }
-    record_written(case, &counters[..places], &mut out[..room])
 }
 
-fn record_written(case: &[u8], counters: &[Count], out: &mut [u8]) -> bool {
-    let written = write_kind(count_at(case, 0), counters, out);
-    crate::written_same(case, 6, 8, written)
-}
-
-fn write_kind(kind: usize, counters: &[Count], out: &mut [u8]) -> Written {
-    if kind == THIRD {
+fn write_kind(case: &[u8], counters: &[Count], out: &mut [u8]) -> Result<usize, Refusal> {
+    if third(case) {
         return record_histogram::writer::write_third_histogram(counters, out);
     }
     record_histogram::writer::write_histogram(counters, out)
 }
 
-// The number of bytes written stands at place 8 of the case, what is told of them from `from` on.
+// The number of bytes written stands at place 8 of the case, what is told of them from `from` on. A byte past what is written stays as it was.
 pub(crate) fn output_same(case: &[u8], from: usize, out: &[u8]) -> bool {
     let mut told = program_io::buffer();
     fill_bytes(case, from, &mut told);
-    all_written(count_at(case, 8), &told, out)
-}
-
-// A byte past what is written stays as it was.
-fn byte_after(written: usize, told: &[u8], place: usize) -> u8 {
-    if written <= place {
-        return BYTE;
-    }
-    if place < told.len() {
-        return told[place];
-    }
-    0
-}
-
-pub(crate) fn all_written(written: usize, told: &[u8], out: &[u8]) -> bool {
-    let mut place = 0;
-    while place < out.len() {
-        if out[place] != byte_after(written, told, place) {
-            return false;
-        }
-        place += 1;
-    }
-    true
+    as_told(out, count_at(case, 8), &told, 0, BYTE)
 }

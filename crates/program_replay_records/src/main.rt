@@ -6,7 +6,7 @@ mod conversions;
 mod histograms;
 mod queues;
 
-use base_refusals::Refusal;
+use base_refusals::{Answer, Refusal};
 use std::io;
 
 // The operations by their numbers in the list.
@@ -39,8 +39,18 @@ fn case_same(operation: u64, case: &[u8]) -> bool {
     }
 }
 
+// The bytes of a case from a place on, and none past its end.
+fn after(case: &[u8], place: usize) -> &[u8] {
+    &case[place.min(case.len())..]
+}
+
 fn count_at(case: &[u8], at: usize) -> usize {
     base_fields::number_at(case, at, 2) as usize
+}
+
+// Whether a reader answered the refusal that stands at a place of the case.
+fn answer_same(case: &[u8], refusal_at: usize, answer: Answer) -> bool {
+    base_refusals::codes::number_of(answer) as u64 == base_fields::number_at(case, refusal_at, 2)
 }
 
 // Whether a writer answered the refusal and the number of bytes that stand at two places of the case.

@@ -1,11 +1,13 @@
 // The cases of kinds 2 and 258: records read into a queue's store, and queues written.
-use crate::count_at;
+use crate::{after, count_at};
+use base_refusals::Refusal;
 use history_queue::Queue;
-use record_layout::Written;
-use record_queue_reader::Received;
+use record_layout::{Kind, Model};
 
-// The third model's kind.
-const THIRD: usize = 258;
+// Whether the kind asked for, which stands at a place of the case, is the third model's.
+fn third(case: &[u8], at: usize) -> bool {
+    record_layout::kind_of(base_fields::number_at(case, at, 2)) == Some(Kind::Queue(Model::Third))
+}
 
 // ---- reads
 // The 96 bytes that the record is the first part of; u16 kind asked for, u16 number of bytes given, u16 places of the store, u16 refusal (0: none), u16
@@ -17,49 +19,39 @@ pub(crate) fn read_same(case: &[u8]) -> bool {
 
 // The bytes and places that the case has.
 fn read_part(case: &[u8], store: &mut [f64]) -> bool {
-    let length = count_at(case, 98);
-    let places = count_at(case, 100);
-    if case.len() < length {
+    let Some(bytes) = case.get(..count_at(case, 98)) else {
         return false;
-    }
-    if store.len() < places {
-        return false;
-    }
-    energies_read(case, &case[..length], &mut store[..places])
-}
-
-fn energies_read(case: &[u8], bytes: &[u8], store: &mut [f64]) -> bool {
-    let refusal = base_fields::number_at(case, 102, 2);
-    match read_kind(count_at(case, 96), bytes, store) {
-        Received::Held(queue) => refusal == 0 && queue_same(case, queue),
-        Received::Refused(number) => refusal == number as u64,
+    };
+    match store.get_mut(..count_at(case, 100)) {
+        Some(part) => queue_same(case, read_kind(case, bytes, part)),
+        None => false,
     }
 }
 
-fn read_kind(kind: usize, bytes: &[u8], store: &mut [f64]) -> Received {
-    if kind == THIRD {
+fn read_kind(case: &[u8], bytes: &[u8], store: &mut [f64]) -> Result<Queue, Refusal> {
+    if third(case, 96) {
         return record_queue_reader::read_third_queue(bytes, store);
     }
     record_queue_reader::read_queue(bytes, store)
 }
 
-fn queue_same(case: &[u8], queue: Queue) -> bool {
-    queue.maximum == count_at(case, 104) && queue.head == 0 && queue.held == count_at(case, 106)
+// Whether a reader answered the refusal, or the queue, that the case has.
+fn queue_same(case: &[u8], read: Result<Queue, Refusal>) -> bool {
+    match read {
+        Ok(queue) => {
+            count_at(case, 102) == 0
+                && queue.maximum == count_at(case, 104)
+                && queue.head == 0
+                && queue.held == count_at(case, 106)
+        }
+        Err(refused) => base_fields::number_at(case, 102, 2) == refused as u64,
+    }
 }
 
 fn store_same(case: &[u8], store: &[f64]) -> bool {
-    let mut place = 0;
-    while place < 10 {
-        if place < store.len() {
-            if base_floats::pattern_of(store[place])
-                != base_fields::number_at(case, 108 + 8 * place, 8)
-            {
-                return false;
-            }
-        }
-        place += 1;
-    }
-    true
+    store.iter().zip(after(case, 108).chunks(8)).all(|(energy, pattern)| {
+        base_floats::pattern_of(*energy) == base_fields::number_at(pattern, 0, 8)
+    })
 }
 
 // ---- writes
@@ -72,46 +64,30 @@ pub(crate) fn write_same(case: &[u8]) -> bool {
     write_part(case, &store, &mut out) && output_same(case, 96, &out)
 }
 
-fn put(store: &mut [f64], place: usize, energy: f64) {
-    if place < store.len() {
-        store[place] = energy;
-    }
-}
-
 fn fill_store(case: &[u8], store: &mut [f64]) {
-    let mut place = 0;
-    while place < 10 {
-        let pattern = base_fields::number_at(case, 16 + 8 * place, 8);
-        put(store, place, base_floats::float_of(pattern));
-        place += 1;
+    for (energy, pattern) in store.iter_mut().zip(after(case, 16).chunks(8)) {
+        *energy = base_floats::float_of(base_fields::number_at(pattern, 0, 8));
     }
 }
 
 // The places that the case has.
 fn write_part(case: &[u8], store: &[f64], out: &mut [u8]) -> bool {
-    let places = count_at(case, 8);
-    let room = count_at(case, 10);
-    if store.len() < places {
+    let Some(store) = store.get(..count_at(case, 8)) else {
         return false;
+    };
+    match out.get_mut(..count_at(case, 10)) {
+        Some(part) => crate::written_same(case, 12, 14, write_kind(case, store, part)),
+        None => false,
     }
-    if out.len() < room {
-        return false;
-    }
-    record_written(case, &store[..places], &mut out[..room])
 }
 
-fn record_written(case: &[u8], store: &[f64], out: &mut [u8]) -> bool {
+fn write_kind(case: &[u8], store: &[f64], out: &mut [u8]) -> Result<usize, Refusal> {
     let queue = Queue {
         maximum: count_at(case, 2),
         head: count_at(case, 4),
         held: count_at(case, 6),
     };
-    let written = write_kind(count_at(case, 0), queue, store, out);
-    crate::written_same(case, 12, 14, written)
-}
-
-fn write_kind(kind: usize, queue: Queue, store: &[f64], out: &mut [u8]) -> Written {
-    if kind == THIRD {
+    if third(case, 0) {
         return record_queue_writer::write_third_queue(queue, store, out);
     }
     record_queue_writer::write_queue(queue, store, out)
@@ -119,8 +95,5 @@ fn write_kind(kind: usize, queue: Queue, store: &[f64], out: &mut [u8]) -> Writt
 
 // Whether the output is as the case has it from `from` on.
 pub(crate) fn output_same(case: &[u8], from: usize, out: &[u8]) -> bool {
-    if case.len() < from {
-        return false;
-    }
-    crate::histograms::all_written(out.len(), &case[from..], out)
+    crate::histograms::as_told(out, out.len(), after(case, from), 0, 0)
 }

@@ -55,6 +55,7 @@ impl Field {
     }
 }
 
+// A function here and no method: no other crate turns a model into the other.
 fn other_model(model: Model) -> Model
     ensures { result ≡ other_model model }
 {
@@ -64,6 +65,7 @@ fn other_model(model: Model) -> Model
     }
 }
 
+// Not one function with `convert_queue`: what checks the record and which fields it has are all that they do.
 fn convert_histogram(model: Model, bytes: &[u8], out: &mut [u8]) -> Result<usize, Refusal>
     ensures { (said result ≡ said_by (converted (Histogram model) bytes.now out.old))
         × (out.new ≡ kept_by out.old (converted (Histogram model) bytes.now out.old)) }

@@ -64,7 +64,7 @@ fn read_of(model: Model, bytes: &[u8], counters: &mut [Count]) -> Answer
     Ok(())
 }
 
-// Kind 1.
+// Kind 1. Documents 01 and 02 tell the two kinds apart by name; `read_of` is the one reader behind them.
 pub fn read_histogram(bytes: &[u8], counters: &mut [Count]) -> Answer
     ensures { (said result ≡ said_by (read_histogram bytes.now counters.old))
         × (counters.new ≡ kept_by counters.old (read_histogram bytes.now counters.old)) }

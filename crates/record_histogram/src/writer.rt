@@ -79,7 +79,7 @@ fn write_of(model: Model, counters: &[Count], out: &mut [u8]) -> Result<usize, R
     Ok(RECORD)
 }
 
-// Kind 1.
+// Kind 1. Two names, and one writer behind them, as in reading.
 pub fn write_histogram(counters: &[Count], out: &mut [u8]) -> Result<usize, Refusal>
     ensures { (said result ≡ said_by (write_histogram counters.now out.old))
         × (out.new ≡ kept_by out.old (write_histogram counters.now out.old)) }

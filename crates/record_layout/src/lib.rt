@@ -47,7 +47,7 @@ impl From<Kind> for u64 {
     }
 }
 
-// The kind that has a number, where one has.
+// The kind that has a number, where one has. An Option and no TryFrom: of a number that no kind has there is nothing more to say.
 pub fn kind_of(number: u64) -> Option<Kind>
     ensures { result ≡ known_of number }
 {

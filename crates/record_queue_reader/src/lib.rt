@@ -148,7 +148,7 @@ fn read_of(model: Model, bytes: &[u8], store: &mut [f64]) -> Result<Queue, Refus
     Ok(queue)
 }
 
-// Kind 2.
+// Kind 2. Documents 01 and 02 tell the two kinds apart by name; `read_of` is the one reader behind them.
 pub fn read_queue(bytes: &[u8], store: &mut [f64]) -> Result<Queue, Refusal>
     ensures { (said result ≡ said_by (read_queue bytes.now store.old))
         × (store.new ≡ kept_by store.old (read_queue bytes.now store.old)) }

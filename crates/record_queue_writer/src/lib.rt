@@ -74,7 +74,7 @@ fn write_of(model: Model, queue: Queue, store: &[f64], out: &mut [u8]) -> Result
     Ok(length)
 }
 
-// Kind 2.
+// Kind 2. Two names, and one writer behind them, as in reading.
 pub fn write_queue(queue: Queue, store: &[f64], out: &mut [u8]) -> Result<usize, Refusal>
     ensures { (said result ≡ said_by (write_queue (over queue store.now) out.old))
         × (out.new ≡ kept_by out.old (write_queue (over queue store.now) out.old)) }
