@@ -1,37 +1,13 @@
--- A set as its numbers: each entry is the one that its kind names, and a question is asked of whole entries only. Both are the tests of the definitions.
--- Assumes nothing.
-use mathlib.Core.Path.{◌≡◌}
-use mathlib.Core.List.{List, ◌∷◌}
-use Prim.Native.Nat.{ℕ, ◌%◌}
-use borrow.Author.Tests.{eq-eqb, ne_eqb}
-use lib.ListN.{length}
-use lib.Ieee.{Float}
+-- A question is asked of whole entries only, and no more than a set may have. It goes by the entries that count. Assumes nothing.
+use Rattle.std.proofs.Common.{◌≡◌, ℕ, ◌/◌, ◌%◌, ◌<◌, inl, inr, List, length, take, Float, sym, ap, ◌∙◌, eq-eqb, ne_eqb, eq-zero-or-pos, arith}
+use Rattle.std.proofs.lemmas.Bool.{cases_lt}
+use Rattle.std.proofs.Math.Seq.{take-length}
 use Rattle.base_refusals.specs.declared.Refusal.TheVariants.{SET}
 use Rattle.base_refusals.specs.Outcome.{Outcome, Question, refused}
-use Rattle.history_queue.specs.declared.Queue.{Queue}
 use Rattle.history_set.specs.declared.set.Entry.{Entry}
-use Rattle.history_set.specs.declared.set.Shape.TheVariants.{Histogram, Queue as Queue-at}
-use Rattle.history_set.specs.Set.{Histories}
-use Rattle.exports_entries.specs.Sets.{numbers_an_entry, nowhere, entry_of, entry_at, set_of, asked, asked_alone}
-
--- ---- an entry by its kind
-pub histogram_entry : (kind start : ℕ) (queue : Queue) → kind ≡ 0 → record { shape = Histogram start } ≡ entry_of kind start queue
-histogram_entry kind start queue h = rw (eq-eqb kind 0 h)
-
-pub queue_entry : (kind start : ℕ) (queue : Queue) → (kind ≡ 0 → ⊥) → kind ≡ 1 → record { shape = Queue-at start queue } ≡ entry_of kind start queue
-queue_entry kind start queue n h = rw (ne_eqb kind 0 n, eq-eqb kind 1 h)
-
-pub no_entry : (kind start : ℕ) (queue : Queue) → (kind ≡ 0 → ⊥) → (kind ≡ 1 → ⊥) → record { shape = Histogram nowhere } ≡ entry_of kind start queue
-no_entry kind start queue n h = rw (ne_eqb kind 0 n, ne_eqb kind 1 h)
-
--- ---- the same numbers give the same entry, and the same entries the same list
-pub same_numbers : {kind start maximum head held kind' start' maximum' head' held' : ℕ}
-    → kind ≡ kind' → start ≡ start' → maximum ≡ maximum' → head ≡ head' → held ≡ held'
-    → entry_of kind start (record { maximum = maximum; head = head; held = held }) ≡ entry_of kind' start' (record { maximum = maximum'; head = head'; held = held' })
-same_numbers k s m h d = rw (k, s, m, h, d)
-
-pub one_more_lem : {entry entry' : Entry} {rest rest' : List Entry} → entry ≡ entry' → rest ≡ rest' → (entry ∷ rest) ≡ (entry' ∷ rest')
-one_more_lem e r = rw (e, r)
+use Rattle.history_set.specs.Set.{most_histories, Histories, histories}
+use Rattle.exports_entries.specs.Sets.{numbers_an_entry, entry_at, entries_from, entries_of, Whole, set_of, asked, asked_alone}
+use Rattle.exports_entries.proofs.Reading.{entries_many, first_entries}
 
 -- ---- whole entries
 module _ {Kept Values : Type 0} (question : Histories → Outcome Kept Values) (numbers counters : List ℕ) (energies : List Float) where
@@ -47,3 +23,27 @@ module _ {Values : Type 0} (question : Entry → List ℕ → List Float → Que
 
   pub alone_whole : length numbers ≡ numbers_an_entry → asked_alone question numbers counters energies ≡ question (entry_at numbers 0) counters energies
   alone_whole h = rw (eq-eqb (length numbers) numbers_an_entry h)
+
+-- ---- a question that refuses more entries than a set may have with SET, and goes by those that count
+pub record OfASet {Kept Values : Type 0} (question : Histories → Outcome Kept Values) : Type 0 where
+  pub many : (h : Histories) → most_histories < h.count → question h ≡ refused SET
+  pub chosen_only : (entries more : List Entry) (count other : ℕ) (counters : List ℕ) (energies : List Float) → count ≡ other → take count entries ≡ take other more
+      → question (histories entries count counters energies) ≡ question (histories more other counters energies)
+
+module _ {Kept Values : Type 0} (question : Histories → Outcome Kept Values) (q : OfASet question) (numbers counters : List ℕ) (energies : List Float) where
+  pub asked_refused : (Whole numbers → ⊥) → asked question numbers counters energies ≡ refused SET
+  asked_refused h = elim (eq-zero-or-pos (length numbers % numbers_an_entry)) [
+    | inl whole ↦ elim (cases_lt most_histories (length numbers / numbers_an_entry)) [
+      | inl many ↦ asked_whole question numbers counters energies whole ∙ q.many (set_of numbers counters energies) many
+      | inr few ↦ absurd (h (whole, few))
+    ]
+    | inr part ↦ asked_part question numbers counters energies (λ whole. omega (arith, part, whole))
+  ]
+
+  pub asked_entries : Whole numbers → (entries : List Entry) → entries ≡ entries_of numbers
+      → question (histories entries (length entries) counters energies) ≡ asked question numbers counters energies
+  asked_entries whole entries e =
+      let long : length entries ≡ length numbers / numbers_an_entry = ap length e ∙ entries_many numbers 0 (length numbers / numbers_an_entry) in
+      q.chosen_only entries (entries_from numbers 0 most_histories) (length entries) (length numbers / numbers_an_entry) counters energies long
+      (take-length entries ∙ e ∙ sym (first_entries numbers 0 (length numbers / numbers_an_entry) most_histories whole.1))
+      ∙ sym (asked_whole question numbers counters energies whole.0)

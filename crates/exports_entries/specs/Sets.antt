@@ -1,5 +1,5 @@
 -- A set of histories as the C interface takes it: five numbers an entry, which are its kind (0 a histogram, 1 a queue), start, maximum, head and held.
-use Rattle.std.specs.Prelude.{ℕ, zero, suc, ◌+◌, ◌/◌, ◌%◌, not, cond, List, [], ◌∷◌, eqb, length, get_or, Float}
+use Rattle.std.specs.Prelude.{◌≡◌, ◌≤◌, ℕ, zero, suc, ◌+◌, ◌/◌, ◌%◌, not, cond, List, [], ◌∷◌, eqb, length, get_or, Float}
 use Rattle.base_refusals.specs.declared.Refusal.TheVariants.{SET}
 use Rattle.base_refusals.specs.Outcome.{Outcome, Question}
 use Rattle.base_refusals.specs.Rows.{Row, row, by_rows}
@@ -31,6 +31,14 @@ entry_at numbers place =
 unfoldable pub entries_from : List ℕ → ℕ → ℕ → List Entry
 entries_from numbers place zero = []
 entries_from numbers place (suc more) = entry_at numbers place ∷ entries_from numbers (place + numbers_an_entry) more
+
+-- as many entries as there are numbers for
+abbrev pub entries_of : List ℕ → List Entry
+entries_of numbers = entries_from numbers 0 (length numbers / numbers_an_entry)
+
+-- numbers that are whole entries, and no more of them than a set may have
+abbrev pub Whole : List ℕ → Type 0
+Whole numbers = (length numbers % numbers_an_entry ≡ 0) × (length numbers / numbers_an_entry ≤ most_histories)
 
 -- the set of the numbers over the lent slices. All sixteen entries have a value; as many count as there are numbers for
 abbrev pub set_of : List ℕ → List ℕ → List Float → Histories

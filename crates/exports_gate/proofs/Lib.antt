@@ -1,3 +1,1 @@
-mod Told
-mod Alone
-mod Levels
+mod Sets

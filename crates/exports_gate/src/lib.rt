@@ -2,54 +2,46 @@
 #![tactic(auto)]
 
 ghost use Rattle.std.specs.Prelude.{◌≡◌};
+ghost use Rattle.base_refusals.specs.Answer.{said};
 ghost use Rattle.base_refusals.specs.Outcome.{said_by};
-ghost use Rattle.gate.specs.Gate.{gate_of, said};
-ghost use Rattle.gate.specs.GatedEnergy.{gated_energy_of, said as said_energy};
+ghost use Rattle.gate.specs.Gate.{gate_of};
+ghost use Rattle.gate.specs.GatedEnergy.{gated_energy_of};
 ghost use Rattle.base_refusals.specs.Codes.{code, value_or};
-ghost use Rattle.exports_entries.specs.Sets.{set_of, asked, asked_alone};
+ghost use Rattle.exports_entries.specs.Sets.{asked, asked_alone};
 ghost use Rattle.exports_gate.specs.Measures.{totals_over};
 ghost use Rattle.gate.specs.Relative.{relative_of};
 ghost use Rattle.exports_gate.specs.Levels.{float_or};
 
+use base_refusals::Refusal;
 use bins::Count;
-use gate::Gated;
-use gate::energy::Energy;
+use gate::blocks::Totals;
 use gate::threshold::Threshold;
+use history_set::set::Histories;
 
-// The gate question over the set of these numbers. A single history is asked by itself, so that no set of sixteen is made.
-fn gate_of(entries: &[usize], counters: &[Count], energies: &[f64]) -> Gated
-    ensures { said result ≡ said_by (gate_of (set_of entries.now counters.now energies.now)) }
+// The gate question over the set of these numbers.
+fn gate_of(numbers: &[usize], counters: &[Count], energies: &[f64]) -> Result<Totals, Refusal>
+    ensures { said result ≡ said_by (asked gate_of numbers.now counters.now energies.now) }
 {
-    if entries.len() == exports_entries::NUMBERS {
-        return gate::gate_of_history(exports_entries::first_of(entries), counters, energies);
-    }
-    let count = entries.len() / exports_entries::NUMBERS;
-    gate::gate(
-        exports_entries::entries_of(entries),
-        count,
+    let mut room = exports_entries::ROOM;
+    let entries = exports_entries::entries_in(&mut room, numbers)?;
+    gate::gate(Histories {
+        entries,
         counters,
         energies,
-    )
+    })
 }
 
 // Gated energy, in the same way.
-fn gated_energy_of(entries: &[usize], counters: &[Count], energies: &[f64]) -> Energy
-    ensures { said_energy result ≡ said_by (gated_energy_of (set_of entries.now counters.now energies.now)) }
+fn gated_energy_of(numbers: &[usize], counters: &[Count], energies: &[f64]) -> Result<f64, Refusal>
+    ensures { said result ≡ said_by (asked gated_energy_of numbers.now counters.now energies.now) }
 {
-    if entries.len() == exports_entries::NUMBERS {
-        return gate::energy::gated_energy_of_history(
-            exports_entries::first_of(entries),
-            counters,
-            energies,
-        );
-    }
-    let count = entries.len() / exports_entries::NUMBERS;
-    gate::energy::gated_energy(
-        exports_entries::entries_of(entries),
-        count,
+    let mut room = exports_entries::ROOM;
+    let entries = exports_entries::entries_in(&mut room, numbers)?;
+    gate::energy::gated_energy(Histories {
+        entries,
         counters,
         energies,
-    )
+    })
 }
 
 pub fn xel_gate(
@@ -63,16 +55,13 @@ pub fn xel_gate(
         × (blocks.new ≡ (value_or (totals_over blocks.old sum.old) (asked gate_of entries.now counters.now energies.now)).count)
         × (sum.new ≡ (value_or (totals_over blocks.old sum.old) (asked gate_of entries.now counters.now energies.now)).sum) }
 {
-    if entries.len() % exports_entries::NUMBERS != 0 {
-        return base_refusals::SET;
-    }
     match gate_of(entries, counters, energies) {
-        Gated::Blocks(above, total) => {
-            *blocks = above;
-            *sum = total;
+        Ok(above) => {
+            *blocks = above.count;
+            *sum = above.sum;
             0
         }
-        Gated::Refused(number) => number,
+        Err(refusal) => refusal as u8,
     }
 }
 
@@ -85,15 +74,12 @@ pub fn xel_gated_energy(
     ensures { (result ≡ code (asked gated_energy_of entries.now counters.now energies.now))
         × (energy.new ≡ value_or energy.old (asked gated_energy_of entries.now counters.now energies.now)) }
 {
-    if entries.len() % exports_entries::NUMBERS != 0 {
-        return base_refusals::SET;
-    }
     match gated_energy_of(entries, counters, energies) {
-        Energy::Of(mean) => {
+        Ok(mean) => {
             *energy = mean;
             0
         }
-        Energy::Refused(number) => number,
+        Err(refusal) => refusal as u8,
     }
 }
 
@@ -107,21 +93,13 @@ pub fn xel_relative_threshold(
         × (value.new ≡ float_or value.old (asked_alone relative_of entry.now counters.now energies.now)) }
 {
     if entry.len() != exports_entries::NUMBERS {
-        return base_refusals::SET;
+        return Refusal::SET as u8;
     }
-    match gate::threshold::relative_threshold(
-        exports_entries::first_of(entry),
-        counters,
-        energies,
-    ) {
-        Threshold::Loudness(loudness) => {
-            *value = loudness;
-            0
-        }
-        Threshold::Energy(energy) => {
-            *value = energy;
-            0
-        }
-        Threshold::Refused(number) => number,
-    }
+    let alone = exports_entries::first_of(entry);
+    *value = match gate::threshold::relative_threshold(alone, counters, energies) {
+        Ok(Threshold::Loudness(loudness)) => loudness,
+        Ok(Threshold::Energy(energy)) => energy,
+        Err(refusal) => return refusal as u8,
+    };
+    0
 }

@@ -7,7 +7,7 @@ use Rattle.bins.specs.Bin.{bins}
 use Rattle.history_set.specs.Set.{counters_at}
 use Rattle.gate.specs.declared.blocks.Totals.{Totals}
 use Rattle.gate.specs.Totals.{on_top_of, with_blocks, bins_from, blocks_in, energies_from, from_bin}
-use Rattle.gate.specs.Inner.{sum_from, blocks_above, sum_above}
+use Rattle.gate.specs.Inner.{sum_from}
 
 module _ (counters : List ℕ) (totals : Totals) (bin : ℕ) where
   pub bins_turn : bin < length counters
@@ -29,26 +29,6 @@ bins_split count sum bin (x ∷ l) =
     let next = add binary64 sum (mul binary64 (of_int binary64 (pos x)) (energy_at bin)) in
     bins_split (count + x) next (suc bin) l
     ∙ ap {B = Totals} (λ (n : ℕ). record { count = n; sum = sum_from next (suc bin) l }) {x = count + x + blocks_in l} {y = count + (x + blocks_in l)} (omega arith)
-
-module _ (counters : List ℕ) where
-  pub blocks_turn : (bin : ℕ) → bin < length counters → blocks_above bin counters ≡ get_or counters bin 0 + blocks_above (bin + 1) counters
-  unfolding blocks_in
-  blocks_turn bin h = rw (add-one bin, drop-cons counters bin 0 h)
-
-  -- a bin's energy added
-  abbrev pub plus : Float → ℕ → Float → Float
-  plus sum bin energy = add binary64 sum (mul binary64 (of_int binary64 (pos (get_or counters bin 0))) energy)
-
-  at_next : (sum : Float) (bin : ℕ) → bin < length counters → sum_above (plus sum bin (energy_at bin)) (bin + 1) counters ≡ sum_above sum bin counters
-  unfolding sum_from
-  at_next sum bin h = rw (add-one bin, drop-cons counters bin 0 h)
-
-  pub sum_turn : (sum : Float) (bin next : ℕ) (energy : Float) → bin < length counters → energy ≡ energy_at bin → next ≡ bin + 1
-      → sum_above (plus sum bin energy) next counters ≡ sum_above sum bin counters
-  sum_turn sum bin next energy h e n =
-      ap (λ (x : Float). sum_above (plus sum bin x) next counters) e
-      ∙ ap (λ (k : ℕ). sum_above (plus sum bin (energy_at bin)) k counters) n
-      ∙ at_next sum bin h
 
 -- ---- energies, each a block
 module _ (energies : List Float) (totals : Totals) (i : ℕ) where

@@ -1,12 +1,16 @@
 -- Where a gate starts, case by case; that it starts no later than past the last bin; and that it starts where the energies reach the threshold: those rise
 -- from bin to bin, each between its bin's boundaries. Assumes nothing.
-use Rattle.std.proofs.Common.{◌≡◌, ℕ, ◌+◌, ◌-◌, ◌<◌, ◌≤◌, Bool, true, false, cond, T, ◌⊎◌, sym, refl, ap, ◌∙◌, subst, inl, inr, eq-zero-or-pos, arith}
-use lib.Ieee.{Float, lt, is_nan}
-use Rattle.base_floats.proofs.Order.{is_false, lt→le, lt_not_le, total, left_number, right_number, le_lt, lt_lt}
+use Rattle.std.proofs.Common.{◌≡◌, ℕ, ◌+◌, ◌-◌, ◌<◌, ◌≤◌, Bool, true, false, cond, T, ◌⊎◌, List, length, get_or, sym, refl, ap, ◌∙◌, subst, inl, inr, eq-zero-or-pos, arith}
+use native.Mathlib.Nat.{eq-or-lt_of_le}
+use lib.Ieee.{Float, nan, lt, is_nan}
+use Rattle.base_floats.proofs.Order.{is_true, is_false, lt→le, lt_not_le, total, left_number, right_number, le_lt, lt_lt}
 use Rattle.base_floats.proofs.Nan.{only_nan}
-use Rattle.bins_tables.specs.Tables.{boundary_at, energy_at}
+use Rattle.std.specs.List.Sorted.{IsPartitionedBy, IsPartitionPoint}
+use Rattle.std.proofs.lemmas.List.{get_or_default}
+use Rattle.bins_tables.proofs.Taken.{energy_entry}
+use Rattle.bins_tables.specs.Tables.{energies, boundary_at, energy_at}
 use Rattle.bins.specs.Bin.{bins, bin_of}
-use Rattle.bins_tables.proofs.Rules.{boundary_below_energy, energy_below_next, boundaries_rise}
+use Rattle.bins_tables.proofs.Rules.{energies_length, boundary_below_energy, energy_below_next, boundaries_rise}
 use Rattle.bins.proofs.Bins.{bin_below, bin_is, bin_between, bin_of_nan}
 use Rattle.gate.specs.Start.{start_bin}
 use Rattle.gate.specs.Inner.{Past}
@@ -100,6 +104,38 @@ module _ (t : Float) where
         | inr p ↦ next_bin i small past (omega (arith, p)) h
       ]
 
-  -- the bins that are past: so many more
-  pub past_on : (bin next : ℕ) (energy : Float) → energy ≡ energy_at bin → next ≡ bin + 1 → lt energy t ≡ true → Past t next
-  past_on bin next energy e n h = inr (omega (arith, n), ap (λ (i : ℕ). lt (energy_at i) t) {x = next - 1} {y = bin} (omega (arith, n)) ∙ ap (λ (x : Float). lt x t) (sym e) ∙ h)
+  -- ---- the energies rise, so those below a threshold come first
+  energies_rise : (i j : ℕ) → i < j → j < 1000 → T (lt (energy_at i) (energy_at j))
+  energies_rise i j h small =
+      let up = energy_below_next i (omega arith) in
+      lt_lt (energy_at i) (boundary_at (1 + i)) (energy_at j) up
+      (le_lt (boundary_at (1 + i)) (boundary_at j) (energy_at j) (right_number (energy_at i) (boundary_at (1 + i)) up) (boundaries_rise (1 + i) j (omega arith) (omega arith)) (boundary_below_energy j small))
+
+  pub below_first : (i j : ℕ) → i ≤ j → j < 1000 → lt (energy_at j) t ≡ true → lt (energy_at i) t ≡ true
+  below_first i j h small e = elim (eq-or-lt_of_le h) [
+    | inl same ↦ ap (λ (n : ℕ). lt (energy_at n) t) same ∙ e
+    | inr less ↦ is_true (lt (energy_at i) t) (lt_lt (energy_at i) (energy_at j) t (energies_rise i j less small) (holds (lt (energy_at j) t) e))
+  ]
+
+  -- a table that was taken, in two: below the threshold, and not
+  module _ (table : List Float) (taken : table ≡ energies) where
+    entry : (i : ℕ) (d : Float) → i < 1000 → get_or table i d ≡ energy_at i
+    entry i d h = get_or_default table i d nan (omega (arith, ap length taken, energies_length)) ∙ energy_entry table i taken
+
+    pub split_below : IsPartitionedBy (λ x. lt x t) table
+    split_below i j d h small e =
+        let most : j < 1000 = omega (arith, ap length taken, energies_length) in
+        ap (λ (x : Float). lt x t) (entry i d (omega arith)) ∙ below_first i j h most (ap (λ (x : Float). lt x t) (sym (entry j d most)) ∙ e)
+
+    pub start_split : (bin : ℕ) → bin ≤ length table → IsPartitionPoint (λ x. lt x t ≡ true) (λ x. lt x t ≡ false) table bin → bin ≡ start_bin t
+    start_split bin most (before, after) =
+        let long : length table ≡ 1000 = ap length taken ∙ energies_length in
+        reached bin (omega (arith, long))
+        (elim (eq-zero-or-pos bin) [
+          | inl z ↦ inl z
+          | inr p ↦ inr (p, ap (λ (x : Float). lt x t) (sym (entry (bin - 1) nan (omega (arith, long)))) ∙ before (bin - 1) nan (omega arith) (omega arith))
+        ])
+        (elim (eq-or-lt_of_le most) [
+          | inl same ↦ inl (same ∙ long)
+          | inr less ↦ inr (ap (λ (x : Float). lt x t) (sym (entry bin nan (omega (arith, long)))) ∙ after bin nan (omega arith) less)
+        ])

@@ -13,5 +13,5 @@ pub fn gated_energy(set: Histories<'_>) -> Result<f64, Refusal>
     ensures { said result ≡ said_by (gated_energy_of (lent set.entry)) }
 {
     let gated = crate::gate(set)?;
-    Ok(gated.sum / std::num::nearest_u64_to_f64(gated.count))
+    Ok(gated.mean())
 }

@@ -28,7 +28,7 @@ fn kept_blocks(energy: f64, threshold: f64) -> u64
     1
 }
 
-// How many energies are kept, on top of a count. They are counted in a loop of their own.
+// How many energies are kept, on top of a count. They are counted in a loop of their own: one loop for both took a branch.
 fn add_blocks(mut count: u64, energies: &[f64], threshold: f64) -> u64
     requires { count + length energies.now ≤ longest }
     ensures { (result ≡ counted_from threshold count energies.now) × (result ≤ count + length energies.now) }

@@ -6,13 +6,13 @@ ghost use Rattle.history_queue.specs.Queue.{held_of};
 ghost use Rattle.history_set.specs.Lent.{lent};
 ghost use Rattle.history_set.specs.Set.{queue_at, is_outside, none_below, shape_sound, is_sound, shows};
 ghost use Rattle.history_set.specs.declared.set.Shape.TheVariants.{Queue as Queue-at};
-ghost use Rattle.bins_tables.specs.Tables.{energies as bin_energies};
 ghost use Rattle.gate.specs.Totals.{most_blocks, none};
 ghost use Rattle.gate.specs.Sums.{totals_of};
 ghost use Rattle.gate.specs.Inner.{sum_onto, sums_of};
 
 use crate::blocks::Totals;
 use crate::held::held_parts;
+use crate::table::BinEnergies;
 use base_refusals::Refusal;
 use history_queue::Queue;
 use history_set::set::{Entry, Histories, Shape};
@@ -46,17 +46,15 @@ fn queue_sum(energies: &[f64], start: usize, queue: Queue) -> Option<f64>
 }
 
 // The blocks of a history of a set, which is inside its slice, and the sum of their energies. STORE refuses it where its store is not sound.
-fn of_history(table: &[f64; 1000], set: Histories<'_>, entry: Entry) -> Result<Totals, Refusal>
-    requires { (table.now ≡ bin_energies) × (is_outside (length set.counters.now) (length set.energies.now) entry ≡ false) }
+fn of_history(table: &BinEnergies, set: Histories<'_>, entry: Entry) -> Result<Totals, Refusal>
+    requires { is_outside (length set.counters.now) (length set.energies.now) entry ≡ false }
     ensures { MatchResult result
         (λ totals. (is_sound set.entry.energies.now entry ≡ true) × (totals ≡ totals_of (shows set.entry.counters.now set.entry.energies.now entry))
         × (totals.count ≤ most_blocks))
         (λ refusal. (is_sound set.entry.energies.now entry ≡ false) × (refusal ≡ Refusal.STORE)) }
 {
     match entry.shape {
-        Shape::Histogram(start) => {
-            Ok(crate::blocks::from_bin(table, 0.0, set.counters, start, 0))
-        }
+        Shape::Histogram(start) => Ok(table.from_bin(0.0, set.counters, start, 0)),
         Shape::Queue(start, queue) => {
             let sum = queue_sum(set.energies, start, queue).ok_or(Refusal::STORE)?;
             Ok(Totals {
@@ -68,8 +66,7 @@ fn of_history(table: &[f64; 1000], set: Histories<'_>, entry: Entry) -> Result<T
 }
 
 // Those of a set of histories, added history by history from 0.
-pub(crate) fn of_set(table: &[f64; 1000], set: Histories<'_>) -> Result<Totals, Refusal>
-    requires { table.now ≡ bin_energies }
+pub(crate) fn of_set(table: &BinEnergies, set: Histories<'_>) -> Result<Totals, Refusal>
     ensures { said result ≡ said_by (sums_of (lent set.entry)) }
 {
     if set.outside() {

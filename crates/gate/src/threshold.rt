@@ -5,6 +5,7 @@ ghost use Rattle.base_refusals.specs.Rows.{by_rows};
 ghost use Rattle.gate.specs.Relative.{threshold_of, level_of, level_rows, relative_of, said};
 
 use crate::blocks::Totals;
+use crate::table::BinEnergies;
 use base_refusals::Refusal;
 use bins::Count;
 use history_set::set::{Entry, Histories};
@@ -23,7 +24,7 @@ pub enum Threshold {
 pub(crate) fn threshold_of(totals: Totals) -> f64
     ensures { result ≡ threshold_of totals }
 {
-    (totals.sum / std::num::nearest_u64_to_f64(totals.count)) * 0.1
+    totals.mean() * 0.1
 }
 
 // The same where there may be none, or one that is NaN.
@@ -33,7 +34,7 @@ fn level(totals: Totals) -> Result<Threshold, Refusal>
     if totals.count == 0 {
         return Ok(Threshold::Loudness(LOWEST));
     }
-    if base_floats::is_nan(totals.sum) {
+    if totals.sum.is_nan() {
         return Err(Refusal::NAN);
     }
     Ok(Threshold::Energy(threshold_of(totals)))
@@ -47,12 +48,11 @@ pub fn relative_threshold(
 ) -> Result<Threshold, Refusal>
     ensures { said result ≡ said_by (relative_of entry counters.now energies.now) }
 {
-    let table = bins_tables::all_energies();
     let alone = Histories {
         entries: &[entry],
         counters,
         energies,
     };
-    let totals = crate::sums::of_set(&table, alone)?;
+    let totals = crate::sums::of_set(&BinEnergies::new(), alone)?;
     level(totals)
 }

@@ -1,28 +1,21 @@
--- `exports_gate::gated_energy_of` meets its contract: the set of one is its history, and any other that of the numbers. Assumes nothing.
-use mathlib.Core.Path.{ap, ◌∙◌}
-use mathlib.Core.List.{List}
-use Prim.Native.Nat.{◌/◌}
-use lib.ListN.{length}
+-- `exports_gate::gated_energy_of` meets its contract: the set is that of the numbers, or SET refuses them. Assumes nothing.
+use Rattle.std.proofs.Common.{sym, ap, ◌∙◌}
+use Rattle.std.proofs.lemmas.Result.{err_from_is_err_and}
 use Rattle.base_refusals.specs.Outcome.{said_by}
-use Rattle.history_set.specs.declared.set.Entry.{Entry}
-use Rattle.history_set.specs.Set.{histories}
-use Rattle.gate.specs.Sums.{alone}
 use Rattle.gate.specs.GatedEnergy.{gated_energy_of}
-use Rattle.exports_entries.specs.Sets.{numbers_an_entry}
-use Rattle.exports_gate.proofs.Alone.{energy_of_one}
+use Rattle.exports_entries.proofs.Asked.{asked_refused, asked_entries}
+use Rattle.exports_gate.proofs.Sets.{energy_of_set}
 use Rattle.exports_gate.proofs.gated_energy_of.Goals as goal
 
-pub returns-then-entries-eq-NUMBERS : goal.returns-then-entries-eq-NUMBERS
-returns-then-entries-eq-NUMBERS c =
+pub returns-in_err-entries : goal.returns-in_err-entries
+returns-in_err-entries c =
     let a = c.args in
-    let counters = a.counters.now in
-    let energies = a.energies.now in
-    c.gated_energy_of_history.ensures
-    ∙ ap (λ (entry : Entry). said_by (gated_energy_of (alone entry counters energies))) c.first_of.ensures
-    ∙ ap said_by (energy_of_one a.entries.now counters energies c.if-entries-eq-NUMBERS.true)
+    let p = err_from_is_err_and c.from_residual.result c.from_residual.ensures.1 in
+    rw (p.1, p.2, c.in_err-entries.ensures.1)
+    (ap said_by (sym (asked_refused gated_energy_of energy_of_set a.numbers.now a.counters.now a.energies.now c.in_err-entries.ensures.0)))
 
 pub returns : goal.returns
 returns c =
     let a = c.args in
-    c.gated_energy.ensures
-    ∙ ap (λ (entries : List Entry). said_by (gated_energy_of (histories entries (length a.entries.now / numbers_an_entry) a.counters.now a.energies.now))) c.entries_of.ensures
+    let is = c.in_ok-entries.ensures in
+    c.gated_energy.ensures ∙ ap said_by (asked_entries gated_energy_of energy_of_set a.numbers.now a.counters.now a.energies.now is.0 c.in_ok-entries.entries.now is.1)

@@ -14,7 +14,7 @@ use Rattle.gate.proofs.all_gated.Goals as goal
 use Rattle.gate.proofs.all_gated.Goals.{At-loop-entry}
 
 well : (c : At-loop-entry) → KeptLent c.args.set
-well c = kept_lent c.args.set c.requires.0
+well c = kept_lent c.args.set c.requires
 
 -- the totals so far
 abbrev so_far : ℕ → Float → Totals
@@ -30,9 +30,8 @@ history_gated-gated-requires c =
     let k = well (goal.at.history_gated-gated-requires c).At-loop-entry in (
       inside_at (length set.counters.now) (length set.energies.now) set.entries.now i (omega arith) k.inside,
       sound_at set.energies.now set.entries.now i (omega arith) k.stores,
-      c.start_in-bin.ensures,
+      c.start-bin.ensures,
       c.loop-entry.invariant.0,
-      c.requires.1,
     )
 
 pub overflow_add-count : goal.overflow_add-count

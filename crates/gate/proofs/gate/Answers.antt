@@ -10,7 +10,7 @@ pub returns-in_err-all : goal.returns-in_err-all
 returns-in_err-all c = let p = err_from_is_err_and c.from_residual.result c.from_residual.ensures.1 in rw (p.1, p.2) (gate_refused (lent c.args.set) _ c.in_err-all.ensures)
 
 pub all_gated-left-requires : goal.all_gated-left-requires
-all_gated-left-requires c = ((sums_told (lent c.args.set) c.in_ok-all.all c.in_ok-all.ensures).0, c.all_energies-table.ensures)
+all_gated-left-requires c = (sums_told (lent c.args.set) c.in_ok-all.all c.in_ok-all.ensures).0
 
 pub returns : goal.returns
 returns c =

@@ -15,7 +15,7 @@ use Rattle.gate.proofs.Looking.{queue_totals}
 use Rattle.gate.proofs.sums.of_history.Goals as goal
 
 pub from_bin-requires : goal.from_bin-requires
-from_bin-requires c = (c.requires.0, nothing_steady)
+from_bin-requires c = nothing_steady
 
 pub returns-in-Histogram : goal.returns-in-Histogram
 returns-in-Histogram c =
@@ -25,7 +25,7 @@ returns-in-Histogram c =
     let start = c.in-Histogram.start in
     let is = c.in-Histogram.is in
     let within : start + 1000 ≤ length counters =
-    subst (λ (s : Shape). counters_end s ≤ length counters) is (counters_inside_lem (length counters) (length energies) a.entry c.requires.1) in (
+    subst (λ (s : Shape). counters_end s ≤ length counters) is (counters_inside_lem (length counters) (length energies) a.entry c.requires) in (
       ap (shape_sound energies) is,
       c.from_bin.ensures.0 ∙ there none.sum counters start 0 within ∙ ap (λ (s : Shape). totals_of (shape_shows counters energies s)) (sym is),
       c.from_bin.ensures.1,

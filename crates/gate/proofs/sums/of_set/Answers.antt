@@ -30,11 +30,9 @@ loop-entry-init c = (omega arith, refl, refl)
 
 pub of_history-requires : goal.of_history-requires
 of_history-requires c =
-    let set = c.args.set in (
-      c.requires,
-      inside_at (length set.counters.now) (length set.energies.now) set.entries.now c.loop-entry.entry-index (omega arith)
-          (none_reaches set (inside (goal.at.of_history-requires c).Else-outside)),
-    )
+    let set = c.args.set in
+    inside_at (length set.counters.now) (length set.energies.now) set.entries.now c.loop-entry.entry-index (omega arith)
+    (none_reaches set (inside (goal.at.of_history-requires c).Else-outside))
 
 pub returns-in_err-one : goal.returns-in_err-one
 returns-in_err-one c =

@@ -9,4 +9,4 @@ unfolding tenth of_bits round
 the_tenth = refl
 
 pub returns : goal.returns
-returns c = rw (the_tenth, c.nearest_u64_to_f64.ensures)
+returns c = rw (the_tenth, c.mean.ensures)
