@@ -1,6 +1,7 @@
 -- The conversion keeps every count and energy, proved: what an operation that went left in its output's first places is its record, of which the laws of
 -- record_conversion speak. And a kind and its number determine each other. Assumes nothing.
 use mathlib.Core.Path.{◌≡◌, refl, sym, ap, ◌∙◌}
+use Rattle.std.specs.Prelude.{Some}
 use mathlib.Core.Bool.{Bool, true, false, not, cond, ◌&&◌, and-eq-true_iff}
 use mathlib.Core.List.{List, [], ◌∷◌, ◌++◌}
 use Prim.Native.Nat.{ℕ, ◌≤◌}
