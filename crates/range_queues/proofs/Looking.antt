@@ -1,7 +1,8 @@
 -- The energies that the entries hold, an entry at a time: how many, whether one is NaN, and that all are above zero where none is NaN.
 -- An entry's energies stand before those of the rest; none is below boundary 0, which is above zero. Assumes nothing.
 use mathlib.Core.Path.{◌≡◌, refl, sym, ap, ◌∙◌}
-use mathlib.Core.Bool.{Bool, true, false, not, ◌&&◌, ◌||◌, true≢false, and-true, and_assoc, or-false, or_assoc}
+use Rattle.std.proofs.Common.{Option, Some, None}
+use mathlib.Core.Bool.{Bool, true, false, cond, not, ◌&&◌, ◌||◌, true≢false, or-false, or_assoc}
 use mathlib.Core.List.{List, [], ◌∷◌, ◌++◌}
 use Prim.Native.Nat.{ℕ, zero, suc, ◌+◌, ◌*◌, ◌≤◌, ◌<◌}
 use native.Mathlib.Nat.{mul-pos}
@@ -48,17 +49,34 @@ unfolding any_nan
 nan_append [] b = refl
 nan_append (x ∷ a) b = rw (nan_append a b, or_assoc)
 
-pub seen_is : (before : Seen) (l : List Float) (blocks : ℕ) (fine nans : Bool) → blocks ≡ before.blocks + length l → fine ≡ before.fine && none_below l
-    → nans ≡ before.nan || any_nan l → record { blocks = blocks; fine = fine; nan = nans } ≡ with_seen before l
-seen_is before l blocks fine nans p q r = rw (p, q, r)
+pub seen_is : (before : Seen) (l : List Float) (blocks : ℕ) (nans : Bool) → blocks ≡ before.blocks + length l
+    → nans ≡ before.nan || any_nan l → record { blocks = blocks; nan = nans } ≡ with_seen before l
+seen_is before l blocks nans p q = rw (p, q)
 
 pub seen_append : (before : Seen) (a b : List Float) → with_seen (with_seen before a) b ≡ with_seen before (a ++ b)
-seen_append before a b =
-    seen_is before (a ++ b) _ _ _ (omega (arith, length-append a b)) (rw (none_below_append, and_assoc)) (rw (nan_append, or_assoc))
+seen_append before a b = seen_is before (a ++ b) _ _ (omega (arith, length-append a b)) (rw (nan_append, or_assoc))
 
 pub seen_none : (seen : Seen) → with_seen seen [] ≡ seen
-unfolding none_below any_nan
-seen_none seen = sym (seen_is seen [] seen.blocks seen.fine seen.nan (omega arith) (sym (and-true seen.fine)) (sym (or-false seen.nan)))
+unfolding any_nan
+seen_none seen = sym (seen_is seen [] seen.blocks seen.nan (omega arith) (sym (or-false seen.nan)))
+
+-- ---- what a look answers
+abbrev pub Looked : Option Seen → Bool → Seen → Type 0
+Looked r fine seen = r ≡ cond fine (Some seen) None
+
+pub looked_fine : (fine : Bool) (s seen : Seen) → Looked (Some s) fine seen → (fine ≡ true) × (s ≡ seen)
+looked_fine true s seen e = (refl, cc)
+looked_fine false s seen e = cc
+
+pub looked_not : (fine : Bool) (seen : Seen) → Looked None fine seen → fine ≡ false
+looked_not true seen e = cc
+looked_not false seen e = refl
+
+pub look_passed : (fine : Bool) (s seen : Seen) → fine ≡ true → s ≡ seen → Looked (Some s) fine seen
+look_passed fine s seen e f = rw (e, f)
+
+pub look_failed : (fine : Bool) (seen : Seen) → fine ≡ false → Looked None fine seen
+look_failed fine seen e = rw e
 
 -- ---- an entry that is inside and sound
 pub store_at : (energies : ℕ) (l : List Entry) (i : ℕ) → i < length l → stores_inside energies l → store_end (get_or l i past_the_last).shape ≤ energies
@@ -68,16 +86,11 @@ pub suits_sound : (energies : List Float) (s : Shape) → shape_sound energies s
 suits_sound energies (Histogram start) h = refl
 suits_sound energies (Queue-at start queue) h = (both (suits queue queue.maximum) (none_below (held_of (queue_at energies start queue))) h).0
 
--- an entry that suits its store is sound where none of its energies is below boundary 0; else it is not
+-- an entry that suits its store is sound where none of its energies is below boundary 0
 pub sound_suits : (energies : List Float) (s : Shape) → suits_at s ≡ true → none_below (held_by (shape_shows [] energies s)) ≡ shape_sound energies s
 unfolding none_below
 sound_suits energies (Histogram start) h = refl
 sound_suits energies (Queue-at start queue) h = rw h
-
-pub unsound : (energies : List Float) (s : Shape) (fine : Bool) → suits_at s ≡ false → false ≡ fine && shape_sound energies s
-unsound energies (Histogram start) fine h = absurd (true≢false h)
-unsound energies (Queue-at start queue) true h = rw h
-unsound energies (Queue-at start queue) false h = refl
 
 -- ---- entry by entry
 module _ (energies : List Float) (l : List Entry) (i : ℕ) where
@@ -95,13 +108,12 @@ module _ (energies : List Float) (l : List Entry) (i : ℕ) where
   held_count h =
       ap length (held_next h) ∙ length-append (held_at energies (get_or l i past_the_last)) (held_in energies (drop (i + 1) l))
 
-  pub sound_next : i < length l → (fine : Bool)
-      → (fine && is_sound energies (get_or l i past_the_last)) && all_sound energies (drop (i + 1) l) ≡ fine && all_sound energies (drop i l)
+  pub sound_next : i < length l → is_sound energies (get_or l i past_the_last) && all_sound energies (drop (i + 1) l) ≡ all_sound energies (drop i l)
   unfolding all_sound
-  sound_next h fine = rw (and_assoc, drop_more l i past_the_last h)
+  sound_next h = rw (drop_more l i past_the_last h)
 
-  pub sound_end : length l ≤ i → (fine : Bool) → fine && all_sound energies (drop i l) ≡ fine
-  sound_end h fine = rw (all_end energies l i h) (and-true fine)
+  pub sound_end : length l ≤ i → all_sound energies (drop i l) ≡ true
+  sound_end h = all_end energies l i h
 
   pub seen_next : i < length l → (before seen : Seen) → seen ≡ with_seen before (held_at energies (get_or l i past_the_last))
       → with_seen seen (held_in energies (drop (i + 1) l)) ≡ with_seen before (held_in energies (drop i l))
@@ -128,8 +140,11 @@ module _ (energies : List Float) (entry : Entry) (older newer : List Float) (is 
   pub parts_count : length (held_at energies entry) ≡ length older + length newer
   parts_count = ap length (sym is) ∙ length-append older newer
 
-  pub parts_seen : (before a b : Seen) → a ≡ with_seen before older → b ≡ with_seen a newer → b ≡ with_seen before (held_at energies entry)
-  parts_seen before a b f g = g ∙ ap (λ (s : Seen). with_seen s newer) f ∙ seen_append before older newer ∙ ap (with_seen before) is
+  pub parts_below : none_below older && none_below newer ≡ none_below (held_at energies entry)
+  parts_below = sym (none_below_append older newer) ∙ ap none_below is
+
+  pub parts_seen : (before a : Seen) → a ≡ with_seen before older → with_seen a newer ≡ with_seen before (held_at energies entry)
+  parts_seen before a f = ap (λ (s : Seen). with_seen s newer) f ∙ seen_append before older newer ∙ ap (with_seen before) is
 
   pub parts_set : (work : List Float) (at middle : ℕ) → middle ≡ at + length older → sets (sets work at older) middle newer ≡ sets work at (held_at energies entry)
   parts_set work at middle e =

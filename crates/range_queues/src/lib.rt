@@ -1,12 +1,12 @@
 // The loudness range over the queues of a set: their energies are put in rising order in a lent work slice.
 #![tactic(auto)]
 
-ghost use Rattle.std.specs.Prelude.{◌≡◌, true, ◌&&◌, ◌+◌, ◌≤◌, ◌++◌, length};
+ghost use Rattle.std.specs.Prelude.{◌≡◌, true, cond, Some, None, IfSome, ◌+◌, ◌≤◌, ◌++◌, length};
 ghost use Rattle.std.proofs.lemmas.List.Edits.{sets};
 ghost use Rattle.base_refusals.specs.Outcome.{said_by, kept_by};
 ghost use Rattle.history_queue.specs.Queue.{longest, in_parts};
 ghost use Rattle.history_set.specs.Lent.{lent};
-ghost use Rattle.history_set.specs.Set.{most_histories, store_end, stores_inside, is_sound, all_sound};
+ghost use Rattle.history_set.specs.Set.{most_histories, store_end, stores_inside, none_below, is_sound, all_sound};
 ghost use Rattle.range_ranks.specs.Span.{said};
 ghost use Rattle.range_queues.specs.Listed.{queue_range};
 ghost use Rattle.range_queues.specs.Inner.{most_held, held_in, held_at, suits_at, parts_at, with_seen, seen_of, listed_range};
@@ -44,65 +44,62 @@ fn suits(entry: Entry) -> bool
     }
 }
 
-// How many energies were looked at, whether none is below boundary 0, and whether one is NaN.
+// How many energies were looked at, and whether one is NaN.
 #[derive(Clone, Copy)]
 struct Seen {
     blocks: usize,
-    fine: bool,
     nan: bool,
 }
 
-// A look at energies, after what was seen before.
-fn look_at(before: Seen, energies: &[f64]) -> Seen
+// A look at energies, after what was seen before. None where one is below boundary 0.
+fn look_at(before: Seen, energies: &[f64]) -> Option<Seen>
     requires { before.blocks + length energies.now ≤ most_held }
-    ensures { result ≡ with_seen before energies.now }
+    ensures { result ≡ cond (none_below energies.now) (Some (with_seen before energies.now)) None }
 {
     let least = bins::lowest_boundary();
-    let mut fine = before.fine;
+    let mut fine = true;
     let mut nan = before.nan;
     for energy in energies {
         fine &= !(*energy < least);
         nan |= *energy != *energy;
     }
-    Seen {
-        blocks: before.blocks + energies.len(),
-        fine,
-        nan,
+    if fine {
+        Some(Seen {
+            blocks: before.blocks + energies.len(),
+            nan,
+        })
+    } else {
+        None
     }
 }
 
-// At those that an entry holds. One that does not suit its store is not fine.
-fn look_in(before: Seen, entry: Entry, energies: &[f64]) -> Seen
+// At those that an entry holds. None where it does not suit its store, too.
+fn look_in(before: Seen, entry: Entry, energies: &[f64]) -> Option<Seen>
     requires { (store_end entry.shape ≤ length energies.now) × (before.blocks + longest ≤ most_held) }
-    ensures { (result.fine ≡ (before.fine && is_sound energies.now entry))
-        × (is_sound energies.now entry ≡ true → result ≡ with_seen before (held_at energies.now entry)) × (result.blocks ≤ before.blocks + longest) }
+    ensures seen { result ≡ cond (is_sound energies.now entry) (Some (with_seen before (held_at energies.now entry))) None }
+    ensures few { IfSome result (λ seen. seen.blocks ≤ before.blocks + longest) }
 {
     if suits(entry) {
         let (older, newer) = held_parts(entry, energies);
-        return look_at(look_at(before, older), newer);
-    }
-    Seen {
-        blocks: 0,
-        fine: false,
-        nan: false,
+        look_at(look_at(before, older)?, newer)
+    } else {
+        None
     }
 }
 
 // At all that are held.
-fn look(entries: &[Entry], energies: &[f64]) -> Seen
+fn look(entries: &[Entry], energies: &[f64]) -> Option<Seen>
     requires { (length entries.now ≤ most_histories) × (stores_inside (length energies.now) entries.now) }
-    ensures { (result.fine ≡ all_sound energies.now entries.now)
-        × (all_sound energies.now entries.now ≡ true → result ≡ seen_of (held_in energies.now entries.now)) }
+    ensures { result ≡ cond (all_sound energies.now entries.now) (Some (seen_of (held_in energies.now entries.now))) None }
 {
     let mut seen = Seen {
         blocks: 0,
-        fine: true,
         nan: false,
     };
     for entry in entries {
-        seen = look_in(seen, *entry, energies);
+        seen = look_in(seen, *entry, energies)?;
     }
-    seen
+    Some(seen)
 }
 
 // Energies go to the work slice, from a place of it on.
@@ -165,9 +162,8 @@ pub fn of_queues(set: Histories<'_>, work: &mut [f64]) -> Span
     if set.outside() {
         return Span::Refused(Refusal::SET);
     }
-    let seen = look(set.entries, set.energies);
-    if seen.fine {
-        return in_order(set.entries, set.energies, work, seen);
+    match look(set.entries, set.energies) {
+        Some(seen) => in_order(set.entries, set.energies, work, seen),
+        None => Span::Refused(Refusal::STORE),
     }
-    Span::Refused(Refusal::STORE)
 }

@@ -4,7 +4,7 @@ use Rattle.std.proofs.Common.{◌+◌, not, ◌&&◌, get_or, drop, Float, sym, 
 use lib.Ieee.{nan, lt}
 use Rattle.history_set.specs.Set.{none_below}
 use Rattle.history_set.proofs.Slices.{fine_turn, fine_end}
-use Rattle.range_queues.proofs.Looking.{nan_turn, nan_end, seen_is}
+use Rattle.range_queues.proofs.Looking.{nan_turn, nan_end, seen_is, look_passed, look_failed}
 use Rattle.range_queues.proofs.look_at.Goals as goal
 
 pub loop-energy-preserved : goal.loop-energy-preserved
@@ -18,10 +18,15 @@ loop-energy-preserved c =
       nan_turn energies i l.nan nan (omega arith) ∙ l.invariant.1,
     )
 
-pub returns : goal.returns
-returns c =
+pub returns-then-fine : goal.returns-then-fine
+returns-then-fine c =
     let energies = c.args.energies.now in
     let l = c.loop-energy in
-    seen_is c.args.before energies _ _ _ refl
-    (sym (fine_end energies l.energy-index l.fine (omega arith)) ∙ l.invariant.0)
-    (sym (nan_end energies l.energy-index l.nan (omega arith)) ∙ l.invariant.1)
+    look_passed (none_below energies) _ _ (sym l.invariant.0 ∙ fine_end energies l.energy-index l.fine (omega arith) ∙ c.if-fine.true)
+    (seen_is c.args.before energies _ _ refl (sym (nan_end energies l.energy-index l.nan (omega arith)) ∙ l.invariant.1))
+
+pub returns-else-fine : goal.returns-else-fine
+returns-else-fine c =
+    let energies = c.args.energies.now in
+    let l = c.loop-energy in
+    look_failed (none_below energies) _ (sym l.invariant.0 ∙ fine_end energies l.energy-index l.fine (omega arith) ∙ c.if-fine.false)

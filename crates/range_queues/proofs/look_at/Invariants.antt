@@ -5,5 +5,5 @@ use Rattle.range_queues.proofs.look_at.Given as goal
 
 abbrev pub invariant-loop-energy : goal.invariant-loop-energy
 invariant-loop-energy l =
-    (l.fine && none_below (drop l.energy-index l.energies) ≡ l.before.fine && none_below l.energies)
+    (l.fine && none_below (drop l.energy-index l.energies) ≡ none_below l.energies)
     × (l.nan || any_nan (drop l.energy-index l.energies) ≡ l.before.nan || any_nan l.energies)

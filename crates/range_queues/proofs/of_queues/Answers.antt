@@ -1,6 +1,6 @@
 -- `range_queues::of_queues` meets its contract: the set's refusals first, then what its queues hold. Assumes nothing.
 use mathlib.Core.Path.{◌≡◌, sym, ap, ◌∙◌}
-use mathlib.Core.Bool.{true, false}
+use mathlib.Core.Bool.{false}
 use mathlib.Core.List.{List}
 use lib.Ieee.{Float}
 use lib.ListN.{length}
@@ -13,7 +13,7 @@ use Rattle.history_set.proofs.Entries.{all_chosen, stores_inside_lem}
 use Rattle.history_set.proofs.Rows.{none_outside, none_reaches, set_refused, one_unsound, all_well}
 use Rattle.range_queues.specs.Listed.{queue_range}
 use Rattle.range_queues.specs.Inner.{held_in, listed_range}
-use Rattle.range_queues.proofs.Looking.{held_any}
+use Rattle.range_queues.proofs.Looking.{held_any, looked_fine, looked_not}
 use Rattle.range_queues.proofs.Answers.{queues_refused, queues_asked}
 use Rattle.range_queues.proofs.of_queues.Goals as goal
 
@@ -23,8 +23,8 @@ returns-then-outside c =
     let r = queues_refused h c.args.work.now (number SET) (sym (set_refused h (sym c.outside.ensures ∙ c.if-outside.true))) (no_number SET) in
     (r.says, r.keeps)
 
-pub look-seen-requires : goal.look-seen-requires
-look-seen-requires c =
+pub look-requires : goal.look-requires
+look-requires c =
     let set = c.args.set in
     let reaches : outside_set (lent set) ≡ false = sym c.outside.ensures ∙ c.if-outside.false in (
       (none_outside (lent set) reaches).0,
@@ -35,26 +35,26 @@ pub in_order-requires : goal.in_order-requires
 in_order-requires c =
     let set = c.args.set in
     let reaches : outside_set (lent set) ≡ false = sym c.outside.ensures ∙ c.if-outside.false in
-    let sound : all_sound set.energies.now set.entries.now ≡ true = sym c.look-seen.ensures.0 ∙ c.if-seen.true in
-    (stores_inside_lem (length set.counters.now) (length set.energies.now) set.entries.now (none_reaches set reaches), sound, c.look-seen.ensures.1 sound)
+    let known = looked_fine (all_sound set.energies.now set.entries.now) c.in-Some.seen _ c.in-Some.ensures in
+    (stores_inside_lem (length set.counters.now) (length set.energies.now) set.entries.now (none_reaches set reaches), known.0, known.1)
 
-pub returns-then-seen : goal.returns-then-seen
-returns-then-seen c =
+pub returns-in-Some : goal.returns-in-Some
+returns-in-Some c =
     let set = c.args.set in
     let h = lent set in
     let work = c.args.work.now in
     let inside : outside_set h ≡ false = sym c.outside.ensures ∙ c.if-outside.false in
-    let sound : all_sound set.energies.now (chosen h) ≡ true = ap (all_sound set.energies.now) (all_chosen set) ∙ sym c.look-seen.ensures.0 ∙ c.if-seen.true in
+    let sound = (looked_fine (all_sound set.energies.now set.entries.now) c.in-Some.seen _ c.in-Some.ensures).0 in
     let is : queue_range h work ≡ listed_range (held_in set.energies.now set.entries.now) work =
-    queues_asked h work (all_well h inside sound)
+    queues_asked h work (all_well h inside (ap (all_sound set.energies.now) (all_chosen set) ∙ sound))
     ∙ ap (λ (l : List Float). listed_range l work) (sym (held_any set.counters.now set.energies.now (chosen h)) ∙ ap (held_in set.energies.now) (all_chosen set)) in
     rw is (c.in_order.ensures.0, c.in_order.ensures.1)
 
-pub returns : goal.returns
-returns c =
+pub returns-in-None : goal.returns-in-None
+returns-in-None c =
     let set = c.args.set in
     let h = lent set in
     let inside : outside_set h ≡ false = sym c.outside.ensures ∙ c.if-outside.false in
-    let unsound : all_sound set.energies.now (chosen h) ≡ false = ap (all_sound set.energies.now) (all_chosen set) ∙ sym c.look-seen.ensures.0 ∙ c.if-seen.false in
-    let r = queues_refused h c.args.work.now (number STORE) (sym (one_unsound h inside unsound)) (no_number STORE) in
+    let unsound = looked_not (all_sound set.energies.now set.entries.now) _ c.in-None.ensures in
+    let r = queues_refused h c.args.work.now (number STORE) (sym (one_unsound h inside (ap (all_sound set.energies.now) (all_chosen set) ∙ unsound))) (no_number STORE) in
     (r.says, r.keeps)
