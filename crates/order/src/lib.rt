@@ -23,6 +23,7 @@ fn stretch_passes<F: Fn(f64, f64) -> bool>(energies: &[f64], test: &F) -> bool
 }
 
 // The same of any number of them. It stops after a stretch where they do not.
+// Stays a while loop: a stretch ends with the energy that the next begins with, so they are no chunks, and chunks side by side took 1.5 times the time.
 fn all_pass<F: Fn(f64, f64) -> bool>(energies: &[f64], test: F) -> bool
     requires { F.IsAlwaysCallable test }
     ensures { result ≡ true → Steps (F.post test) (length energies.now - 1) energies.now }
