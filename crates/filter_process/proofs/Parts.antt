@@ -44,10 +44,21 @@ module _ (call : Call) where
   abbrev leaves : Outcome Kept NoValues
   leaves = went (record { filter = moved f (weighed_state call) (measured_peaks call) (measured_true_peaks call); dest = weighed_dest call }) done
 
-  -- it is refused, and all stays
-  pub stays : (r : Refusal) → number r ≡ number_of (process_rows call) → (refusal (number r) ≡ said_by (processed call)) × (given call ≡ kept processed call)
-  unfolding processed
-  stays r e = let s = stopped leaves (process_rows call) (given call) (number r) e (no_number r) in (s.says, s.keeps)
+  -- the check goes by how many samples there are
+  module _ (samples : ℕ) (size : size_of call.samples ≡ samples) where
+    abbrev checked : ℕ
+    checked = number_of (calls.process_rows f.switches.loudness (sizes f.channels samples (length call.dest) call.start) call.map)
+
+    numbered : checked ≡ number_of (process_rows call)
+    numbered = ap (λ (n : ℕ). number_of (calls.process_rows f.switches.loudness (sizes f.channels n (length call.dest) call.start) call.map)) (sym size)
+
+    -- it refuses, and all stays
+    pub stays : (r : Refusal) → number r ≡ checked → (refusal (number r) ≡ said_by (processed call)) × (given call ≡ kept processed call)
+    unfolding processed
+    stays r e = let s = stopped leaves (process_rows call) (given call) (number r) (e ∙ numbered) (no_number r) in (s.says, s.keeps)
+
+    pub passes : 0 ≡ checked → number_of (process_rows call) ≡ 0
+    passes e = sym (e ∙ numbered)
 
   -- it passes
   module _ (ok : number_of (process_rows call) ≡ 0) where
@@ -68,11 +79,11 @@ module _ (call : Call) where
         (process_seeds f.switches.loudness (sizes f.channels (size_of call.samples) (length call.dest) call.start) call.map ok)
 
     module _ (floats : List Float) (e : as_f64 call.samples ≡ floats) where
-      pub peaks_on : f.switches.peak ≡ true → (after : List Float) → after ≡ (kept_by f.peaks (raised f.channels floats f.peaks)).values → after ≡ (measured_peaks call).values
+      pub peaks_on : f.switches.peak ≡ true → (after left : List Float) → after ≡ left → left ≡ (kept_by f.peaks (raised f.channels floats f.peaks)).values → after ≡ (measured_peaks call).values
       unfolding raised
-      peaks_on on after h =
+      peaks_on on after left now h =
           let samples = as_f64 call.samples in
-          rw on (h ∙ ap (λ (x : List Float). (kept_by f.peaks (raised f.channels x f.peaks)).values) (sym e)
+          rw on (now ∙ h ∙ ap (λ (x : List Float). (kept_by f.peaks (raised f.channels x f.peaks)).values) (sym e)
           ∙ ap (λ (o : Outcome Peaks NoValues). (kept_by f.peaks o).values)
           (goes (went (record { values = peaks_after f.channels samples f.peaks.values }) done) (frame_rows f.channels (length samples)) (frames (length samples) (size_f64 call.samples))))
 
@@ -87,14 +98,14 @@ module _ (call : Call) where
           ∙ went_on (weighing call) call.dest call.start rows in
           rw on (h.0 ∙ ap (λ (k : weighting.Kept). k.state.values) same, h.1 ∙ ap (λ (k : weighting.Kept). k.dest) same)
 
-    pub trues_on : (floats : List Float) → as_f32 call.samples ≡ floats → f.switches.true_peak ≡ true → (memory peaks : List Float) →
+    pub trues_on : (floats : List Float) → as_f32 call.samples ≡ floats → f.switches.true_peak ≡ true → (memory peaks memory' peaks' : List Float) → memory ≡ memory' → peaks ≡ peaks' →
         let after = kept_by f.true_peak (trues.processed f.rate (record { channels = f.channels; samples = floats }) f.true_peak) in
-        (memory ≡ after.memory) × (peaks ≡ after.peaks) → (memory ≡ (measured_true_peaks call).memory) × (peaks ≡ (measured_true_peaks call).peaks)
-    trues_on floats e on memory peaks h =
+        (memory' ≡ after.memory) × (peaks' ≡ after.peaks) → (memory ≡ (measured_true_peaks call).memory) × (peaks ≡ (measured_true_peaks call).peaks)
+    trues_on floats e on memory peaks memory' peaks' m p h =
         let same = ap (λ (x : List Float). kept_by f.true_peak (trues.processed f.rate (record { channels = f.channels; samples = x }) f.true_peak)) (sym e)
         ∙ ap (λ (o : Outcome TruePeak NoValues). kept_by f.true_peak o)
         (goes (went (measured (kind_of f.rate) (hearing call) f.true_peak) done) (trues.peak_rows (hearing call)) (frames (length (as_f32 call.samples)) (size_f32 call.samples))) in
-        rw on (h.0 ∙ ap (λ (t : TruePeak). t.memory) same, h.1 ∙ ap (λ (t : TruePeak). t.peaks) same)
+        rw on (m ∙ h.0 ∙ ap (λ (t : TruePeak). t.memory) same, p ∙ h.1 ∙ ap (λ (t : TruePeak). t.peaks) same)
 
   -- what is off leaves its own things
   pub peaks_off : f.switches.peak ≡ false → (after : List Float) → after ≡ f.peaks.values → after ≡ (measured_peaks call).values

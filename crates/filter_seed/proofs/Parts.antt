@@ -35,10 +35,21 @@ module _ (call : Call) where
   abbrev leaves : Outcome Kept NoValues
   leaves = went (record { filter = moved f (weighed_state call) f.peaks (remembered_true_peaks call); dest = call.dest }) done
 
-  -- it is refused, and all stays
-  pub stays : (r : Refusal) → number r ≡ number_of (seed_rows call) → (refusal (number r) ≡ said_by (seeded call)) × (f ≡ (kept seeded call).filter)
-  unfolding seeded
-  stays r e = let s = stopped leaves (seed_rows call) (given call) (number r) e (no_number r) in (s.says, ap (λ (k : Kept). k.filter) s.keeps)
+  -- the check goes by how many samples there are
+  module _ (samples : ℕ) (size : size_of call.samples ≡ samples) where
+    abbrev checked : ℕ
+    checked = number_of (calls.seed_rows f.channels samples call.map)
+
+    numbered : checked ≡ number_of (seed_rows call)
+    numbered = ap (λ (n : ℕ). number_of (calls.seed_rows f.channels n call.map)) (sym size)
+
+    -- it refuses, and all stays
+    pub stays : (r : Refusal) → number r ≡ checked → (refusal (number r) ≡ said_by (seeded call)) × (f ≡ (kept seeded call).filter)
+    unfolding seeded
+    stays r e = let s = stopped leaves (seed_rows call) (given call) (number r) (e ∙ numbered) (no_number r) in (s.says, ap (λ (k : Kept). k.filter) s.keeps)
+
+    pub passes : 0 ≡ checked → number_of (seed_rows call) ≡ 0
+    passes e = sym (e ∙ numbered)
 
   -- it passes
   module _ (ok : number_of (seed_rows call) ≡ 0) where
@@ -51,12 +62,12 @@ module _ (call : Call) where
         let t = same_peaks f.switches.true_peak f.true_peak (measured (kind_of f.rate) (hearing call) f.true_peak).memory in
         (ap said_by z, (λ i. with_arrays f (record { state = s i; peaks = f.peaks.values; memory = m i; true_peaks = t i })) ∙ ap (λ (o : Outcome Kept NoValues). (kept_by (given call) o).filter) z)
 
-    pub memory_on : (floats : List Float) → as_f32 call.samples ≡ floats → f.switches.true_peak ≡ true → (memory : List Float)
-        → memory ≡ (kept_by f.true_peak (trues.seeded f.rate (record { channels = f.channels; samples = floats }) f.true_peak)).memory → memory ≡ (remembered_true_peaks call).memory
-    memory_on floats e on memory h =
+    pub memory_on : (floats : List Float) → as_f32 call.samples ≡ floats → f.switches.true_peak ≡ true → (memory left : List Float) → memory ≡ left
+        → left ≡ (kept_by f.true_peak (trues.seeded f.rate (record { channels = f.channels; samples = floats }) f.true_peak)).memory → memory ≡ (remembered_true_peaks call).memory
+    memory_on floats e on memory left now h =
         let passes : number_of (trues.peak_rows (hearing call)) ≡ 0 =
         ap (λ (n : ℕ). number_of (calls.frame_rows f.channels n)) (size_f32 call.samples) ∙ seed_frames f.channels (size_of call.samples) call.map ok in
-        rw on (h ∙ ap (λ (x : List Float). (kept_by f.true_peak (trues.seeded f.rate (record { channels = f.channels; samples = x }) f.true_peak)).memory) (sym e)
+        rw on (now ∙ h ∙ ap (λ (x : List Float). (kept_by f.true_peak (trues.seeded f.rate (record { channels = f.channels; samples = x }) f.true_peak)).memory) (sym e)
         ∙ ap (λ (o : Outcome TruePeak NoValues). (kept_by f.true_peak o).memory)
         (goes (went (record { memory = (measured (kind_of f.rate) (hearing call) f.true_peak).memory; peaks = f.true_peak.peaks }) done) (trues.peak_rows (hearing call)) passes))
 
