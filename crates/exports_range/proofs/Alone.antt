@@ -1,9 +1,10 @@
 -- A set of one histogram: SET where its counters do not end within those lent, and else their range as they stand. Assumes nothing.
 use mathlib.Core.Path.{◌≡◌, refl, sym, ap, subst, ◌∙◌}
-use mathlib.Core.Bool.{Bool, true, false, cond}
+use mathlib.Core.Bool.{Bool, true, false, cond, or-false}
 use mathlib.Core.List.{List, ◌∷◌}
 use Prim.Native.Nat.{ℕ, ◌+◌, ◌/◌}
-use borrow.Author.Tests.{ltb-false}
+use borrow.Author.Tests.{le-ltb, ltb-false}
+use native.Mathlib.Omega.{arith}
 use lib.Dec.{ltb}
 use lib.Ieee.{Float}
 use lib.ListN.{length}
@@ -16,8 +17,7 @@ use Rattle.history_histogram.specs.Histogram.{empty, sums}
 use Rattle.history_set.specs.declared.set.Entry.{Entry}
 use Rattle.history_set.specs.declared.set.Shape.{Shape}
 use Rattle.history_set.specs.declared.set.Shape.TheVariants.{Histogram}
-use Rattle.history_set.specs.Set.{most_histories, Histories, histories, histories_of, chosen, outside_set, any_outside, all_sound, all_show, counters_at}
-use Rattle.history_set.proofs.Entries.{histogram_outside}
+use Rattle.history_set.specs.Set.{most_histories, Histories, histories, histories_of, chosen, is_outside, outside_set, any_outside, all_sound, all_show, counters_at}
 use Rattle.history_set.proofs.Rows.{set_refused, all_well}
 use Rattle.range_one.specs.Counted.{span_at}
 use Rattle.range_one.proofs.Answers.{span_there}
@@ -27,6 +27,10 @@ use Rattle.range.specs.Range.{Span, queues_in, range_of}
 use Rattle.range.proofs.Answers.{range_refused, range_counted}
 use Rattle.exports_entries.specs.Sets.{numbers_an_entry, entry_at, entries_from, set_of}
 use Rattle.exports_range.specs.Spans.{histogram_at}
+
+histogram_outside : (counters energies : ℕ) (entry : Entry) (start : ℕ) → entry.shape ≡ Histogram start
+    → is_outside counters energies entry ≡ ltb counters (start + bins)
+histogram_outside counters energies entry start e = rw (e, le-ltb energies 0 (omega arith)) (or-false (ltb counters (start + bins)))
 
 module _ (rest : List Entry) (counters : List ℕ) (energies work : List Float) (start : ℕ) where
   abbrev one : Histories

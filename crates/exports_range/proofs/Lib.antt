@@ -1,2 +1,3 @@
 mod Told
+mod Sets
 mod Alone
