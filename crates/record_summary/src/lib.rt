@@ -4,7 +4,6 @@
 ghost use Rattle.std.specs.Prelude.{◌≡◌, length};
 ghost use Rattle.base_refusals.specs.Outcome.{said_by};
 ghost use Rattle.bins.specs.Bin.{bins};
-ghost use Rattle.range_histograms.specs.Counted.{blocks_in};
 ghost use Rattle.record_summary.specs.Summary.{said, figures_of, summary_of};
 
 use base_refusals::Refusal;
@@ -24,23 +23,12 @@ pub enum Summary {
     Rangeless(u64),
 }
 
-fn blocks_in(counters: &[Count]) -> u64
-    requires { length counters.now ≡ bins }
-    ensures { result ≡ blocks_in counters.now }
-{
-    let mut blocks: u64 = 0;
-    for count in counters {
-        blocks += bins::wide(*count);
-    }
-    blocks
-}
-
 // The figures of a histogram, by the range's own question over it alone.
 fn figures(counters: &[Count]) -> Result<Summary, Refusal>
     requires { length counters.now ≡ bins }
     ensures { said result ≡ said_by (figures_of counters.now) }
 {
-    let blocks = blocks_in(counters);
+    let blocks = range_one::blocks_of(counters);
     let entries = [Entry {
         shape: Shape::Histogram(0),
     }];
