@@ -55,10 +55,7 @@ module _ {a b stretch : List Float} {step part : ℕ} {one two : Memory} {whole 
   size : length (sets dest j (outs a b m (column stretch i step left))) ≡ length dest
   size = length-sets dest j (outs a b m (column stretch i step left))
 
-  -- where the frame stands, and the one after it
-  pub both_here : 0 < left → (i + 1 < length stretch) × (j + part < length dest)
-  both_here some = let h = here f.second some in (h.0, omega (arith, h.1, size))
-
+  -- where the frame after this one stands
   pub both_next : 1 < left → (i + step + 1 < length stretch) × ((j + 1 + part < length dest) × (step ≤ most_channels))
   both_next more = let h = following f.second more in (omega (arith, h.0), (omega (arith, h.1.0, size), h.1.1))
 

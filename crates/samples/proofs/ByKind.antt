@@ -1,9 +1,9 @@
--- The samples of a call by their kind: each becomes one float, and of two slices one of which is empty the other is the call's. Assumes nothing.
-use Rattle.std.proofs.Common.{◌≡◌, suc, List, [], ◌∷◌, length, ℤ, refl, ap, arith, ne_eqb}
+-- The samples of a call by their kind: each becomes one float. Assumes nothing.
+use Rattle.std.proofs.Common.{◌≡◌, List, [], ◌∷◌, length, refl, ap}
 use lib.ListN.{length-map}
 use lib.Ieee.{Float}
 use Rattle.samples.specs.Sample.{sample_of16, sample_of_f32, samples_of_f32}
-use Rattle.samples.specs.Kinds.{Samples, i16s, f32s, size_of, as_f64, as_f32, lent}
+use Rattle.samples.specs.Kinds.{Samples, i16s, f32s, size_of, as_f64, as_f32}
 
 pub size_f64 : (samples : Samples) → length (as_f64 samples) ≡ size_of samples
 unfolding as_f64 size_of
@@ -19,9 +19,3 @@ size_f32 (f32s samples) = refl
 pub as_they_stand : (samples : List Float) → samples_of_f32 samples ≡ samples
 as_they_stand [] = refl
 as_they_stand (x ∷ rest) = ap (λ (t : List Float). x ∷ t) (as_they_stand rest)
-
--- no samples are no samples, of whatever kind
-pub only_i16 : {Answer : Type 0} (asked : Samples → Answer) → asked (f32s []) ≡ asked (i16s []) → (ints : List ℤ) → asked (lent ints []) ≡ asked (i16s ints)
-unfolding lent
-only_i16 asked none [] = none
-only_i16 asked none (x ∷ rest) = ap asked (rw (ne_eqb (suc (length rest)) 0 (λ e. omega arith)))

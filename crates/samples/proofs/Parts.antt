@@ -1,6 +1,6 @@
 -- Samples in parts of whole frames, one after another: a channel's samples are those of a part and then those of what follows it. A part that is cut off the front of
 -- whole frames is whole frames, and so is what follows. Assumes nothing.
-use Rattle.std.proofs.Common.{◌≡◌, ℕ, ◌+◌, ◌-◌, ◌*◌, ◌/◌, ◌≤◌, ◌<◌, min, List, ◌++◌, length, get_or, take, drop, sym, ap, ◌∙◌, inl, inr, arith, add-mul, length-append}
+use Rattle.std.proofs.Common.{◌≡◌, ℕ, ◌+◌, ◌-◌, ◌*◌, ◌/◌, ◌≤◌, ◌<◌, min, List, ◌++◌, length, take, drop, sym, ap, ◌∙◌, inl, inr, arith, add-mul, length-append}
 use native.Mathlib.Nat.{mul-add-div_right, mul-div_cancel, le_of_mul-le-mul_right}
 use lib.Seq.{take-append_seam, sets, sets-eq}
 use Rattle.std.proofs.lemmas.Bool.{cases_lt}

@@ -1,5 +1,5 @@
 -- The samples of a call, which are of one kind, and the floats that they become. A kind is a case, and has a line in each definition.
-use Rattle.std.specs.Prelude.{ℕ, cond, List, length, ℤ, ◌==◌, Float}
+use Rattle.std.specs.Prelude.{ℕ, List, length, ℤ, Float}
 use Rattle.samples.specs.Sample.{samples_of16, samples_of_f32}
 
 pub data Samples : Type 0 where
@@ -20,7 +20,3 @@ as_f64 (f32s samples) = samples_of_f32 samples
 unfoldable pub as_f32 : Samples → List Float
 as_f32 (i16s samples) = samples_of16 samples
 as_f32 (f32s samples) = samples
-
--- lent as two slices: integers, or floats where there are no integers
-unfoldable pub lent : List ℤ → List Float → Samples
-lent ints floats = cond (length ints == 0) (f32s floats) (i16s ints)
