@@ -5,10 +5,9 @@ use native.Mathlib.Nat.{zero-div, div-add-mod', div-le_self, eq-zero-or-pos, min
 use native.Mathlib.Omega.{arith}
 use mathlib.Core.Path.{◌≡◌, refl, sym, ap, subst, ◌∙◌}
 use mathlib.Core.Logic.{inl, inr}
-use mathlib.Core.List.{List, [], ◌∷◌, map}
+use mathlib.Core.List.{List, [], ◌∷◌, ◌++◌, map}
 use Rattle.std.specs.Int.{◌∣◌}
-use lib.ListN.{length, length-map, take, drop, take-append-drop}
-use lib.Seq.{length-take-le}
+use lib.ListN.{length, length-map}
 use lib.Ieee.{Float}
 use Rattle.samples.specs.Frames.{column, most_channels}
 use Rattle.base_refusals.specs.Rows.{number_of}
@@ -50,19 +49,15 @@ dvd_min k a b h g = elim (eq-zero-or-pos (a - b)) [
   | inr p ↦ subst (λ (n : ℕ). k ∣ n) (sym (min-eq_right {n = b} {m = a} (omega arith))) g
 ]
 
--- ---- the next batch: n of the samples that are left, whole frames
+-- ---- the next batch, whole frames
 
-module _ (k : Kind) (channels : ℕ) (some : 0 < channels) (few : channels ≤ most_channels) (left : List Float) (n : ℕ) (whole : n % channels ≡ 0) (fits : n ≤ length left) where
-  pub turn : (w w' t : TruePeak) → Sized w → w' ≡ measured k (record { channels = channels; samples = take n left }) w
-      → measured k (record { channels = channels; samples = left }) w ≡ t → measured k (record { channels = channels; samples = drop n left }) w' ≡ t
-  turn w w' t s e inv =
-      ap (measured k (record { channels = channels; samples = drop n left })) e
-      ∙ sym (cut channels some few (take n left) (drop n left) (ap (λ (m : ℕ). m % channels) (length-take-le n left fits) ∙ whole) k w s)
-      ∙ ap (λ (l : List Float). measured k (record { channels = channels; samples = l }) w) (take-append-drop n left)
-      ∙ inv
+module _ (k : Kind) (channels : ℕ) (some : 0 < channels) (few : channels ≤ most_channels) (now later : List Float) (whole : length now % channels ≡ 0) where
+  pub turn : (w w' t : TruePeak) → Sized w → w' ≡ measured k (record { channels = channels; samples = now }) w
+      → measured k (record { channels = channels; samples = now ++ later }) w ≡ t → measured k (record { channels = channels; samples = later }) w' ≡ t
+  turn w w' t s e inv = ap (measured k (record { channels = channels; samples = later })) e ∙ sym (cut channels some few now later whole k w s) ∙ inv
 
-  pub turn_sized : (w w' : TruePeak) → Sized w → w' ≡ measured k (record { channels = channels; samples = take n left }) w → Sized w'
-  turn_sized w w' s e = subst Sized (sym e) (measured_sized (record { channels = channels; samples = take n left }) w s few k)
+  pub turn_sized : (w w' : TruePeak) → Sized w → w' ≡ measured k (record { channels = channels; samples = now }) w → Sized w'
+  turn_sized w w' s e = subst Sized (sym e) (measured_sized (record { channels = channels; samples = now }) w s few k)
 
 -- no samples are left
 pub last : (k : Kind) (channels : ℕ) → channels ≤ most_channels → (left : List Float) → length left ≡ 0 → (w t : TruePeak) → Sized w → measured k (record { channels = channels; samples = left }) w ≡ t → w ≡ t

@@ -18,7 +18,7 @@ use true_peak_state::TruePeak;
 // The places of a batch, and the frames that the interpolator takes at a time: a batch is whole runs of them.
 const BATCH: usize = 4096;
 
-const RUN: usize = 128;
+const RUN: usize = true_peak_scan::STRETCH;
 
 // How many frames a batch takes.
 fn most(channels: usize) -> usize
@@ -33,10 +33,7 @@ fn state_of(memory: [f32; 184], peaks: [f32; 8]) -> TruePeak
     ensures value { result ≡ record { memory = memory; peaks = peaks } }
     ensures memory_len { (length memory ≡ most_channels * past) × (length peaks ≡ most_channels) }
 {
-    TruePeak {
-        memory: memory,
-        peaks: peaks,
-    }
+    TruePeak { memory, peaks }
 }
 
 // The state after all samples, batch by batch: each channel goes over a batch by itself, and a batch stays near the processor.
@@ -45,14 +42,9 @@ fn measure<S: Sample>(rate: u32, t: TruePeak, channels: usize, samples: &[S]) ->
     ensures { result ≡ measured (kind_of rate) (record { channels = channels; samples = map S.in_f32 samples.now }) t }
 {
     let batch = most(channels) * channels;
-    let memory = t.memory;
-    let peaks = t.peaks;
-    let mut w = state_of(memory, peaks);
-    let mut left = samples;
-    while !left.is_empty() {
-        let (now, later) = left.split_at(left.len().min(batch));
-        w = crate::measure(rate, w, channels, now);
-        left = later;
+    let mut w = state_of(t.memory, t.peaks);
+    for part in samples.chunks(batch) {
+        w = crate::measure(rate, w, channels, part);
     }
     w
 }

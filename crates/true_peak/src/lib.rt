@@ -3,8 +3,6 @@
 
 ghost use Rattle.std.specs.Prelude.{◌≡◌, ◌+◌, ◌*◌, ◌<◌, ◌≤◌, length, map};
 ghost use Rattle.std.proofs.lemmas.List.Edits.{sets};
-ghost use Rattle.base_refusals.specs.Answer.{said};
-ghost use Rattle.base_refusals.specs.Outcome.{said_by, kept_by};
 ghost use Rattle.true_peak_interp.specs.Interp.{upsampled, kind_of, Known};
 ghost use Rattle.true_peak_interp.specs.Phase.{coefficients, phases};
 ghost use Rattle.base_floats.specs.Largest.{largest};
@@ -13,7 +11,6 @@ ghost use Rattle.true_peak_state.specs.Channel.{channel, heard, past};
 ghost use Rattle.samples.specs.Frames.{column, most_channels};
 ghost use Rattle.true_peak_state.specs.TruePeak.{history_at, channel_of, with_channel, measured};
 ghost use Rattle.true_peak.specs.Inner.{OneOfTwo};
-ghost use Rattle.true_peak.specs.TruePeak.{processed};
 
 use base_refusals::Answer;
 use samples::Sample;
@@ -21,6 +18,8 @@ use true_peak_interp::Interp;
 use true_peak_state::TruePeak;
 
 pub mod calls;
+
+pub use calls::process;
 
 // What a call answers, beside the state.
 #[derive(Clone, Copy)]
@@ -185,7 +184,7 @@ fn all_channels<S: Sample>(i: Interp, t: TruePeak, channels: usize, samples: &[S
 {
     let frames = samples.len() / channels;
     let kernel = Kernel {
-        i: i,
+        i,
         taps: i.coefficients(),
     };
     let mut w = t;
@@ -202,22 +201,5 @@ fn measure<S: Sample>(rate: u32, t: TruePeak, channels: usize, samples: &[S]) ->
     match Interp::of_rate(rate) {
         Some(i) => all_channels(i, t, channels, samples),
         None => t,
-    }
-}
-
-// The true peaks after a call over interleaved samples. Calls may be cut between any two frames.
-pub fn process<S: Sample>(rate: u32, t: TruePeak, channels: usize, samples: &[S]) -> Measured
-    ensures answer_value { said result.answer ≡ said_by (processed rate (record { channels = channels; samples = map S.in_f32 samples.now }) t) }
-    ensures state_value { result.state ≡ kept_by t (processed rate (record { channels = channels; samples = map S.in_f32 samples.now }) t) }
-{
-    match filter_checks::refused_frames(channels, samples.len()) {
-        Err(refusal) => Measured {
-            answer: Err(refusal),
-            state: t,
-        },
-        Ok(()) => Measured {
-            answer: Ok(()),
-            state: measure(rate, t, channels, samples),
-        },
     }
 }

@@ -1,14 +1,13 @@
 -- `calls::measure` meets its contract: the samples left, from the state as it is, give what all of them give. Assumes nothing.
-use Rattle.std.proofs.Common.{◌≡◌, ℕ, ◌-◌, ◌*◌, ◌/◌, ◌≤◌, ◌<◌, List, map, length, take, refl, sym, ap, subst, ◌∙◌, arith, mul-pos}
+use Rattle.std.proofs.Common.{◌≡◌, ℕ, ◌-◌, ◌*◌, ◌/◌, ◌%◌, ◌<◌, List, ◌++◌, map, length, sym, ap, subst, ◌∙◌, arith, mul-pos, length-append}
 use Rattle.std.proofs.Math.Nat.{dvd-sub, dvd-mul_left}
 use Rattle.std.proofs.lemmas.Nat.Gcd.{mod-eq-zero_of_dvd}
-use Rattle.std.proofs.lemmas.List.{take-map, drop-map}
 use Rattle.std.specs.Int.{◌∣◌}
-use borrow.Author.Tests.{eqb-true, eqb-false}
 use lib.ListN.{length-map}
+use Rattle.std.proofs.lemmas.List.{map-append}
 use lib.Ieee.{Float}
 use Rattle.samples.specs.Frames.{most_channels}
-use Rattle.samples.specs.Stretches.{Framed}
+use Rattle.samples.proofs.Cutting.{Framed}
 use Rattle.filter_checks.proofs.Checking.{frames_fine}
 use Rattle.true_peak_interp.specs.Interp.{kind_of}
 use Rattle.true_peak_state.specs.Channel.{past}
@@ -31,54 +30,61 @@ held t memory peaks e m p = record {
 framed : (channels samples : ℕ) → Framed channels samples → channels ∣ samples
 framed channels samples k = subst (λ (n : ℕ). channels ∣ n) k.whole (dvd-mul_left channels (samples / channels))
 
-pub loop-left-init : goal.loop-left-init
-loop-left-init g c =
+pub chunks-part-items-requires : goal.chunks-part-items-requires
+chunks-part-items-requires g c = mul-pos c.most.ensures.0 (frames_fine c.args.channels (length c.args.samples.now) c.requires).some
+
+pub loop-part-init : goal.loop-part-init
+loop-part-init g c =
+    let f = g.S.Sample.in_f32 in
     let a = c.args in
     let s = c.state_of-w.ensures in
+    let k = c.chunks-part-items.ensures in
+    let rest : c.into_iter-part-iterator.result.rest.now ≡ a.samples.now = ap (λ (i : _). i.rest.now) c.into_iter-part-iterator.ensures.into_iter_gives ∙ k.rest in
+    let size : c.into_iter-part-iterator.result.size ≡ c.most.result * a.channels = ap (λ (i : _). i.size) c.into_iter-part-iterator.ensures.into_iter_gives ∙ k.size in
     record {
-      frames = framed a.channels (length a.samples.now) (frames_fine a.channels (length a.samples.now) c.requires);
+      batch = subst (λ (n : ℕ). a.channels ∣ n) (sym size) (dvd-mul_left a.channels c.most.result);
+      frames = subst (λ (l : List _). a.channels ∣ length l) (sym rest) (framed a.channels (length a.samples.now) (frames_fine a.channels (length a.samples.now) c.requires));
       sized = held c.state_of-w.result a.t.memory a.t.peaks s.value s.memory_len.0 s.memory_len.1;
-      same = refl;
+      same = ap (λ (l : List _). measured (kind_of a.rate) (record { channels = a.channels; samples = map f l }) c.state_of-w.result) rest;
     }
+
+pub loop-part-init-derived : goal.loop-part-init-derived
+loop-part-init-derived g c =
+    let size : c.into_iter-part-iterator.result.size ≡ c.most.result * c.args.channels = ap (λ (i : _). i.size) c.into_iter-part-iterator.ensures.into_iter_gives ∙ c.chunks-part-items.ensures.size in
+    (subst (λ (n : ℕ). 0 < n) (sym size) (mul-pos c.most.ensures.0 (frames_fine c.args.channels (length c.args.samples.now) c.requires).some), tt)
 
 pub measure-w-requires : goal.measure-w-requires
 measure-w-requires g c = let k = frames_fine c.args.channels (length c.args.samples.now) c.requires in (k.some, k.few)
 
-pub loop-left-smaller : goal.loop-left-smaller
-loop-left-smaller g c =
-    let l = c.loop-left in
-    let some : 0 < length l.left.now = omega (arith, eqb-false (length l.left.now) 0 (sym c.is_empty.ensures ∙ c.loop-left-test.true)) in
-    let room : 0 < c.most.result * c.args.channels = mul-pos c.most.ensures.0 (frames_fine c.args.channels (length c.args.samples.now) c.requires).some in
-    omega (arith, c.min.ensures, c.split_at.ensures.back_len)
-
-pub loop-left-preserved : goal.loop-left-preserved
-loop-left-preserved g c =
+pub loop-part-preserved : goal.loop-part-preserved
+loop-part-preserved g c =
     let f = g.S.Sample.in_f32 in
     let a = c.args in
-    let l = c.loop-left in
+    let l = c.loop-part in
     let i = l.invariant in
-    let n = c.min.result in
-    let s = c.split_at.ensures in
+    let now = c.in-Some.part.now in
+    let later = c.next.new.self.rest.now in
+    let h = c.in-Some.ensures.steps in
     let k = kind_of a.rate in
     let ok = frames_fine a.channels (length a.samples.now) c.requires in
-    let whole : a.channels ∣ n = subst (λ (m : ℕ). a.channels ∣ m) (sym c.min.ensures) (dvd_min a.channels (length l.left.now) (c.most.result * a.channels) i.frames (dvd-mul_left a.channels c.most.result)) in
-    let fits : n ≤ length (map f l.left.now) = omega (arith, length-map l.left.now f, s.back_len) in
-    let later : length c.split_at.result.1.now ≡ length l.left.now - n = omega (arith, s.back_len) in
-    let heard : c.measure-w.result ≡ measured k (record { channels = a.channels; samples = take n (map f l.left.now) }) l.w =
-    c.measure-w.ensures ∙ ap (λ (x : List Float). measured k (record { channels = a.channels; samples = x }) l.w) (ap (map f) s.front ∙ sym (take-map f n l.left.now)) in
+    let whole : a.channels ∣ length now = subst (λ (n : ℕ). a.channels ∣ n) (sym h.1.1) (dvd_min a.channels l.part-iterator.size (length l.part-iterator.rest.now) i.batch i.frames) in
+    let left : length later ≡ length l.part-iterator.rest.now - length now = omega (arith, ap length h.1.0, length-append now later) in
+    let floats : length (map f now) % a.channels ≡ 0 = ap (λ (n : ℕ). n % a.channels) (length-map now f) ∙ mod-eq-zero_of_dvd a.channels whole in
+    let joined : map f l.part-iterator.rest.now ≡ map f now ++ map f later = ap (map f) h.1.0 ∙ map-append f now later in
     record {
-      frames = subst (λ (m : ℕ). a.channels ∣ m) (sym later) (dvd-sub a.channels i.frames whole);
-      sized = turn_sized k a.channels ok.some ok.few (map f l.left.now) n (mod-eq-zero_of_dvd a.channels whole) fits l.w c.measure-w.result i.sized heard;
-      same = ap (λ (x : List Float). measured k (record { channels = a.channels; samples = x }) c.measure-w.result) (ap (map f) s.back ∙ sym (drop-map f n l.left.now))
-          ∙ turn k a.channels ok.some ok.few (map f l.left.now) n (mod-eq-zero_of_dvd a.channels whole) fits l.w c.measure-w.result _ i.sized heard i.same;
+      batch = subst (λ (n : ℕ). a.channels ∣ n) (sym h.0) i.batch;
+      frames = subst (λ (n : ℕ). a.channels ∣ n) (sym left) (dvd-sub a.channels i.frames whole);
+      sized = turn_sized k a.channels ok.some ok.few (map f now) (map f later) floats l.w c.measure-w.result i.sized c.measure-w.ensures;
+      same = turn k a.channels ok.some ok.few (map f now) (map f later) floats l.w c.measure-w.result _ i.sized c.measure-w.ensures
+          (ap (λ (x : List Float). measured k (record { channels = a.channels; samples = x }) l.w) (sym joined) ∙ i.same);
     }
 
 pub returns : goal.returns
 returns g c =
     let f = g.S.Sample.in_f32 in
     let a = c.args in
-    let l = c.loop-left in
+    let l = c.loop-part in
     let ok = frames_fine a.channels (length a.samples.now) c.requires in
-    let none : length (map f l.left.now) ≡ 0 = length-map l.left.now f ∙ eqb-true (length l.left.now) 0 (sym c.is_empty.ensures ∙ c.loop-left-test.false) in
-    last (kind_of a.rate) a.channels ok.few (map f l.left.now) none l.w _ l.invariant.sized l.invariant.same
+    let none : length (map f l.part-iterator.rest.now) ≡ 0 = length-map l.part-iterator.rest.now f ∙ c.in-None.ensures.steps.1.0 in
+    last (kind_of a.rate) a.channels ok.few (map f l.part-iterator.rest.now) none l.w _ l.invariant.sized l.invariant.same
     ∙ ap (measured (kind_of a.rate) (record { channels = a.channels; samples = map f a.samples.now })) c.state_of-w.ensures.value

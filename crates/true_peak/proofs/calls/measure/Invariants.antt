@@ -5,12 +5,11 @@ use Rattle.true_peak_state.specs.TruePeak.{measured}
 use Rattle.true_peak_state.proofs.Independence.{Sized}
 use Rattle.true_peak.proofs.calls.measure.Given as goal
 
-abbrev pub invariant-loop-left : goal.invariant-loop-left
-invariant-loop-left g l = record {
-  frames : l.channels ∣ length l.left;
+abbrev pub invariant-loop-part : goal.invariant-loop-part
+invariant-loop-part g l = record {
+  batch : l.channels ∣ l.part-iterator.size;
+  frames : l.channels ∣ length l.part-iterator.rest.now;
   sized : Sized l.w;
-  same : measured (kind_of l.rate) (record { channels = l.channels; samples = map g.S.Sample.in_f32 l.left }) l.w ≡ measured (kind_of l.rate) (record { channels = l.channels; samples = map g.S.Sample.in_f32 l.fn.samples }) l.initial.w;
+  same : measured (kind_of l.rate) (record { channels = l.channels; samples = map g.S.Sample.in_f32 l.part-iterator.rest.now }) l.w
+      ≡ measured (kind_of l.rate) (record { channels = l.channels; samples = map g.S.Sample.in_f32 l.fn.samples }) l.initial.w;
 }
-
-abbrev pub decreases-loop-left : goal.decreases-loop-left
-decreases-loop-left g l = length l.left
