@@ -10,7 +10,7 @@ use bins::Count;
 use history_set::set::Histories;
 use range_ranks::spans::Span;
 
-// The codes of a range that answers no energies.
+// The codes of a range that answers no energies, as include/xelamphoun.h has them.
 const NOTHING: u8 = 128;
 
 const NOT_A_NUMBER: u8 = 129;

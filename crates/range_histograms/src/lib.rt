@@ -40,7 +40,7 @@ fn add_history(added: &mut [u64; bins::BINS], entry: Entry, counters: &[Count])
     }
 }
 
-// The blocks of a bin as a float, by way of a signed number.
+// The blocks of a bin as a float, by way of a signed number: x86-64 has no conversion of unsigned numbers of 64 bits.
 fn float(blocks: u64) -> f64
     requires { blocks ≤ most_in_bin }
     ensures { result ≡ of_int binary64 (pos blocks) }

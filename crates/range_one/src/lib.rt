@@ -94,7 +94,7 @@ impl<'a, C: Counter> Bins<'a, C> {
         near
     }
 
-    // The first bin whose running count passes the rank.
+    // The first bin whose running count passes the rank. The running counts stand nowhere, so that they are gone through upward and not by halving.
     fn first_past(&self, from: Place, rank: u64) -> Place
         requires { Short (map C.counted self.now.counters.now) rank from }
         ensures { (result.bin ≡ first_past rank 0 (running_from 0 (map C.counted self.now.counters.now))) × Short (map C.counted self.now.counters.now) rank result }

@@ -13,7 +13,7 @@ pub fn low_rank(n: u64) -> u64
     n / 10 + (n % 10 + 5) / 10
 }
 
-// Nineteen twentieths of n, the twenties counted apart.
+// Nineteen twentieths of n, the twenties counted apart. Document 01 gives each rank a formula of its own.
 pub fn high_rank(n: u64) -> u64
     ensures { result ≡ high_rank n }
 {
