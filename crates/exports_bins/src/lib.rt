@@ -7,8 +7,6 @@ ghost use Rattle.bins.specs.Bin.{bin_of};
 ghost use Rattle.bins.specs.Reading.{reading_of};
 ghost use Rattle.base_refusals.specs.Codes.{code, value_or};
 
-use bins::search::Level;
-
 pub fn xel_boundary(i: usize) -> f64
     ensures { result ≡ boundary_at i }
 {
@@ -31,10 +29,10 @@ pub fn xel_reading(energy: f64, tenths: &mut i32) -> u8
     ensures { (result ≡ code (reading_of energy)) × (tenths.new ≡ value_or tenths.old (reading_of energy)) }
 {
     match bins::search::reading(energy) {
-        Level::Tenths(t) => {
+        Ok(t) => {
             *tenths = t;
             0
         }
-        Level::Refused(number) => number,
+        Err(refusal) => u8::from(refusal),
     }
 }
