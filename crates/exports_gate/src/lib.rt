@@ -1,43 +1,38 @@
 // The functions of the C interface of the gate question, of gated energy and of the relative threshold; exports_gate_c has them for C, as include/xelamphoun.h declares them.
 #![tactic(auto)]
 
-ghost use Rattle.std.specs.Prelude.{◌≡◌};
-ghost use Rattle.base_refusals.specs.Answer.{said};
-ghost use Rattle.base_refusals.specs.Outcome.{said_by};
+ghost use Rattle.std.specs.Prelude.{◌≡◌, length};
+ghost use Rattle.base_refusals.specs.Codes.{code, value_or};
+ghost use Rattle.history_set.specs.declared.set.Histories.{Histories as Lent};
+ghost use Rattle.history_set.specs.Lent.{lent};
+ghost use Rattle.history_set.specs.Set.{histories};
 ghost use Rattle.gate.specs.Gate.{gate_of};
 ghost use Rattle.gate.specs.GatedEnergy.{gated_energy_of};
-ghost use Rattle.base_refusals.specs.Codes.{code, value_or};
-ghost use Rattle.exports_entries.specs.Sets.{asked, asked_alone};
-ghost use Rattle.exports_gate.specs.Measures.{totals_over};
 ghost use Rattle.gate.specs.Relative.{relative_of};
+ghost use Rattle.exports_entries.specs.Sets.{entries_of, Whole, asked, asked_alone};
+ghost use Rattle.exports_gate.specs.Measures.{totals_over};
 ghost use Rattle.exports_gate.specs.Levels.{float_or};
 
 use base_refusals::Refusal;
 use bins::Count;
-use gate::blocks::Totals;
 use gate::threshold::Threshold;
 use history_set::set::Histories;
 
-// The gate question over the set of these numbers.
-fn gate_of(numbers: &[usize], counters: &[Count], energies: &[f64]) -> Result<Totals, Refusal>
-    ensures { said result ≡ said_by (asked gate_of numbers.now counters.now energies.now) }
+// A question over the set of these numbers, and SET where they are none.
+fn ask<V: Drop, Q: FnOnce(Histories<'_>) -> Result<V, Refusal>>(
+    numbers: &[usize],
+    counters: &[Count],
+    energies: &[f64],
+    question: Q,
+) -> Result<V, Refusal>
+    requires { Q.IsAlwaysCallable question }
+    ensures whole { Whole numbers.now → (set : Lent)
+        × (lent set ≡ histories (entries_of numbers.now) (length (entries_of numbers.now)) counters.now energies.now) × Q.post question set result }
+    ensures part { (Whole numbers.now → ⊥) → result ≡ Err Refusal.SET }
 {
     let mut room = exports_entries::ROOM;
     let entries = exports_entries::entries_in(&mut room, numbers)?;
-    gate::gate(Histories {
-        entries,
-        counters,
-        energies,
-    })
-}
-
-// Gated energy, in the same way.
-fn gated_energy_of(numbers: &[usize], counters: &[Count], energies: &[f64]) -> Result<f64, Refusal>
-    ensures { said result ≡ said_by (asked gated_energy_of numbers.now counters.now energies.now) }
-{
-    let mut room = exports_entries::ROOM;
-    let entries = exports_entries::entries_in(&mut room, numbers)?;
-    gate::energy::gated_energy(Histories {
+    question(Histories {
         entries,
         counters,
         energies,
@@ -55,13 +50,13 @@ pub fn xel_gate(
         × (blocks.new ≡ (value_or (totals_over blocks.old sum.old) (asked gate_of entries.now counters.now energies.now)).count)
         × (sum.new ≡ (value_or (totals_over blocks.old sum.old) (asked gate_of entries.now counters.now energies.now)).sum) }
 {
-    match gate_of(entries, counters, energies) {
+    match ask(entries, counters, energies, gate::gate) {
         Ok(above) => {
             *blocks = above.count;
             *sum = above.sum;
             0
         }
-        Err(refusal) => refusal as u8,
+        Err(refusal) => u8::from(refusal),
     }
 }
 
@@ -74,12 +69,12 @@ pub fn xel_gated_energy(
     ensures { (result ≡ code (asked gated_energy_of entries.now counters.now energies.now))
         × (energy.new ≡ value_or energy.old (asked gated_energy_of entries.now counters.now energies.now)) }
 {
-    match gated_energy_of(entries, counters, energies) {
+    match ask(entries, counters, energies, gate::energy::gated_energy) {
         Ok(mean) => {
             *energy = mean;
             0
         }
-        Err(refusal) => refusal as u8,
+        Err(refusal) => u8::from(refusal),
     }
 }
 
@@ -93,13 +88,13 @@ pub fn xel_relative_threshold(
         × (value.new ≡ float_or value.old (asked_alone relative_of entry.now counters.now energies.now)) }
 {
     if entry.len() != exports_entries::NUMBERS {
-        return Refusal::SET as u8;
+        return u8::from(Refusal::SET);
     }
     let alone = exports_entries::first_of(entry);
     *value = match gate::threshold::relative_threshold(alone, counters, energies) {
         Ok(Threshold::Loudness(loudness)) => loudness,
         Ok(Threshold::Energy(energy)) => energy,
-        Err(refusal) => return refusal as u8,
+        Err(refusal) => return u8::from(refusal),
     };
     0
 }
