@@ -6,7 +6,7 @@ mod questions;
 
 use std::io;
 
-// The operations by their numbers in the list.
+// The operations by their numbers in the list. They are matched once, below: an enum would be made for that match alone.
 const TABLES: u64 = 1;
 
 const BINS: u64 = 2;

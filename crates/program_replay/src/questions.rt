@@ -11,6 +11,13 @@ use history_queue::Queue;
 use history_set::set::{Entry, Histories, Shape};
 use range_ranks::spans::Span;
 
+// The codes of an answer that is no two energies, and of a threshold that is a loudness.
+const NOTHING: u64 = 128;
+
+const NOT_A_NUMBER: u64 = 129;
+
+const LOUDNESS: u64 = 130;
+
 pub(crate) fn answers_same(case: &[u8]) -> bool {
     let mut counters: [Count; 1000] = [0; 1000];
     let mut energies = [0.0; 24];
@@ -123,8 +130,8 @@ fn ranged_same(case: &[u8], range: Span) -> bool {
                 && low == base_floats::pattern_of(lower)
                 && high == base_floats::pattern_of(higher)
         }
-        Span::Nothing => code == 128,
-        Span::NotANumber => code == 129,
+        Span::Nothing => code == NOTHING,
+        Span::NotANumber => code == NOT_A_NUMBER,
         Span::Refused(refused) => code == refused as u64,
     }
 }
@@ -143,7 +150,7 @@ fn threshold_same(case: &[u8], counters: &[Count], energies: &[f64]) -> bool {
     let pattern = base_fields::number_at(case, 522, 8);
     match gate::threshold::relative_threshold(entry_at(case, 2), counters, energies) {
         Ok(Threshold::Energy(energy)) => code == 0 && pattern == base_floats::pattern_of(energy),
-        Ok(Threshold::Loudness(loudness)) => code == 130
+        Ok(Threshold::Loudness(loudness)) => code == LOUDNESS
             && pattern == base_floats::pattern_of(loudness),
         Err(refused) => code == refused as u64,
     }

@@ -6,7 +6,7 @@ mod filters;
 
 use std::io;
 
-// The operations by their numbers in the list.
+// The operations by their numbers in the list. They are matched once, below: an enum would be made for that match alone.
 const PHASES: u64 = 8;
 
 const FILTER_CALLS: u64 = 9;

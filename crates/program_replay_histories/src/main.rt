@@ -6,7 +6,7 @@ mod histories;
 
 use std::io;
 
-// The operations by their numbers in the list.
+// The operations by their numbers in the list. They are matched once, below: an enum would be made for that match alone.
 const HISTOGRAM_ADDS: u64 = 4;
 
 const MERGES: u64 = 5;

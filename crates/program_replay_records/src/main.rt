@@ -9,7 +9,7 @@ mod queues;
 use base_refusals::{Answer, Refusal};
 use std::io;
 
-// The operations by their numbers in the list.
+// The operations by their numbers in the list. They are matched once, below: an enum would be made for that match alone.
 const HISTOGRAM_READS: u64 = 11;
 
 const HISTOGRAM_WRITES: u64 = 12;
