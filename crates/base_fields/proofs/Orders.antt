@@ -1,7 +1,7 @@
 -- The laws of a field in an order of its bytes: how many bytes a number has, that the field of them is the number again, that the bytes of a field's number
 -- are its bytes again, how large its number is, that nothing past it counts, and what the other order makes of its bytes. High byte first each is the law of
 -- the low byte first, and that bytes turned round twice are as they were. Assumes nothing.
-use mathlib.Core.Path.{◌≡◌, ap, ◌∙◌}
+use mathlib.Core.Path.{◌≡◌, sym, ap, ◌∙◌}
 use mathlib.Core.List.{List, [], ◌++◌, reverse, reverse-reverse, append-nil}
 use Prim.Native.Nat.{ℕ, ◌*◌, ◌^◌, ◌<◌, ◌≤◌}
 use native.Mathlib.Omega.{arith}
@@ -48,3 +48,11 @@ number_within HighFirst width bytes n h = ap (λ (l : List ℕ). field_at (rever
 pub turned_low : (width number : ℕ) → low_bytes width (turned_round width number) ≡ reverse (low_bytes width number)
 unfolding turned_round
 turned_low width number = low_of_turned (low_bytes width number) (low_bytes_lem width number) width (low_length width number)
+
+-- a field that has its bytes, read in the other order, is its number turned round
+pub turned_number : (order : Order) (width : ℕ) (bytes : List ℕ) → ((i : ℕ) → get_or bytes i 0 < 256) → width ≤ length bytes
+    → number_in (other order) width bytes ≡ turned_round width (number_in order width bytes)
+unfolding turned_round
+turned_number LowFirst width bytes b h = ap (λ (l : List ℕ). field_at l 0 width) (sym (turned_field LowFirst width bytes b h))
+turned_number HighFirst width bytes b h =
+    sym (number_within LowFirst width bytes width (omega arith)) ∙ ap (λ (l : List ℕ). field_at l 0 width) (sym (write_again HighFirst width bytes b h))

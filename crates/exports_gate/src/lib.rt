@@ -30,6 +30,10 @@ fn ask<V: Drop, Q: FnOnce(Histories<'_>) -> Result<V, Refusal>>(
         × (lent set ≡ histories (entries_of numbers.now) (length (entries_of numbers.now)) counters.now energies.now) × Q.post question set result }
     ensures part { (Whole numbers.now → ⊥) → result ≡ Err Refusal.SET }
 {
+    // Before the room is made, which takes longer.
+    if numbers.len() % exports_entries::NUMBERS != 0 {
+        return Err(Refusal::SET);
+    }
     let mut room = exports_entries::ROOM;
     let entries = exports_entries::entries_in(&mut room, numbers)?;
     question(Histories {
@@ -74,7 +78,7 @@ pub fn xel_gated_energy(
             *energy = mean;
             0
         }
-        Err(refusal) => u8::from(refusal),
+        Err(refused) => u8::from(refused),
     }
 }
 

@@ -6,6 +6,7 @@ ghost use Rattle.base_refusals.specs.Outcome.{said_by, kept_by};
 ghost use Rattle.range_ranks.specs.Span.{said};
 ghost use Rattle.exports_range.specs.Spans.{range_asked, span_code, low_or, high_or};
 
+use base_refusals::Refusal;
 use bins::Count;
 use history_set::set::Histories;
 use range_ranks::spans::Span;
@@ -20,6 +21,10 @@ fn asked(numbers: &[usize], counters: &[Count], energies: &[f64], work: &mut [f6
     ensures { (said result ≡ said_by (range_asked numbers.now counters.now energies.now work.old))
         × (work.new ≡ kept_by work.old (range_asked numbers.now counters.now energies.now work.old)) }
 {
+    // Before the room is made, which takes longer.
+    if numbers.len() % exports_entries::NUMBERS != 0 {
+        return Span::Refused(Refusal::SET);
+    }
     let mut room = exports_entries::ROOM;
     match exports_entries::entries_in(&mut room, numbers) {
         Ok(entries) => range::loudness_range(

@@ -4,6 +4,7 @@
 
 mod questions;
 
+use program_sections::Replayed;
 use std::io;
 
 // The operations by their numbers in the list. They are matched once, below: an enum would be made for that match alone.
@@ -16,17 +17,22 @@ const READINGS: u64 = 3;
 const QUESTIONS: u64 = 7;
 
 fn main(rt: HostRuntime) -> io::Result<()> {
-    program_sections::replay(&rt, &mut rt.stdin(), case_same)
+    program_sections::replay(&rt, &mut rt.stdin(), &Ours)?;
+    Ok(())
 }
 
-// Whether our answer to a case is the oracle's.
-fn case_same(operation: u64, case: &[u8]) -> bool {
-    match operation {
-        TABLES => table_same(case),
-        BINS => bin_same(case),
-        READINGS => reading_same(case),
-        QUESTIONS => questions::answers_same(case),
-        _ => false,
+// Our own answers, by the operations.
+struct Ours;
+
+impl Replayed for Ours {
+    fn same(&self, operation: u64, case: &[u8]) -> bool {
+        match operation {
+            TABLES => table_same(case),
+            BINS => bin_same(case),
+            READINGS => reading_same(case),
+            QUESTIONS => questions::answers_same(case),
+            _ => false,
+        }
     }
 }
 

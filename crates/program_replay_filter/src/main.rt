@@ -4,6 +4,7 @@
 
 mod filters;
 
+use program_sections::Replayed;
 use std::io;
 
 // The operations by their numbers in the list. They are matched once, below: an enum would be made for that match alone.
@@ -14,15 +15,20 @@ const FILTER_CALLS: u64 = 9;
 const IMPULSES: u64 = 10;
 
 fn main(rt: HostRuntime) -> io::Result<()> {
-    program_sections::replay(&rt, &mut rt.stdin(), case_same)
+    program_sections::replay(&rt, &mut rt.stdin(), &Ours)?;
+    Ok(())
 }
 
-// Whether our answer to a case is the oracle's.
-fn case_same(operation: u64, case: &[u8]) -> bool {
-    match operation {
-        PHASES => filters::phases_same(case),
-        FILTER_CALLS => filters::call_same(case),
-        IMPULSES => filters::impulse_same(case),
-        _ => false,
+// Our own answers, by the operations.
+struct Ours;
+
+impl Replayed for Ours {
+    fn same(&self, operation: u64, case: &[u8]) -> bool {
+        match operation {
+            PHASES => filters::phases_same(case),
+            FILTER_CALLS => filters::call_same(case),
+            IMPULSES => filters::impulse_same(case),
+            _ => false,
+        }
     }
 }

@@ -7,6 +7,7 @@ mod histograms;
 mod queues;
 
 use base_refusals::{Answer, Refusal};
+use program_sections::Replayed;
 use std::io;
 
 // The operations by their numbers in the list. They are matched once, below: an enum would be made for that match alone.
@@ -23,19 +24,24 @@ const HISTOGRAM_CONVERTS: u64 = 15;
 const QUEUE_CONVERTS: u64 = 16;
 
 fn main(rt: HostRuntime) -> io::Result<()> {
-    program_sections::replay(&rt, &mut rt.stdin(), case_same)
+    program_sections::replay(&rt, &mut rt.stdin(), &Ours)?;
+    Ok(())
 }
 
-// Whether our answer to a case is the list's.
-fn case_same(operation: u64, case: &[u8]) -> bool {
-    match operation {
-        HISTOGRAM_READS => histograms::read_same(case),
-        HISTOGRAM_WRITES => histograms::write_same(case),
-        QUEUE_READS => queues::read_same(case),
-        QUEUE_WRITES => queues::write_same(case),
-        HISTOGRAM_CONVERTS => conversions::histogram_same(case),
-        QUEUE_CONVERTS => conversions::queue_same(case),
-        _ => false,
+// Our own answers, by the operations.
+struct Ours;
+
+impl Replayed for Ours {
+    fn same(&self, operation: u64, case: &[u8]) -> bool {
+        match operation {
+            HISTOGRAM_READS => histograms::read_same(case),
+            HISTOGRAM_WRITES => histograms::write_same(case),
+            QUEUE_READS => queues::read_same(case),
+            QUEUE_WRITES => queues::write_same(case),
+            HISTOGRAM_CONVERTS => conversions::histogram_same(case),
+            QUEUE_CONVERTS => conversions::queue_same(case),
+            _ => false,
+        }
     }
 }
 

@@ -28,31 +28,30 @@ impl Section {
     }
 }
 
-fn case_same<F: Fn(u64, &[u8]) -> bool>(
-    list: &mut impl Read,
-    section: Section,
-    same: &F,
-) -> io::Result<bool>
-    requires { F.IsAlwaysCallable same.now }
-{
+// What a program brings: its look at one case of an operation. The case stands at the start of a buffer.
+pub trait Replayed {
+    // Whether our answer to the case is the list's.
+    fn same(&self, operation: u64, case: &[u8]) -> bool;
+}
+
+fn case_same(list: &mut impl Read, section: Section, replayed: &impl Replayed) -> io::Result<bool> {
     let mut case = program_io::buffer();
     if !program_io::read_whole(list, &mut case, section.size)? {
         return Ok(false);
     }
-    Ok(same(section.operation, &case))
+    Ok(replayed.same(section.operation, &case))
 }
 
 // How many cases of a section were the same before the first that was not, and all where every one was.
-pub fn cases_same<F: Fn(u64, &[u8]) -> bool>(
+pub fn cases_same(
     list: &mut impl Read,
     section: Section,
-    same: &F,
+    replayed: &impl Replayed,
 ) -> io::Result<u64>
-    requires { F.IsAlwaysCallable same.now }
     ensures { IfOk result (λ cases. cases ≤ section.cases) }
 {
     for cases in 0..section.cases {
-        if !case_same(list, section, same)? {
+        if !case_same(list, section, replayed)? {
             return Ok(cases);
         }
     }
@@ -70,36 +69,32 @@ fn print_same(rt: &impl Print, same: u64, cases: u64) -> io::Result<bool> {
 }
 
 // Whether there was a section, and all its cases were the same.
-fn section_same<F: Fn(u64, &[u8]) -> bool>(
+fn section_same(
     rt: &impl Print,
     list: &mut impl Read,
-    same: &F,
-) -> io::Result<bool>
-    requires { F.IsAlwaysCallable same.now }
-{
+    replayed: &impl Replayed,
+) -> io::Result<bool> {
     let mut head = [0u8; 32];
     if !program_io::read_whole(list, &mut head, 32)? {
         return Ok(false);
     }
     rt.write_all(&head[12..])?;
     let section = Section::of(&head);
-    let cases = cases_same(list, section, same)?;
+    let cases = cases_same(list, section, replayed)?;
     print_same(rt, cases, section.cases)
 }
 
-// Replays a list of up to 64 sections, and stops after the first case that differs. `same` is asked for an operation and a case of it, which stands at the start
-// of a buffer.
-pub fn replay<F: Fn(u64, &[u8]) -> bool>(
-    rt: &impl Print,
-    list: &mut impl Read,
-    same: F,
-) -> io::Result<()>
-    requires { F.IsAlwaysCallable same }
+// The most sections of a list that are replayed: nothing says that the input ends, so they are counted.
+const SECTIONS: u64 = 64;
+
+// Replays a list, and stops after the first case that differs. Answers of how many sections all cases were the same.
+pub fn replay(rt: &impl Print, list: &mut impl Read, replayed: &impl Replayed) -> io::Result<u64>
+    ensures { IfOk result (λ sections. sections ≤ 64) }
 {
-    for _ in 0..64u64 {
-        if !section_same(rt, list, &same)? {
-            break;
+    for sections in 0..SECTIONS {
+        if !section_same(rt, list, replayed)? {
+            return Ok(sections);
         }
     }
-    Ok(())
+    Ok(SECTIONS)
 }

@@ -16,7 +16,7 @@ ghost use Rattle.range_histograms.specs.Counted.{most_in_bin, AtMost, with_histo
 use bins::Count;
 use gate::blocks::Totals;
 use history_set::set::{Entry, Histories, Shape};
-use range_one::Bins;
+use range_one::{Bins, Blocks};
 use range_ranks::spans::Span;
 
 // A histogram's counters are added, bin by bin.
@@ -63,15 +63,19 @@ fn sum_up(added: &Bins<'_, u64>) -> Totals
 }
 
 // The range of added counters.
-fn span_of(added: &Bins<'_, u64>) -> Span
-    ensures { said result ≡ says (counted_span added.now.counters.now) }
+fn span_of(added: Bins<'_, u64>) -> Span
+    ensures { said result ≡ says (counted_span added.entry.counters.now) }
 {
-    let totals = sum_up(added);
+    let totals = sum_up(&added);
     if totals.count == 0 {
         return Span::Nothing;
     }
     let start = gate::blocks::start_bin(range_ranks::spans::gate_energy(totals));
-    added.ranked(totals.count, start)
+    let blocks = Blocks {
+        bins: added,
+        count: totals.count,
+    };
+    blocks.ranked(start)
 }
 
 // The range of a single history, to which nothing is added.
@@ -85,7 +89,8 @@ fn alone(entry: Entry, counters: &[Count]) -> Span
     }
 }
 
-// The range of several, their counters added up. A function of its own: the room for the sums is cleared where it begins, which one history does not need.
+// The range of several, their counters added up. Not put into its caller: the room for the sums, 8 KB of stack, is for what one history does not need.
+#[inline(never)]
 fn together(entries: &[Entry], counters: &[Count]) -> Span
     requires { (length entries.now ≤ most_histories) × counters_inside (length counters.now) entries.now }
     ensures { said result ≡ says (counted_span (added_to empty (all_show counters.now [] entries.now))) }
@@ -94,7 +99,7 @@ fn together(entries: &[Entry], counters: &[Count]) -> Span
     for entry in entries {
         add_history(&mut added, *entry, counters);
     }
-    span_of(&Bins { counters: &added })
+    span_of(Bins { counters: &added })
 }
 
 // The range over the histograms of a set. Its queues play no part.

@@ -1,7 +1,8 @@
 -- Counts of blocks over bins: how many stand below a bin, one bin more, and the running counts. Assumes nothing.
 use mathlib.Core.Path.{◌≡◌, refl, ap, ◌∙◌}
+use mathlib.Core.Bool.{Bool, true, false}
 use mathlib.Core.List.{List, [], ◌∷◌}
-use Prim.Native.Nat.{ℕ, zero, suc, ◌+◌, ◌*◌, ◌≤◌, ◌<◌, zero-le}
+use Prim.Native.Nat.{ℕ, zero, suc, min, ◌+◌, ◌*◌, ◌≤◌, ◌<◌, zero-le}
 use native.Mathlib.Nat.{le_of_suc-le-suc, not-suc-le-zero}
 use native.Mathlib.Numerals.{add-one}
 use native.Mathlib.Omega.{arith}
@@ -9,7 +10,10 @@ use lib.IntN.{pos}
 use lib.ListN.{length, get_or, take, drop, length-drop, length-append}
 use lib.Seq.{take-add, drop-drop, take-append_seam, drop-append_seam}
 use Rattle.std.proofs.Common.{map, sym, ◌++◌}
-use Rattle.std.proofs.lemmas.List.{take-map, get_or-map, length-map, map-append}
+use Rattle.std.proofs.lemmas.List.{take-map, get_or-map, length-map, map-append, take_all}
+use borrow.Author.Tests.{ltb-true, ltb-false}
+use lib.Dec.{ltb}
+use Rattle.bins.specs.Bin.{bins}
 use lib.Ieee.{binary64, mul, of_int}
 use Rattle.bins_tables.specs.Tables.{energy_at}
 use Rattle.gate.specs.declared.blocks.Totals.{Totals}
@@ -75,6 +79,22 @@ module _ {C : Type 0} (counted : C → ℕ) (l : List C) (n : ℕ) where
       let one = blocks_more (map counted l) n within in
       let read : get_or (map counted l) n 0 ≡ counted x = get_or-map counted l n x 0 h ∙ ap counted (sym e) in
       rw (← take-map counted n l, ← take-map counted (n + 1) l) (omega (arith, one, read))
+
+-- those below a bin, which may lie past the last one
+module _ {C : Type 0} (counted : C → ℕ) (l : List C) where
+  pub counted_below : (start bin : ℕ) → length l ≡ bins → bin ≡ min start bins
+      → blocks_in (map counted (take bin l)) ≡ blocks_in (take start (map counted l))
+  counted_below start bin long is = go (ltb start bins) refl
+    where
+      go : (b : Bool) → ltb start bins ≡ b → blocks_in (map counted (take bin l)) ≡ blocks_in (take start (map counted l))
+      go true h =
+          let inside = ltb-true start bins h in
+          let same : bin ≡ start = omega (arith, is, inside) in
+          ap (λ (n : ℕ). blocks_in (map counted (take n l))) same ∙ ap blocks_in (sym (take-map counted start l))
+      go false h =
+          let past = ltb-false start bins h in
+          ap (λ (r : List C). blocks_in (map counted r)) (take_all bin l (omega (arith, is, past, long)) ∙ sym (take_all start l (omega (arith, past, long))))
+          ∙ ap blocks_in (sym (take-map counted start l))
 
 -- ---- a group of bins passed by
 blocks_append : (a b : List ℕ) → blocks_in (a ++ b) ≡ blocks_in a + blocks_in b

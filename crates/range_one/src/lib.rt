@@ -55,6 +55,14 @@ pub struct Bins<'a, C: Counter> {
     ghost few: { AtMost most_in_bin (map C.counted counters.now) },
 }
 
+// All bins, and how many blocks they have together.
+#[derive(Drop)]
+pub struct Blocks<'a, C: Counter> {
+    pub bins: Bins<'a, C>,
+    pub count: u64,
+    ghost together: { count ≡ blocks_in (map C.counted bins.counters.now) },
+}
+
 // A bin, and how many blocks stand below it.
 #[derive(Clone, Copy)]
 struct Place {
@@ -63,7 +71,7 @@ struct Place {
 }
 
 // How many blocks some bins have.
-pub fn blocks_of<C: Counter>(counters: &[C]) -> u64
+fn blocks_of<C: Counter>(counters: &[C]) -> u64
     requires { blocks_in (map C.counted counters.now) ≤ bins * most_in_bin }
     ensures { result ≡ blocks_in (map C.counted counters.now) }
 {
@@ -114,20 +122,33 @@ impl<'a, C: Counter> Bins<'a, C> {
         }
     }
 
-    // The energies at the two ranks among the blocks from a bin on. The low rank is not above the high one, whose search goes on from there.
-    pub fn ranked(&self, count: u64, start: usize) -> Span
-        requires { (start ≤ bins) × (count ≡ blocks_in (map C.counted self.now.counters.now)) }
-        ensures { said result ≡ says (left_in (map C.counted self.now.counters.now) (blocks_in (take start (map C.counted self.now.counters.now)))
-            (count - blocks_in (take start (map C.counted self.now.counters.now)))) }
+    // How many blocks all bins have.
+    pub fn blocks(&self) -> u64
+        ensures { result ≡ blocks_in (map C.counted self.now.counters.now) }
     {
-        let before = blocks_of(&self.counters[..start]);
-        let left = count - before;
+        blocks_of(self.counters)
+    }
+}
+
+impl<'a, C: Counter> Blocks<'a, C> {
+    // The energies at the two ranks among the blocks from a bin on. The low rank is not above the high one, whose search goes on from there.
+    pub fn ranked(&self, start: usize) -> Span
+        ensures { said result ≡ says (left_in (map C.counted self.now.bins.counters.now) (blocks_in (take start (map C.counted self.now.bins.counters.now)))
+            (self.now.count - blocks_in (take start (map C.counted self.now.bins.counters.now)))) }
+    {
+        let bin = start.min(bins::BINS);
+        let before = blocks_of(&self.bins.counters[..bin]);
+        let left = self.count - before;
         if left == 0 {
             return Span::Nothing;
         }
-        let gate = Place { bin: start, before };
-        let low = self.first_past(gate, range_ranks::low_rank(left - 1) + before);
-        let high = self.first_past(low, range_ranks::high_rank(left - 1) + before);
+        let gate = Place { bin, before };
+        let low = self
+            .bins
+            .first_past(gate, range_ranks::low_rank(left - 1) + before);
+        let high = self
+            .bins
+            .first_past(low, range_ranks::high_rank(left - 1) + before);
         range_ranks::spans::of_bins(low.bin, high.bin)
     }
 }
@@ -143,5 +164,9 @@ pub fn of_counters(counters: &[Count], start: usize) -> Span
     let histogram = Bins {
         counters: &counters[start..start + bins::BINS],
     };
-    histogram.ranked(started.totals.count, started.bin)
+    let blocks = Blocks {
+        bins: histogram,
+        count: started.totals.count,
+    };
+    blocks.ranked(started.bin)
 }

@@ -102,12 +102,14 @@ fn look(entries: &[Entry], energies: &[f64]) -> Option<Seen>
     Some(seen)
 }
 
-// Energies go to the work slice, from a place of it on.
+// Energies go to the work slice, from a place of it on. Stays a loop: the library's copy is a call of `memmove`, which the range's archive asks for nowhere else.
 fn copy(work: &mut [f64], at: usize, energies: &[f64])
     requires { at + length energies.now ≤ length work.old }
     ensures { work.new ≡ sets work.old at energies.now }
 {
-    work[at..at + energies.len()].copy_from_slice(energies);
+    for (i, energy) in energies.iter().enumerate() {
+        work[at + i] = *energy;
+    }
 }
 
 // Those that an entry holds, oldest first. Answers the place after them.

@@ -9,6 +9,7 @@ ghost use Rattle.record_summary.specs.Summary.{said, figures_of, summary_of};
 use base_refusals::Refusal;
 use bins::Count;
 use history_set::set::{Entry, Histories, Shape};
+use range_one::Bins;
 use range_ranks::spans::Span;
 
 // What a report says.
@@ -28,7 +29,7 @@ fn figures(counters: &[Count]) -> Result<Summary, Refusal>
     requires { length counters.now ≡ bins }
     ensures { said result ≡ said_by (figures_of counters.now) }
 {
-    let blocks = range_one::blocks_of(counters);
+    let blocks = Bins { counters }.blocks();
     let entries = [Entry {
         shape: Shape::Histogram(0),
     }];

@@ -18,6 +18,6 @@ pub returns-in-Err : goal.returns-in-Err
 returns-in-Err c =
     let a = c.args in
     let told =
-    refusal_told (asked gated_energy_of a.entries.now a.counters.now a.energies.now) a.energy.now (number c.in-Err.refusal)
-    (asked_told gated_energy_of energy_of_set a.entries.now a.counters.now a.energies.now (Err c.in-Err.refusal) c.in-Err.ensures.whole c.in-Err.ensures.part) in
+    refusal_told (asked gated_energy_of a.entries.now a.counters.now a.energies.now) a.energy.now (number c.in-Err.refused)
+    (asked_told gated_energy_of energy_of_set a.entries.now a.counters.now a.energies.now (Err c.in-Err.refused) c.in-Err.ensures.whole c.in-Err.ensures.part) in
     (c.from.ensures ∙ told.0, told.1)

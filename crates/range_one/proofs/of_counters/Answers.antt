@@ -10,7 +10,6 @@ use Rattle.gate.specs.declared.blocks.Totals.{Totals}
 use Rattle.gate.specs.Totals.{none, mean_of, bins_from, from_bin}
 use Rattle.gate.specs.Start.{start_bin}
 use Rattle.gate.proofs.Running.{there}
-use Rattle.gate.proofs.Start.{start_most}
 use Rattle.range_ranks.specs.Span.{gate_energy, hundredth}
 use Rattle.range_one.specs.Counted.{blocks_in, left_in}
 use Rattle.range_one.proofs.Counting.{count_is}
@@ -44,17 +43,18 @@ totals_are counters start totals e inside = e ∙ there none.sum counters start 
 gate_is : (bin : ℕ) (share : Float) (totals : Totals) → bin ≡ start_bin (mul binary64 share (mean_of totals)) → share ≡ hundredth → bin ≡ start_bin (gate_energy totals)
 gate_is bin share totals e h = e ∙ ap (λ (x : Float). start_bin (mul binary64 x (mean_of totals))) h
 
-pub ranked-requires : goal.ranked-requires
-ranked-requires c =
+pub invariant_of-blocks : goal.invariant_of-blocks
+invariant_of-blocks c =
     let counters = c.args.counters.now in
     let start = c.args.start in
     let totals = c.started-started.result.totals in
-    let inside = blocks_there counters start (λ z. c.if-started-eq0.false (ap (λ (t : Totals). t.count) c.started-started.ensures.0 ∙ z)) in (
-      omega (arith, gate_is c.started-started.result.bin c.gate_share.result totals c.started-started.ensures.2 c.gate_share.ensures, start_most (gate_energy totals)),
-      ap (λ (t : Totals). t.count) (totals_are counters start totals c.started-started.ensures.0 inside)
+    let inside = blocks_there counters start (λ z. c.if-started-eq0.false (ap (λ (t : Totals). t.count) c.started-started.ensures.0 ∙ z)) in
+    record {
+      together =
+          ap (λ (t : Totals). t.count) (totals_are counters start totals c.started-started.ensures.0 inside)
           ∙ count_is none 0 (counters_at counters start)
-          ∙ omega (arith, ap blocks_in (as_they_stand counters start)),
-    )
+          ∙ omega (arith, ap blocks_in (as_they_stand counters start));
+    }
 
 pub returns : goal.returns
 returns c =
