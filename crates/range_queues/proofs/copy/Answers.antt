@@ -5,7 +5,7 @@ use lib.Seq.{sets}
 use Rattle.range_queues.proofs.copy.Goals as goal
 
 -- the energy at a place is stored, and then those after it
-pub turn : (work l : List Float) (place i : ℕ) (d : Float) → i < length l
+turn : (work l : List Float) (place i : ℕ) (d : Float) → i < length l
     → sets (set work place (get_or l i d)) (place + 1) (drop (i + 1) l) ≡ sets work place (drop i l)
 turn work l place i d h =
     ap (λ (n : ℕ). sets (set work place (get_or l i d)) n (drop (i + 1) l)) {x = place + 1} {y = suc place} (omega arith)

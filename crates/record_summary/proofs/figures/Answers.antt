@@ -1,5 +1,5 @@
 -- `record_summary::figures` meets its contract, by each answer of the range. Assumes nothing.
-use Rattle.std.proofs.Common.{◌≡◌, ℕ, List, [], map, sym, ap, ◌∙◌, arith}
+use Rattle.std.proofs.Common.{◌≡◌, ℕ, List, [], map, sym, ap, ◌∙◌}
 use Rattle.base_refusals.specs.Refusal.{number}
 use Rattle.range_histograms.specs.Counted.{blocks_in}
 use Rattle.range_histograms.proofs.Counting.{as_they_are}

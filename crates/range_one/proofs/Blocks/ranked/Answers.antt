@@ -1,10 +1,10 @@
 -- `range_one::Blocks::ranked` meets its contract: the blocks below the gate, those left, and the bins of the two ranks. Assumes nothing.
-use Rattle.std.proofs.Common.{◌≡◌, ℕ, ◌-◌, map, take, sym, ap, ◌∙◌, arith}
+use Rattle.std.proofs.Common.{ℕ, ◌-◌, map, sym, ap, ◌∙◌, arith}
 use Rattle.std.proofs.lemmas.List.{length-map}
 use Rattle.base_refusals.specs.Outcome.{Said, says}
 use Rattle.range_ranks.specs.Span.{Span}
-use Rattle.range_one.specs.Counted.{most_in_bin, blocks_in, left_in}
-use Rattle.range_one.proofs.Counting.{blocks_all, blocks_part, counted_part, counted_below}
+use Rattle.range_one.specs.Counted.{most_in_bin, left_in}
+use Rattle.range_one.proofs.Counting.{blocks_all, counted_part, counted_below}
 use Rattle.range_one.proofs.Answers.{left_none, left_read}
 use Rattle.range_one.proofs.Blocks.ranked.Goals as goal
 
