@@ -1,7 +1,7 @@
 // The loudness range of the counters of all bins, one histogram's or several added up: the bins of the two ranks among the blocks that the gate leaves.
 #![tactic(auto)]
 
-ghost use Rattle.std.specs.Prelude.{◌≡◌, ◌+◌, ◌-◌, ◌*◌, ◌≤◌, ℕ, length, map, take};
+ghost use Rattle.std.specs.Prelude.{◌≡◌, ◌+◌, ◌-◌, ◌*◌, ◌^◌, ◌≤◌, ℕ, length, map, min, take};
 ghost use Rattle.base_refusals.specs.Outcome.{says};
 ghost use Rattle.bins.specs.Bin.{bins};
 ghost use Rattle.range_ranks.specs.Span.{said};
@@ -70,8 +70,8 @@ struct Place {
     before: u64,
 }
 
-// How many blocks some bins have.
-fn blocks_of<C: Counter>(counters: &[C]) -> u64
+// How many blocks some bins have. They are so few that no look is needed whether 64 bits hold them.
+fn blocks_of_bins<C: Counter>(counters: &[C]) -> u64
     requires { blocks_in (map C.counted counters.now) ≤ bins * most_in_bin }
     ensures { result ≡ blocks_in (map C.counted counters.now) }
 {
@@ -82,6 +82,17 @@ fn blocks_of<C: Counter>(counters: &[C]) -> u64
     blocks
 }
 
+// How many blocks any counters have, and the most that 64 bits tell where they have more.
+pub fn blocks_of<C: Counter>(counters: &[C]) -> u64
+    ensures { result ≡ min (blocks_in (map C.counted counters.now)) (2 ^ 64 - 1) }
+{
+    let mut told: u64 = 0;
+    for count in counters {
+        told = told.saturating_add(count.wide());
+    }
+    told
+}
+
 impl<'a, C: Counter> Bins<'a, C> {
     // Groups of bins are passed by as long as the rank lies beyond them.
     fn pass_by(&self, from: Place, rank: u64) -> Place
@@ -90,7 +101,7 @@ impl<'a, C: Counter> Bins<'a, C> {
     {
         let mut near = from;
         for group in self.counters[from.bin..].chunks_exact(GROUP) {
-            let before = near.before + blocks_of(group);
+            let before = near.before + blocks_of_bins(group);
             if rank < before {
                 return near;
             }
@@ -126,7 +137,7 @@ impl<'a, C: Counter> Bins<'a, C> {
     pub fn blocks(&self) -> u64
         ensures { result ≡ blocks_in (map C.counted self.now.counters.now) }
     {
-        blocks_of(self.counters)
+        blocks_of_bins(self.counters)
     }
 }
 
@@ -137,7 +148,7 @@ impl<'a, C: Counter> Blocks<'a, C> {
             (self.now.count - blocks_in (take start (map C.counted self.now.bins.counters.now)))) }
     {
         let bin = start.min(bins::BINS);
-        let before = blocks_of(&self.bins.counters[..bin]);
+        let before = blocks_of_bins(&self.bins.counters[..bin]);
         let left = self.count - before;
         if left == 0 {
             return Span::Nothing;
@@ -169,4 +180,22 @@ pub fn of_counters(counters: &[Count], start: usize) -> Span
         count: started.totals.count,
     };
     blocks.ranked(started.bin)
+}
+
+#[cfg(test)]
+mod tests {
+    use super::*;
+
+    // Counters of either width, no counter, and more blocks than 64 bits tell.
+    #[test]
+    fn blocks_of_any_counters(rt: HostRuntime) {
+        let none: [u32; 0] = [];
+        let few: [u32; 3] = [3, 0, u32::MAX];
+        let added: [u64; 2] = [u64::MAX - 1, 1];
+        let more: [u64; 3] = [1, u64::MAX, 5];
+        assert_eq!(rt; blocks_of(&none), 0);
+        assert_eq!(rt; blocks_of(&few), 4294967298);
+        assert_eq!(rt; blocks_of(&added), u64::MAX);
+        assert_eq!(rt; blocks_of(&more), u64::MAX);
+    }
 }

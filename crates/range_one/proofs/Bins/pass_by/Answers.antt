@@ -16,8 +16,8 @@ loop-group-init g c =
       short = c.requires;
     }
 
-pub blocks_of-requires : goal.blocks_of-requires
-blocks_of-requires g c =
+pub blocks_of_bins-requires : goal.blocks_of_bins-requires
+blocks_of_bins-requires g c =
     let l = c.args.self.now in
     let few = blocks_all most_in_bin (map g.C.Counter.counted l.counters.now) l.few in
     omega (
@@ -32,7 +32,7 @@ overflow_add-before g c =
     let few = blocks_all most_in_bin (map g.C.Counter.counted l.counters.now) l.few in
     omega (
       arith,
-      c.blocks_of.ensures,
+      c.blocks_of_bins.ensures,
       c.loop-group.invariant.short.1,
       group_few g.C.Counter.counted l.counters.now c.in-Some.group.now c.next.new.self.rest.now c.loop-group.near.bin
           (c.loop-group.invariant.left ∙ c.in-Some.ensures.steps.1.0) (bins * most_in_bin) (omega (arith, few, length-map l.counters.now g.C.Counter.counted, l.all)),
@@ -61,7 +61,7 @@ loop-group-preserved g c =
       left = group_passed g.C.Counter.counted l.counters.now group rest bin next;
       short = (
         omega (arith, l.all, group_inside g.C.Counter.counted l.counters.now group rest bin next (omega (arith, l.all, c.loop-group.invariant.short.0))),
-        omega (arith, c.blocks_of.ensures, c.loop-group.invariant.short.1, group_counted g.C.Counter.counted l.counters.now group rest bin next),
+        omega (arith, c.blocks_of_bins.ensures, c.loop-group.invariant.short.1, group_counted g.C.Counter.counted l.counters.now group rest bin next),
         omega (arith, c.if-rank-before.false),
       );
     }

@@ -1,0 +1,6 @@
+use Rattle.std.proofs.Common.{◌≡◌, map, take}
+use Rattle.range_one.specs.Counted.{blocks_in}
+use Rattle.range_one.proofs.blocks_of_bins.Given as goal
+
+abbrev pub invariant-loop-count : goal.invariant-loop-count
+invariant-loop-count g l = l.blocks ≡ blocks_in (map g.C.Counter.counted (take l.count-index l.counters))
