@@ -1,7 +1,5 @@
 -- `range_one::blocks_of_bins` meets its contract. The invariant: the sum is that of the bins passed. Assumes nothing.
-use Rattle.std.proofs.Common.{◌+◌, List, [], map, ap, ◌∙◌, arith}
-use Rattle.std.proofs.lemmas.List.{take_all}
-use Rattle.range_one.specs.Counted.{blocks_in}
+use Rattle.std.proofs.Common.{◌+◌, [], arith}
 use Rattle.range_one.proofs.Counting.{counted_more, counted_part, blocks_none}
 use Rattle.range_one.proofs.blocks_of_bins.Goals as goal
 
@@ -17,6 +15,3 @@ pub loop-count-preserved : goal.loop-count-preserved
 loop-count-preserved g c =
     let n = c.loop-count.count-index in
     omega (arith, c.wide-blocks.ensures, counted_more g.C.Counter.counted c.args.counters.now n c.count-item.result c.loop-count-test.true c.count-item.is)
-
-pub returns : goal.returns
-returns g c = c.loop-count.invariant ∙ ap (λ (l : List g.row.C.Denot). blocks_in (map g.C.Counter.counted l)) (take_all _ c.args.counters.now c.loop-count-test.false)
